@@ -1,0 +1,1 @@
+// What the records of a sheet amount to, field by field.
