@@ -1,3 +1,8 @@
 -- What the definitions imply for every table: the answers that they describe are unique and exclude each other.
 pub mod Orders
 pub mod Readings
+pub mod Finite
+pub mod Sequences
+pub mod Sharing
+pub mod Delays
+pub mod Verdicts
