@@ -1,5 +1,5 @@
--- A table has at most one delay, and none if its delay is without bound: sharing is downward closed. The delay is the least number of symbols that decide the
--- first word, since whether sequences share N symbols can be decided.
+-- A table has at most one delay, and none if it is without bound: who shares N symbols shares fewer. The delay is the least number of symbols that decide
+-- the first word, since whether two sequences share N symbols can be decided.
 use mathlib.Core.Path.{_≡_, refl}
 use mathlib.Core.List.{[], _∷_}
 use mathlib.Core.Logic.{_↔_}
@@ -43,8 +43,8 @@ module _ {t : Table} where
   delay-bounds {N} d w = d .enough (w N)
 
   -- A code of one word has delay 0.
-  pub one-word : size t ≡ 1 → Delay t 0
-  one-word e =
+  pub one-word-delay : size t ≡ 1 → Delay t 0
+  one-word-delay e =
       record {
         enough = λ r. let h = first-word (r .left) in let k = first-word (r .right) in r .differ (omega arith);
         needed = λ M z. absurd (omega arith);
@@ -56,8 +56,8 @@ module _ {t : Table} where
       record { x = 0; s = []; y = 1; u = []; left = one {x = 0} (omega arith); right = one {x = 1} (omega arith); differ = λ e. omega arith; share = refl }
 
   -- A code of two words or more does not have delay 0.
-  pub two-words : 2 ≤ size t → Delay t 0 → ⊥
-  two-words h d = d .enough (two-words-share h)
+  pub two-words-delay : 2 ≤ size t → Delay t 0 → ⊥
+  two-words-delay h d = d .enough (two-words-share h)
 
   -- Sequences with the same first N symbols start alike when no two that start differently share them.
   pub alike-iff : (N : ℕ) → StartAlike t N ↔ (SharePrefix t N → ⊥)
@@ -66,8 +66,8 @@ module _ {t : Table} where
       none-alike : (SharePrefix t N → ⊥) → StartAlike t N
       none-alike f x y s u p q e =
           elim (ℕ-discrete x y) [
-            yes d ↦ d
-          | no d ↦ absurd (f (record { x = x; s = s; y = y; u = u; left = p; right = q; differ = d; share = e }))
+            | yes d ↦ d
+            | no d ↦ absurd (f (record { x = x; s = s; y = y; u = u; left = p; right = q; differ = d; share = e }))
           ]
 
   -- The delay is the least number of symbols that decide the first word.
@@ -76,7 +76,7 @@ module _ {t : Table} where
 
   -- The least number of symbols that decide the first word is the delay.
   pub least-delay : {N : ℕ} → NonEmpty t → LeastAlike t N → Delay t N
-  least-delay {N} full l = record { enough = alike-iff N .0 (l .alike); needed = λ M e. needed M (omega arith) (decideShare t M full) }
+  least-delay {N} nonempty l = record { enough = alike-iff N .0 (l .alike); needed = λ M e. needed M (omega arith) (decideShare t M nonempty) }
     where
       needed : (M : ℕ) → M < N → Dec (SharePrefix t M) → SharePrefix t M
       needed M h (yes r) = r
@@ -84,4 +84,4 @@ module _ {t : Table} where
 
   -- Demand 3 and the words of 01 define the same delay, for non-empty words.
   pub delay-iff : {N : ℕ} → NonEmpty t → Delay t N ↔ LeastAlike t N
-  delay-iff full = (delay-least, least-delay full)
+  delay-iff nonempty = (delay-least, least-delay nonempty)

@@ -12,7 +12,7 @@ use lib.Seq.{take-take}
 use Rattle.code.specs.Definitions.Tables.{Table, size, word, Permitted, none, one, more, message}
 use Rattle.code.specs.Laws.Finite.{Within}
 
--- 01: "Words are of 1 to 16 symbols"
+-- 01: "A word has 1 to 16 symbols."
 abbrev pub NonEmpty : Table → Type 0
 NonEmpty t = (x : ℕ) → x < size t → 1 ≤ length (word t x)
 
@@ -64,11 +64,11 @@ longer-prefix-after : (N : ℕ) (w a b : List ℕ) → 1 ≤ length w → take N
 longer-prefix-after N [] a b h e = absurd (omega arith)
 longer-prefix-after N (c ∷ w) a b h e = ap (_∷_ c) (prefix-after N w a b e)
 
-module _ (t : Table) (full : NonEmpty t) where
+module _ (t : Table) (nonempty : NonEmpty t) where
   take-message : (N : ℕ) (s : List ℕ) → Within (size t) s → take N (message t (take N s)) ≡ take N (message t s)
   take-message zero s w = refl
   take-message (suc N) [] w = refl
-  take-message (suc N) (x ∷ s) w = longer-prefix-after N (word t x) (message t (take N s)) (message t s) (full x (w .0)) (take-message N s (w .1))
+  take-message (suc N) (x ∷ s) w = longer-prefix-after N (word t x) (message t (take N s)) (message t s) (nonempty x (w .0)) (take-message N s (w .1))
 
   -- The first N symbols of a message are those of its first N + 1 words.
   pub message-cut : (N x : ℕ) (s : List ℕ) → Permitted t (x ∷ s) → take N (message t (x ∷ take N s)) ≡ take N (message t (x ∷ s))

@@ -1,12 +1,12 @@
 -- Whether two sequences that start with different words share their first N symbols can be decided: cut after N words behind the first they share
--- the same symbols, and there are finitely many sequences so short.
+-- the same symbols, and there are finitely many sequences as short as that.
 use mathlib.Core.Path.{_≡_, sym, _∙_}
 use mathlib.Core.List.{List, _∷_, List-discrete}
 use mathlib.Core.Logic.{Dec·and, Dec·not}
-use Prim.Native.Nat.{ℕ, _≤_}
+use Prim.Native.Nat.{ℕ}
 use native.Mathlib.Decide.{map-dec, ℕ-discrete}
 use native.Mathlib.Omega.{arith}
-use lib.ListN.{length, take, length-take}
+use lib.ListN.{take, length-take}
 use Rattle.code.specs.Definitions.Tables.{Table, size, Permitted, message}
 use Rattle.code.specs.Definitions.Delays.{SharePrefix}
 use Rattle.code.specs.Laws.Finite.{SomeNumber, number, decideNumber, SomeList, list, decideList}
@@ -37,14 +37,15 @@ module _ (t : Table) (N : ℕ) where
   cut x s p h = list (take N s) (permitted-within (rest-permitted (take-permitted N x s p))) (omega (arith, length-take N s)) h
 
   share→short : NonEmpty t → SharePrefix t N → ShortShare
-  share→short full r =
+  share→short nonempty r =
       number (r .x) (first-word (r .left))
       (cut (r .x) (r .s) (r .left)
       (number (r .y) (first-word (r .right))
-      (cut (r .y) (r .u) (r .right)
-      ((take-permitted N (r .x) (r .s) (r .left), take-permitted N (r .y) (r .u) (r .right)),
-      (r .differ, message-cut t full N (r .x) (r .s) (r .left) ∙ r .share ∙ sym (message-cut t full N (r .y) (r .u) (r .right)))))))
+      (cut (r .y) (r .u) (r .right) (
+        (take-permitted N (r .x) (r .s) (r .left), take-permitted N (r .y) (r .u) (r .right)),
+        (r .differ, message-cut t nonempty N (r .x) (r .s) (r .left) ∙ r .share ∙ sym (message-cut t nonempty N (r .y) (r .u) (r .right))),
+      ))))
 
   -- In a table of non-empty words sharing can be decided.
   pub decideShare : NonEmpty t → Dec (SharePrefix t N)
-  decideShare full = map-dec short→share (share→short full) decideShort
+  decideShare nonempty = map-dec short→share (share→short nonempty) decideShort
