@@ -1,4 +1,5 @@
 -- What the definitions imply, for every table: the answers that they describe are unique and exclude each other. And how a sheet is read from its front.
+pub mod Lists
 pub mod Orders
 pub mod Readings
 pub mod Finite

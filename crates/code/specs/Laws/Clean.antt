@@ -51,7 +51,8 @@ clean (a ∷ b ∷ s) e = clean-front a (b ∷ s) (clean (b ∷ s)) (clean-next 
 
 -- The optional CR LF at the end
 
-bad-end : (cr : Bool) (s : List ℕ) → badBytes cr (s ++ (13 ∷ 10 ∷ [])) ≡ badBytes cr s
+-- CR LF at the end brings refusal 2 neither about nor away.
+pub bad-end : (cr : Bool) (s : List ℕ) → badBytes cr (s ++ (13 ∷ 10 ∷ [])) ≡ badBytes cr s
 unfolding badBytes
 bad-end true [] = refl
 bad-end false [] = refl
