@@ -2,5 +2,5 @@ pub mod Fields
 pub mod Front
 pub mod Survey
 pub mod Passing
-pub mod Filling
+pub mod Rows
 pub mod Building

@@ -1,7 +1,7 @@
 -- How the survey goes through a sheet: what is still to come, what a step keeps, one lemma for each way a step can go.
 use mathlib.Core.Path.{_≡_, refl, sym, ap, _∙_}
 use mathlib.Core.Bool.{Bool, true, false, not, _||_, or-false}
-use mathlib.Core.List.{List, [], _∷_, map, nil≢cons}
+use mathlib.Core.List.{List, [], _∷_}
 use Prim.Native.Nat.{ℕ, _+_, _-_, _≤_, _<_}
 use native.Mathlib.Nat.{add-zero}
 use native.Mathlib.Omega.{arith}
@@ -11,7 +11,7 @@ use lib.Seq.{getD-drop}
 use borrow.Author.Tests.{le-leb, lt-leb, eq-eqb, ne-eqb}
 use Rattle.code.specs.Definitions.Lists.{if_then_else_}
 use Rattle.code.specs.Definitions.Sheets.{isDigit, fields}
-use Rattle.code.specs.Laws.Clean.{Clean, recordFields, records-some}
+use Rattle.code.specs.Laws.Clean.{Clean, recordFields, recordFields-some}
 use Rattle.sheet.specs.declared.survey.Survey.{Survey}
 use Rattle.sheet.specs.declared.survey.Cursor.{Cursor}
 use Rattle.sheet.specs.Fields.{leading}
@@ -92,10 +92,6 @@ span-counts v n b false e = rw e record { records = refl; fields = omega arith; 
 pub span-records : (v w : Survey) (n b : ℕ) → w ≡ takeSpan v n b → w .records ≡ v .records
 span-records v w n b e = let k = span-counts v n b (eqb (v .fields) 0) refl in ap (λ (u : Survey). u .records) e ∙ k .records
 
-some-record : (l : List (List ℕ)) → l ≡ getD l 0 [] ∷ drop 1 l → map fields l ≡ getD (map fields l) 0 [] ∷ drop 1 (map fields l)
-some-record [] e = absurd (nil≢cons e)
-some-record (a ∷ l) e = refl
-
 comma-rest : (v w : Survey) (f : List ℕ) (g : List (List (List ℕ))) → w ≡ takeField v f → g ≡ getD g 0 [] ∷ drop 1 g
     → surveyRecords w g ≡ surveyRecords v ((f ∷ getD g 0 []) ∷ drop 1 g)
 unfolding surveyRecords surveyFields
@@ -134,7 +130,7 @@ module _ (s : List ℕ) (c : Cursor) (e : ℕ) (v : Survey) (clean : Clean (drop
       let g : List (List (List ℕ)) = recordFields (drop (e + 1) s) in
       record
         { rest = ap (surveyRecords v) (rest-within s (e + 1) (omega arith))
-            ∙ comma-rest (c .survey) v (leading (drop (c .at) s)) g field-taken (some-record _ (records-some (drop (e + 1) s)))
+            ∙ comma-rest (c .survey) v (leading (drop (c .at) s)) g field-taken (recordFields-some (drop (e + 1) s))
             ∙ ap (surveyRecords (c .survey)) (sym (n .same) ∙ sym (rest-within s (c .at) (omega arith)))
         ; clean = λ h. n .clean
         ; bounded = record { records = omega (arith, bounded .records); fields = omega (arith, bounded .fields); symbols = omega (arith, bounded .symbols) }
