@@ -3,19 +3,22 @@ use mathlib.Core.Path.{_≡_, refl, sym, ap, _∙_}
 use mathlib.Core.Bool.{Bool, true, false, not}
 use mathlib.Core.List.{List, [], _∷_, _++_, nil≢cons, head-eq-of-cons-eq, tail-eq-of-cons-eq}
 use mathlib.Core.Logic.{_⊎_, inl, inr}
-use Prim.Native.Nat.{ℕ, suc, _+_, _*_, _-_, _≤_, _<_}
+use Prim.Native.Nat.{ℕ, zero, suc, _+_, _*_, _-_, _≤_, _<_}
 use native.Mathlib.Nat.{add-zero}
 use native.Mathlib.Numerals.{add-one}
 use native.Mathlib.Omega.{arith}
 use native.Mathlib.Decide.{decLt, ℕ-discrete}
 use lib.Dec.{eqb, ltb}
-use lib.ListN.{length, drop, getD, length-drop}
-use lib.Seq.{drop-cons, drop-drop, getD-drop}
+use lib.ListN.{length, take, drop, getD, set, replicate, length-take, length-drop, List·getD-eq-default}
+use lib.Seq.{drop-cons, drop-drop, getD-take, getD-drop}
 use borrow.Author.Tests.{eqb-true, ltb-false, not-false}
+use Rattle.code.specs.declared.Word.{Word}
 use Rattle.code.specs.declared.Row.{Row}
+use Rattle.code.specs.declared.Code.{Code}
 use Rattle.code.specs.Definitions.Lists.{any, table}
-use Rattle.code.specs.Definitions.Sheets.{limits, isDigit, valueOf, firstField, wordLength, wordOf, rowOf, badEntry, badRow, badWord, badWidth}
+use Rattle.code.specs.Definitions.Sheets.{limits, isDigit, valueOf, firstField, wordLength, wordOf, rowOf, codeOf, blankCode, badEntry, badRow, badWord, badWidth}
 use Rattle.code.specs.Laws.Lists.{any-at, or-neither, table-same}
+use Rattle.code.specs.Laws.Filling.{fill-next, fill-end}
 use Rattle.code.specs.Laws.Clean.{Clean, recordFields, recordFields-some}
 use Rattle.sheet.specs.Fields.{leading, leading-at}
 use Rattle.sheet.specs.Front.{field-last, field-comma, field-line}
@@ -109,3 +112,118 @@ record-at s g at e k fits c q p h =
       ; entries = rw rest-is entries
       ; same = row-same (leading (drop at s)) (getD others 0 []) ∙ ap (rowOf limits) (sym row-is)
       ; next = λ l. rw rest-is (after-row s (e + 2 * length g) (drop 1 others) (entries .after) over-row (omega (arith, ap length rest-is, length-drop (k + 1) g))) }
+
+-- The digits of a word, as the code reads them: symbol k is that of the byte k after the word's start, and past the word it is 0.
+inside : (l : List ℕ) (i d e : ℕ) → i < length l → getD l i d ≡ getD l i e
+inside [] i d e h = absurd (omega arith)
+inside (a ∷ l) zero d e h = refl
+inside (a ∷ l) (suc i) d e h = inside l i d e (omega arith)
+
+pub word-digit : (s : List ℕ) (at k : ℕ) → k < length (leading (drop at s)) → isDigit (getD s (at + k) 0) ≡ true
+word-digit s at k h = rw (← getD-drop at s k 0) (leading-at (drop at s) k 0 h .1)
+
+pub word-symbol : (s : List ℕ) (at k : ℕ) → k < length (leading (drop at s)) → valueOf (getD s (at + k) 0) ≡ symbolOf (leading (drop at s)) k
+word-symbol s at k h = ap valueOf (sym (getD-drop at s k 0) ∙ leading-at (drop at s) k 0 h .0 ∙ inside (leading (drop at s)) k 0 48 h)
+
+pub symbol-past : (f : List ℕ) (k : ℕ) → length f ≤ k → symbolOf f k ≡ 0
+symbol-past f k h = ap valueOf (List·getD-eq-default f 48 h)
+
+pub word-read : (w : Word) (f : List ℕ) (k : ℕ) → w .symbols ≡ table (symbolOf f) k ++ drop k (replicate 16 0) → w .len ≡ length f → length f ≤ k → k ≤ 16
+    → w ≡ wordOf limits f
+word-read w f k p q h m = let e = p ∙ fill-end (symbolOf f) 0 k 16 (λ j l. symbol-past f j (omega arith)) m in rw (← e, ← q)
+
+-- The entries of a row, as the code reads them: every other byte of 2 n.
+abbrev pub rowByte : List ℕ → ℕ → ℕ → ℕ → ℕ
+rowByte s at n y = symbolOf (take (2 * n) (drop at s)) (2 * y)
+
+pub record RowAt (s : List ℕ) (at n : ℕ) : Type 0 where
+  pub few : n ≤ 32
+  pub within : at + 2 * n ≤ length s + 1
+  pub digits : (y : ℕ) → y < n → isDigit (getD s (at + 2 * y) 0) ≡ true
+
+pub row-symbol : (s : List ℕ) (at n y : ℕ) → y < n → at + 2 * n ≤ length s + 1 → valueOf (getD s (at + 2 * y) 0) ≡ rowByte s at n y
+row-symbol s at n y h w =
+    ap valueOf
+    (inside s (at + 2 * y) 0 48 (omega arith) ∙ sym (getD-drop at s (2 * y) 48) ∙ sym (getD-take (2 * n) (drop at s) (2 * y) 48 (omega arith)))
+
+pub row-past : (s : List ℕ) (at n y : ℕ) → n ≤ y → rowByte s at n y ≡ 0
+row-past s at n y h = symbol-past (take (2 * n) (drop at s)) (2 * y) (omega (arith, length-take (2 * n) (drop at s)))
+
+pub row-filled : (r : Row) (s : List ℕ) (at n y : ℕ) → r .entries ≡ table (rowByte s at n) y ++ drop y (replicate 32 0) → n ≤ y → y ≤ 32
+    → r ≡ record { entries = table (rowByte s at n) 32 }
+row-filled r s at n y p h m = let e = p ∙ fill-end (rowByte s at n) 0 y 32 (λ j l. row-past s at n j (omega arith)) m in rw (← e)
+
+module _ (s : List ℕ) (at n : ℕ) (r : List (List ℕ)) (g : List (List (List ℕ))) (e : Entries (drop at s) r g) (wide : length r ≡ n) where
+  entry-at : (y : ℕ) → Dec (y < n) → rowByte s at n y ≡ entryOf r y
+  entry-at y (yes h) = ap valueOf (getD-take (2 * n) (drop at s) (2 * y) 48 (omega arith) ∙ e .bytes y (omega arith))
+  entry-at y (no h) = row-past s at n y (omega arith) ∙ sym (ap (λ (f : List ℕ). symbolOf f 0) (List·getD-eq-default r [] {n = y} (omega arith)))
+
+  pub row-read : record { entries = table (rowByte s at n) 32 } ≡ rowFrom r
+  unfolding rowFrom
+  row-read = let q = table-same (rowByte s at n) (entryOf r) 32 (λ y h. entry-at y (decLt y n)) in rw q
+
+  entry-digit : (y : ℕ) → y < n → isDigit (getD s (at + 2 * y) 0) ≡ true
+  entry-digit y h =
+      let l : at + 2 * y < length s = omega (arith, e .long, length-drop at s) in
+      rw (inside s (at + 2 * y) 0 48 l, ← getD-drop at s (2 * y) 48) (e .digits y (omega arith))
+
+  pub row-stands : n ≤ 32 → 1 ≤ n → RowAt s at n
+  row-stands h k = record { few = h; within = omega (arith, e .long, length-drop at s); digits = entry-digit }
+
+-- The table after k of n records, the next of which begins at `at`.
+abbrev pub wordAt : List (List (List ℕ)) → ℕ → Word
+wordAt g k = wordOf limits (firstField (getD g k []))
+
+abbrev pub rowAt : List (List (List ℕ)) → ℕ → Row
+rowAt g k = rowOf limits (getD g k [])
+
+pub record Built (s : List ℕ) (g : List (List (List ℕ))) (code : Code) (at k : ℕ) : Type 0 where
+  pub words : code .words ≡ table (wordAt g) k ++ drop k (replicate 32 (wordOf limits []))
+  pub rows : code .rows ≡ table (rowAt g) k ++ drop k (replicate 32 (rowOf limits []))
+  pub upto : k ≤ length g
+  pub clean : k < length g → Clean (drop at s)
+  pub rest : k < length g → recordFields (drop at s) ≡ drop k g
+  pub within : k < length g → at ≤ length s
+
+pub built-none : (s : List ℕ) (code : Code) → Clean s → code ≡ blankCode limits → Built s (recordFields s) code 0 0
+unfolding blankCode codeOf table
+built-none s code c e = rw e record { words = refl; rows = refl; upto = omega arith; clean = λ h. c; rest = λ h. refl; within = λ h. omega arith }
+
+module _ (s : List ℕ) (g : List (List (List ℕ))) (code : Code) (at e k n : ℕ) (fits : Fits g) (b : Built s g code at k) (records : n ≡ length g) (h : k < n)
+    (q : e ≡ at + length (leading (drop at s))) where
+  record-next : RecordAt s g at e k n
+  record-next = let l : k < length g = omega arith in rw records (record-at s g at e k fits (b .clean l) q (b .rest l) l)
+
+  pub word-next : length (leading (drop at s)) ≤ 16
+  word-next = record-next .short
+
+  pub row-next : RowAt s (e + 1) n
+  row-next =
+      let r = record-next in
+      row-stands s (e + 1) n (r .row) (drop (k + 1) g) (r .entries) (r .wide) (omega (arith, fits .most)) (omega arith)
+
+  pub built-more : (word : Word) (row : Row) → word ≡ wordOf limits (leading (drop at s)) → row ≡ record { entries = table (rowByte s (e + 1) n) 32 }
+      → Built s g (record { words = set (code .words) k word; rows = set (code .rows) k row; count = code .count }) (e + 2 * n + 2) (k + 1)
+  built-more word row p w =
+      let r = record-next in
+      let word-is : word ≡ wordAt g k = p ∙ ap (wordOf limits) (r .word) in
+      let row-is : row ≡ rowAt g k = w ∙ row-read s (e + 1) n (r .row) (drop (k + 1) g) (r .entries) (r .wide) ∙ r .same in
+      record
+        { words = rw (b .words, word-is) (fill-next (wordAt g) (replicate 32 (wordOf limits [])) k (omega (arith, fits .most)))
+        ; rows = rw (b .rows, row-is) (fill-next (rowAt g) (replicate 32 (rowOf limits [])) k (omega (arith, fits .most)))
+        ; upto = omega arith
+        ; clean = λ l. r .next (omega arith) .0
+        ; rest = λ l. r .next (omega arith) .1
+        ; within = λ l. r .next (omega arith) .2 }
+
+-- After the last record the table is the sheet's.
+pub built-all : (s : List ℕ) (g : List (List (List ℕ))) (code : Code) (at k n : ℕ) → Fits g → Built s g code at k → n ≡ length g → n ≤ k
+    → record { words = code .words; rows = code .rows; count = n } ≡ codeOf limits g
+unfolding codeOf
+built-all s g code at k n fits b e h =
+    let past : (j : ℕ) → k ≤ j → getD g j [] ≡ [] = λ j l. List·getD-eq-default g [] {n = j} (omega arith) in
+    let w : code .words ≡ table (wordAt g) 32 =
+            b .words ∙ fill-end (wordAt g) (wordOf limits []) k 32 (λ j l. ap (λ (r : List (List ℕ)). wordOf limits (firstField r)) (past j l)) (omega (arith, b .upto, fits .most)) in
+    let r : code .rows ≡ table (rowAt g) 32 =
+            b .rows ∙ fill-end (rowAt g) (rowOf limits []) k 32 (λ j l. ap (rowOf limits) (past j l)) (omega (arith, b .upto, fits .most)) in
+    rw (w, r, e)

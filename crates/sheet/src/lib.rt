@@ -3,5 +3,6 @@
 
 pub mod bytes;
 pub mod survey;
+pub mod build;
 
 ghost use mathlib.Core.Path.{_≡_};
