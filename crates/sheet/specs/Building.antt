@@ -63,7 +63,7 @@ row-same : (f : List ℕ) (r : List (List ℕ)) → rowFrom r ≡ rowOf limits (
 unfolding rowFrom
 row-same f r =
     let e : table (entryOf r) 32 ≡ table (λ y. valueOf (getD (getD (f ∷ r) (y + 1) []) 0 48)) 32 =
-            table-same (entryOf r) (λ y. valueOf (getD (getD (f ∷ r) (y + 1) []) 0 48)) 32 (λ y h. rw (add-one y)) in
+    table-same (entryOf r) (λ y. valueOf (getD (getD (f ∷ r) (y + 1) []) 0 48)) 32 (λ y h. rw (add-one y)) in
     rw e
 
 -- a record with entries has a comma after its word
@@ -101,17 +101,18 @@ record-at s g at e k fits c q p h =
     let good : any badEntry (getD others 0 []) ≡ false = rw row-is at (any-at badRow g [] (fits .rows) k h) in
     let entries = row-entries (getD others 0 []) (drop (e + 1) s) (drop 1 others) (n .clean) (recordFields-some (drop (e + 1) s)) (omega (arith, fits .some)) good in
     let over-row : drop (e + 2 * length g) s ≡ drop (2 * length (getD others 0 []) - 1) (drop (e + 1) s) =
-            let z : e + 1 + (2 * length (getD others 0 []) - 1) ≡ e + 2 * length g = omega (arith, fits .some) in
-            sym (drop-drop (2 * length (getD others 0 []) - 1) (e + 1) s ∙ ap (λ (i : ℕ). drop i s) z) in
+    let z : e + 1 + (2 * length (getD others 0 []) - 1) ≡ e + 2 * length g = omega (arith, fits .some) in
+    sym (drop-drop (2 * length (getD others 0 []) - 1) (e + 1) s ∙ ap (λ (i : ℕ). drop i s) z) in
     let short0 = short-word row0 (any-at (badWord limits) g [] (fits .words) k h) in
-    record
-      { word = sym (ap firstField row-is)
-      ; short = let z = ap wordLength row-is in omega arith
-      ; row = getD others 0 []
-      ; wide = wide
-      ; entries = rw rest-is entries
-      ; same = row-same (leading (drop at s)) (getD others 0 []) ∙ ap (rowOf limits) (sym row-is)
-      ; next = λ l. rw rest-is (after-row s (e + 2 * length g) (drop 1 others) (entries .after) over-row (omega (arith, ap length rest-is, length-drop (k + 1) g))) }
+    record {
+      word = sym (ap firstField row-is);
+      short = let z = ap wordLength row-is in omega arith;
+      row = getD others 0 [];
+      wide = wide;
+      entries = rw rest-is entries;
+      same = row-same (leading (drop at s)) (getD others 0 []) ∙ ap (rowOf limits) (sym row-is);
+      next = λ l. rw rest-is (after-row s (e + 2 * length g) (drop 1 others) (entries .after) over-row (omega (arith, ap length rest-is, length-drop (k + 1) g)));
+    }
 
 -- The digits of a word, as the code reads them: symbol k is that of the byte k after the word's start, and past the word it is 0.
 inside : (l : List ℕ) (i d e : ℕ) → i < length l → getD l i d ≡ getD l i e
@@ -208,13 +209,14 @@ module _ (s : List ℕ) (g : List (List (List ℕ))) (code : Code) (at e k n : �
       let r = record-next in
       let word-is : word ≡ wordAt g k = p ∙ ap (wordOf limits) (r .word) in
       let row-is : row ≡ rowAt g k = w ∙ row-read s (e + 1) n (r .row) (drop (k + 1) g) (r .entries) (r .wide) ∙ r .same in
-      record
-        { words = rw (b .words, word-is) (fill-next (wordAt g) (replicate 32 (wordOf limits [])) k (omega (arith, fits .most)))
-        ; rows = rw (b .rows, row-is) (fill-next (rowAt g) (replicate 32 (rowOf limits [])) k (omega (arith, fits .most)))
-        ; upto = omega arith
-        ; clean = λ l. r .next (omega arith) .0
-        ; rest = λ l. r .next (omega arith) .1
-        ; within = λ l. r .next (omega arith) .2 }
+      record {
+        words = rw (b .words, word-is) (fill-next (wordAt g) (replicate 32 (wordOf limits [])) k (omega (arith, fits .most)));
+        rows = rw (b .rows, row-is) (fill-next (rowAt g) (replicate 32 (rowOf limits [])) k (omega (arith, fits .most)));
+        upto = omega arith;
+        clean = λ l. r .next (omega arith) .0;
+        rest = λ l. r .next (omega arith) .1;
+        within = λ l. r .next (omega arith) .2;
+      }
 
 -- After the last record the table is the sheet's.
 pub built-all : (s : List ℕ) (g : List (List (List ℕ))) (code : Code) (at k n : ℕ) → Fits g → Built s g code at k → n ≡ length g → n ≤ k
@@ -223,7 +225,7 @@ unfolding codeOf
 built-all s g code at k n fits b e h =
     let past : (j : ℕ) → k ≤ j → getD g j [] ≡ [] = λ j l. List·getD-eq-default g [] {n = j} (omega arith) in
     let w : code .words ≡ table (wordAt g) 32 =
-            b .words ∙ fill-end (wordAt g) (wordOf limits []) k 32 (λ j l. ap (λ (r : List (List ℕ)). wordOf limits (firstField r)) (past j l)) (omega (arith, b .upto, fits .most)) in
+    b .words ∙ fill-end (wordAt g) (wordOf limits []) k 32 (λ j l. ap (λ (r : List (List ℕ)). wordOf limits (firstField r)) (past j l)) (omega (arith, b .upto, fits .most)) in
     let r : code .rows ≡ table (rowAt g) 32 =
-            b .rows ∙ fill-end (rowAt g) (rowOf limits []) k 32 (λ j l. ap (rowOf limits) (past j l)) (omega (arith, b .upto, fits .most)) in
+    b .rows ∙ fill-end (rowAt g) (rowOf limits []) k 32 (λ j l. ap (rowOf limits) (past j l)) (omega (arith, b .upto, fits .most)) in
     rw (w, r, e)

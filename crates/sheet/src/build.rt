@@ -5,7 +5,6 @@ use crate::bytes::value_of;
 use code::Code;
 use code::Row;
 use code::Word;
-
 ghost use mathlib.Core.Path.{_≡_};
 ghost use Prim.Native.Nat.{_+_, _*_, _≤_};
 ghost use lib.ListN.{length, drop};
