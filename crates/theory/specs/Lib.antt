@@ -1,1 +1,4 @@
 pub mod Places
+pub mod Sequences
+pub mod Paths
+pub mod Pairs
