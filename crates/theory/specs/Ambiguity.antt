@@ -11,7 +11,7 @@ use lib.Seq.{take-length}
 use Rattle.code.specs.Definitions.Tables.{Table, size, word, Permitted, message}
 use Rattle.code.specs.Definitions.Orders.{Shortlex, shorter, earlier}
 use Rattle.code.specs.Definitions.Readings.{Reads, FirstTwo, TwoReadings, Ambiguous, Decipherable}
-use Rattle.theory.specs.Places.{Place, firstPlace, NonEmpty, Path, Compatible, TwoEnds}
+use Rattle.theory.specs.Places.{Place, firstPlace, NonEmpty, Path, Compatible, TwoEnds, NoTwoEnds}
 use Rattle.theory.specs.Sequences.{head-known, tail-permitted}
 use Rattle.theory.specs.Paths.{Arrive, along, sequence-from}
 
@@ -120,15 +120,15 @@ module _ {t : Table} (ne : NonEmpty t) where
   ambiguous-iff = (λ r. let h = readings→ends (r .1) in (h .m, h .ends), λ h. (h .0, ends→readings (h .1)))
 
   -- No compatible pair of two ends: no two permitted sequences have the same message.
-  pub decipherable : ((m : List ℕ) → TwoEnds t m → ⊥) → Decipherable t
-  decipherable none s u g h e = go (List-discrete ℕ-discrete s u)
+  pub decipherable : NoTwoEnds t → Decipherable t
+  decipherable n s u g h e = go (List-discrete ℕ-discrete s u)
     where
       go : Dec (s ≡ u) → s ≡ u
       go (yes f) = f
-      go (no f) = let z = strip s u g h e f in absurd (none (z .m) (z .ends))
+      go (no f) = let z = strip s u g h e f in absurd (n (z .m) (z .ends))
 
   -- Decipherable: no compatible pair of two ends.
-  pub no-two-ends : Decipherable t → (m : List ℕ) → TwoEnds t m → ⊥
+  pub no-two-ends : Decipherable t → NoTwoEnds t
   no-two-ends d m h =
       let r = ends→readings h in
       r .differ (d (r .s) (r .u) (r .first .permitted) (r .second .permitted) (r .first .joined ∙ sym (r .second .joined)))

@@ -3,3 +3,4 @@ pub mod Sequences
 pub mod Paths
 pub mod Pairs
 pub mod Ambiguity
+pub mod Sharing

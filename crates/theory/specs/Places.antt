@@ -88,6 +88,10 @@ module _ (t : Table) where
     pub left-ends : Ends p
     pub right-ends : Ends q
 
+  -- No compatible pair is one of two ends.
+  abbrev pub NoTwoEnds : Type 0
+  NoTwoEnds = (m : List ℕ) → TwoEnds m → ⊥
+
   -- Some N symbols reach a compatible pair.
   pub record PairAfter (N : ℕ) : Type 0 where
     pub m : List ℕ
