@@ -4,3 +4,5 @@ pub mod Paths
 pub mod Pairs
 pub mod Ambiguity
 pub mod Sharing
+pub mod Walks
+pub mod Heights
