@@ -6,3 +6,5 @@ pub mod Ambiguity
 pub mod Sharing
 pub mod Walks
 pub mod Heights
+pub mod Bounded
+pub mod MetTwice
