@@ -8,3 +8,5 @@ pub mod Walks
 pub mod Heights
 pub mod Bounded
 pub mod MetTwice
+pub mod Apart
+pub mod Numbering
