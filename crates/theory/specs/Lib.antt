@@ -10,3 +10,6 @@ pub mod Bounded
 pub mod MetTwice
 pub mod Apart
 pub mod Numbering
+pub mod Finite
+pub mod Repeats
+pub mod Lengths

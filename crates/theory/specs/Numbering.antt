@@ -40,6 +40,27 @@ module _ (a : ℕ → ℕ) where
   pub slot-unique : (n k n′ k′ : ℕ) → k < a n → k′ < a n′ → upTo n + k ≡ upTo n′ + k′ → (n ≡ n′) × (k ≡ k′)
   slot-unique n k n′ k′ h h′ e = let r = same-row n k n′ k′ h h′ e in (r, omega (arith, ap upTo r))
 
+-- Rows of at most one slot have at most as many slots as there are rows.
+pub upTo-bits : (a : ℕ → ℕ) (n : ℕ) → ((i : ℕ) → a i ≤ 1) → upTo a n ≤ n
+unfolding upTo
+upTo-bits a zero h = omega arith
+upTo-bits a (suc n) h = omega (arith, upTo-bits a n h, h n)
+
+upTo-le : (a b : ℕ → ℕ) (n : ℕ) → ((i : ℕ) → a i ≤ b i) → upTo a n ≤ upTo b n
+unfolding upTo
+upTo-le a b zero h = omega arith
+upTo-le a b (suc n) h = omega (arith, upTo-le a b n h, h n)
+
+more-last : (a b : ℕ → ℕ) (n x : ℕ) → ((i : ℕ) → a i ≤ b i) → a x < b x → x < suc n → (x < n → upTo a n < upTo b n) → Dec (x < n) → upTo a (suc n) < upTo b (suc n)
+unfolding upTo
+more-last a b n x h l k ih (yes g) = omega (arith, ih g, h n)
+more-last a b n x h l k ih (no g) = let e : x ≡ n = omega arith in let l′ = rw e at l in omega (arith, upTo-le a b n h)
+
+-- Where no row has fewer slots and one row has more, all rows have more.
+pub upTo-more : (a b : ℕ → ℕ) (n x : ℕ) → ((i : ℕ) → a i ≤ b i) → a x < b x → x < n → upTo a n < upTo b n
+upTo-more a b zero x h l k = absurd (omega arith)
+upTo-more a b (suc n) x h l k = more-last a b n x h l k (upTo-more a b n x h l) (decLt x n)
+
 -- Rows of 1, 2, 3 slots and so on: n rows have as many as there are unordered pairs of numbers below n.
 triangle-twice : (n : ℕ) → upTo suc n * 2 ≡ n * (n + 1)
 unfolding upTo

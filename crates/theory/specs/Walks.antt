@@ -35,10 +35,10 @@ module _ (t : Table) where
     long : length m ≡ suc n
 
   -- Some symbols, L of them, reach the pair p, q.
-  record ReachedBy (L : ℕ) (p q : Place) : Type 0 where
-    m : List ℕ
-    reached : Reached t m p q
-    long : length m ≡ L
+  pub record ReachedBy (L : ℕ) (p q : Place) : Type 0 where
+    pub m : List ℕ
+    pub reached : Reached t m p q
+    pub long : length m ≡ L
 
   -- n common steps lead a first pair on.
   pub record FirstFurther (n : ℕ) : Type 0 where
@@ -106,16 +106,21 @@ module _ {t : Table} where
   pub compatible-from : {n : ℕ} {m : List ℕ} {p q : Place} → Compatible t m p q → length m ≡ suc n → FromFirst t n p q
   compatible-from {n} {p = p} {q = q} h l = let a = trace (compatible-reached .0 h) in subst (λ (i : ℕ). FromFirst t i p q) (omega (arith, a .long)) (a .from)
 
+  -- A pair n common steps from a first pair is reached by suc n symbols.
+  pub from-reached : {n : ℕ} {p q : Place} → FromFirst t n p q → ReachedBy t (suc n) p q
+  from-reached h =
+      let b : ReachedBy t 1 (h .a) (h .b) = record { m = symbol t (h .a) ∷ []; reached = start (h .first) refl; long = refl } in
+      by-cast (omega arith) (walk-reached b (h .walk))
+
   pair→first : {n : ℕ} → PairAfter t (suc n) → FirstFurther t n
   pair→first h =
       let a = compatible-from (h .pair) (h .long) in
       record { p = a .a; q = a .b; first = a .first; further = record { p′ = h .p; q′ = h .q; walk = a .walk } }
 
   first→pair : {n : ℕ} → FirstFurther t n → PairAfter t (suc n)
-  first→pair {n} h =
-      let b : ReachedBy t 1 (h .p) (h .q) = record { m = symbol t (h .p) ∷ []; reached = start (h .first) refl; long = refl } in
-      let r = walk-reached b (h .further .walk) in
-      record { m = r .m; p = h .further .p′; q = h .further .q′; pair = compatible-reached .1 (r .reached); long = r .long ∙ omega arith }
+  first→pair h =
+      let r = from-reached (record { a = h .p; b = h .q; first = h .first; walk = h .further .walk }) in
+      record { m = r .m; p = h .further .p′; q = h .further .q′; pair = compatible-reached .1 (r .reached); long = r .long }
 
   -- suc n symbols reach a compatible pair exactly if n common steps lead a first pair on.
   pub pair-iff : {n : ℕ} → PairAfter t (suc n) ↔ FirstFurther t n
