@@ -1,5 +1,4 @@
 pub mod Places
-pub mod Sequences
 pub mod Paths
 pub mod Pairs
 pub mod Ambiguity

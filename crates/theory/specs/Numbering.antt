@@ -5,20 +5,27 @@ use mathlib.Core.List.{List, [], _∷_, map}
 use mathlib.Core.Logic.{_⊎_, inl, inr}
 use Prim.Native.Nat.{ℕ, zero, suc, _+_, _*_, _/_, _≤_, _<_, min, max}
 use native.Mathlib.Nat.{add-mul, mul-add, mul-suc, suc-mul}
+use native.Mathlib.Numerals.{add-one}
 use native.Mathlib.Decide.{decLt, decLe, ℕ-discrete}
 use native.Mathlib.Omega.{arith}
 use lib.ListN.{length, getD}
-use Rattle.code.specs.Definitions.Lists.{sum}
+use Rattle.code.specs.Definitions.Lists.{table, sum}
+use Rattle.code.specs.Laws.Lists.{list-table, map-table, sum-more}
 
 module _ (a : ℕ → ℕ) where
   -- the number of slots of the rows below n
-  unfoldable pub upTo : ℕ → ℕ
-  upTo zero = 0
-  upTo (suc n) = upTo n + a n
+  abbrev pub upTo : ℕ → ℕ
+  upTo n = sum (table a n)
+
+  upTo-none : upTo 0 ≡ 0
+  unfolding table sum
+  upTo-none = refl
+
+  upTo-next : (n : ℕ) → upTo (suc n) ≡ upTo n + a n
+  upTo-next n = rw (← add-one n) (sum-more a n)
 
   grow : (n k : ℕ) → (n ≤ k → upTo n ≤ upTo k) → n ≤ suc k → Dec (n ≤ k) → upTo n ≤ upTo (suc k)
-  unfolding upTo
-  grow n k ih h (yes l) = omega (arith, ih l)
+  grow n k ih h (yes l) = omega (arith, ih l, upTo-next k)
   grow n k ih h (no l) = let e : n ≡ suc k = omega arith in rw e (omega arith)
 
   pub upTo-mono : (n k : ℕ) → n ≤ k → upTo n ≤ upTo k
@@ -26,8 +33,7 @@ module _ (a : ℕ → ℕ) where
   upTo-mono n (suc k) h = grow n k (upTo-mono n k) h (decLe n k)
 
   pub slot-below : (n k N : ℕ) → k < a n → n < N → upTo n + k < upTo N
-  unfolding upTo
-  slot-below n k N h l = omega (arith, upTo-mono (suc n) N l)
+  slot-below n k N h l = omega (arith, upTo-mono (suc n) N l, upTo-next n)
 
   same-row : (n k n′ k′ : ℕ) → k < a n → k′ < a n′ → upTo n + k ≡ upTo n′ + k′ → n ≡ n′
   same-row n k n′ k′ h h′ e = go (decLt n n′) (decLt n′ n)
@@ -42,19 +48,16 @@ module _ (a : ℕ → ℕ) where
 
 -- Rows of at most one slot have at most as many slots as there are rows.
 pub upTo-bits : (a : ℕ → ℕ) (n : ℕ) → ((i : ℕ) → a i ≤ 1) → upTo a n ≤ n
-unfolding upTo
-upTo-bits a zero h = omega arith
-upTo-bits a (suc n) h = omega (arith, upTo-bits a n h, h n)
+upTo-bits a zero h = omega (arith, upTo-none a)
+upTo-bits a (suc n) h = omega (arith, upTo-next a n, upTo-bits a n h, h n)
 
 upTo-le : (a b : ℕ → ℕ) (n : ℕ) → ((i : ℕ) → a i ≤ b i) → upTo a n ≤ upTo b n
-unfolding upTo
-upTo-le a b zero h = omega arith
-upTo-le a b (suc n) h = omega (arith, upTo-le a b n h, h n)
+upTo-le a b zero h = omega (arith, upTo-none a)
+upTo-le a b (suc n) h = omega (arith, upTo-next a n, upTo-next b n, upTo-le a b n h, h n)
 
 more-last : (a b : ℕ → ℕ) (n x : ℕ) → ((i : ℕ) → a i ≤ b i) → a x < b x → x < suc n → (x < n → upTo a n < upTo b n) → Dec (x < n) → upTo a (suc n) < upTo b (suc n)
-unfolding upTo
-more-last a b n x h l k ih (yes g) = omega (arith, ih g, h n)
-more-last a b n x h l k ih (no g) = let e : x ≡ n = omega arith in let l′ = rw e at l in omega (arith, upTo-le a b n h)
+more-last a b n x h l k ih (yes g) = omega (arith, upTo-next a n, upTo-next b n, ih g, h n)
+more-last a b n x h l k ih (no g) = let e : x ≡ n = omega arith in let l′ = rw e at l in omega (arith, upTo-next a n, upTo-next b n, upTo-le a b n h)
 
 -- Where no row has fewer slots and one row has more, all rows have more.
 pub upTo-more : (a b : ℕ → ℕ) (n x : ℕ) → ((i : ℕ) → a i ≤ b i) → a x < b x → x < n → upTo a n < upTo b n
@@ -63,9 +66,8 @@ upTo-more a b (suc n) x h l k = more-last a b n x h l k (upTo-more a b n x h l) 
 
 -- Rows of 1, 2, 3 slots and so on: n rows have as many as there are unordered pairs of numbers below n.
 triangle-twice : (n : ℕ) → upTo suc n * 2 ≡ n * (n + 1)
-unfolding upTo
-triangle-twice zero = refl
-triangle-twice (suc n) = simp (add-mul, mul-add) (omega (arith, triangle-twice n, mul-add n n 1, mul-suc (suc n) n, suc-mul n n))
+triangle-twice zero = rw (upTo-none suc)
+triangle-twice (suc n) = rw (upTo-next suc n) (simp (add-mul, mul-add) (omega (arith, triangle-twice n, mul-add n n 1, mul-suc (suc n) n, suc-mul n n)))
 
 pub triangle : (n : ℕ) → upTo suc n ≡ n * (n + 1) / 2
 triangle n = omega (arith, triangle-twice n)
@@ -88,13 +90,6 @@ unordered-unique i j i′ j′ e =
     go x y (yes h) = inl (h, omega arith)
     go x y (no h) = inr (omega arith, omega arith)
 
-upTo-shift : (a : ℕ → ℕ) (n : ℕ) → upTo a (suc n) ≡ a 0 + upTo (λ i. a (suc i)) n
-unfolding upTo
-upTo-shift a zero = omega arith
-upTo-shift a (suc n) = omega (arith, upTo-shift a n)
-
 -- Rows as long as the words have as many slots as the words have symbols.
 pub upTo-words : (l : List (List ℕ)) → upTo (λ x. length (getD l x [])) (length l) ≡ sum (map length l)
-unfolding upTo sum
-upTo-words [] = refl
-upTo-words (w ∷ l) = upTo-shift (λ x. length (getD (w ∷ l) x [])) (length l) ∙ ap (λ (z : ℕ). length w + z) (upTo-words l)
+upTo-words l = ap sum (sym (map-table length (λ x. getD l x []) (length l)) ∙ ap (map length) (list-table (λ x. getD l x []) l [] (λ k h. refl)))
