@@ -10,7 +10,7 @@ use lib.ListN.{length, take, length-append}
 use lib.Seq.{take-length}
 use Rattle.code.specs.Definitions.Tables.{Table, size, word, Permitted, message}
 use Rattle.code.specs.Definitions.Orders.{Shortlex, shorter, earlier}
-use Rattle.code.specs.Definitions.Readings.{Reads, FirstTwo, TwoReadings, Ambiguous, Decipherable}
+use Rattle.code.specs.Definitions.Readings.{FirstTwo, TwoReadings, Ambiguous, Decipherable}
 use Rattle.theory.specs.Places.{Place, firstPlace, NonEmpty, Path, Compatible, TwoEnds, NoTwoEnds}
 use Rattle.code.specs.Laws.Readings.{decipherable-not-two}
 use Rattle.code.specs.Laws.Sequences.{first-word, rest-permitted}

@@ -8,7 +8,7 @@ use native.Mathlib.Decide.{ℕ-discrete}
 use native.Mathlib.Omega.{arith}
 use lib.ListN.{length, length-append}
 use Rattle.code.specs.Definitions.Tables.{Table, word}
-use Rattle.theory.specs.Places.{Place, nextPlace, symbol, Ends, Step, inside, across, Compatible, FirstPair, CommonStep, Reached, start, onward, TwoEnds, NoTwoEnds}
+use Rattle.theory.specs.Places.{Place, symbol, Ends, Step, inside, across, Compatible, FirstPair, CommonStep, Reached, start, onward, TwoEnds, NoTwoEnds}
 use Rattle.theory.specs.Pairs.{compatible-reached}
 
 abbrev pub place-eq : {p q : Place} → p .w ≡ q .w → p .k ≡ q .k → p ≡ q

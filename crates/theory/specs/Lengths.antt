@@ -11,7 +11,7 @@ use Rattle.code.specs.Definitions.Tables.{Table}
 use Rattle.theory.specs.Places.{Place, NonEmpty, Is, Ends, FirstPair, TwoEnds, PairAfter, LongestPath}
 use Rattle.theory.specs.Paths.{first-is, step-is}
 use Rattle.theory.specs.Pairs.{compatible-reached, compatible-long}
-use Rattle.theory.specs.Walks.{Walk, stay, step, Further, FromFirst, FirstFurther, walk-append, walk-swap, walk-cut, compatible-from, from-reached, pair-iff}
+use Rattle.theory.specs.Walks.{Walk, stay, step, FromFirst, walk-append, walk-swap, walk-cut, compatible-from, from-reached, pair-iff}
 use Rattle.theory.specs.Heights.{Cycle, same, swapped, cycle-further}
 use Rattle.theory.specs.Finite.{pairCount, pair-unique}
 use Rattle.theory.specs.Repeats.{MeetsTwice, twice-or-short}

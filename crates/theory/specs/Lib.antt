@@ -1,5 +1,6 @@
 pub mod Places
 pub mod Paths
+pub mod LastSteps
 pub mod Pairs
 pub mod Ambiguity
 pub mod Sharing

@@ -1,14 +1,14 @@
 -- A pair met by two walks makes no cycle: in the code of the words 0, 01, 011 and 102 without bans, the second symbol of 102 and the end of 0 are met
 -- by 010 and by 0110, and the delay is 5.
-use mathlib.Core.Path.{_≡_, refl}
+use mathlib.Core.Path.{refl}
 use mathlib.Core.Bool.{true}
-use mathlib.Core.List.{List, [], _∷_}
+use mathlib.Core.List.{[], _∷_}
 use Prim.Native.Nat.{ℕ, suc, _<_}
 use native.Mathlib.Omega.{arith}
 use lib.Dec.{ltb}
 use lib.ListN.{length}
 use borrow.Author.Tests.{ltb-true}
-use Rattle.code.specs.Definitions.Tables.{Table, size, word, one, more}
+use Rattle.code.specs.Definitions.Tables.{Table, word, one, more}
 use Rattle.code.specs.Definitions.Readings.{Decipherable}
 use Rattle.code.specs.Definitions.Delays.{SharePrefix, Delay}
 use Rattle.theory.specs.Places.{Place, firstPlace, NonEmpty, Ends, FirstPair, CommonStep, Step, inside, across, Reached, start, onward}

@@ -1,7 +1,7 @@
 -- Row n has a n slots; numbering them row after row gives each slot a number of its own, below the number of slots of all rows. So are the places of a
 -- code numbered along its words, and the unordered pairs of numbers below n by the greater one.
 use mathlib.Core.Path.{_≡_, refl, sym, ap, _∙_}
-use mathlib.Core.List.{List, [], _∷_, map}
+use mathlib.Core.List.{List, [], map}
 use mathlib.Core.Logic.{_⊎_, inl, inr}
 use Prim.Native.Nat.{ℕ, zero, suc, _+_, _*_, _/_, _≤_, _<_, min, max}
 use native.Mathlib.Nat.{add-mul, mul-add, mul-suc, suc-mul}

@@ -1,23 +1,15 @@
--- Compatible pairs are those of 000: one symbol reaches the first pairs, and each further symbol is one common step of both places. Paths grow at the
--- front, so a path is followed from its first place on, and its last step is taken off by going through the symbols.
+-- Compatible pairs are those of 000: one symbol reaches the first pairs, and each further symbol is one common step of both places.
 use mathlib.Core.Path.{_≡_, refl, sym, _∙_, subst}
 use mathlib.Core.List.{List, [], _∷_, _++_, append-assoc}
 use mathlib.Core.Logic.{_↔_}
-use Prim.Native.Nat.{ℕ, _≤_, _<_}
-use native.Mathlib.Omega.{arith}
+use Prim.Native.Nat.{ℕ, _≤_}
 use lib.ListN.{length}
-use Rattle.code.specs.Definitions.Tables.{Table, size}
-use Rattle.theory.specs.Places.{Place, firstPlace, NonEmpty, symbol, Is, Step, Path, here, then, Compatible, FirstPair, CommonStep, Reached, start, onward}
-use Rattle.theory.specs.Paths.{first-is, step-is}
+use Rattle.code.specs.Definitions.Tables.{Table}
+use Rattle.theory.specs.Places.{Place, NonEmpty, symbol, Is, Step, Path, here, then, Compatible, FirstPair, CommonStep, Reached, start, onward}
+use Rattle.theory.specs.LastSteps.{no-path, path-long, path-is, path-step, last-step}
+use Rattle.theory.specs.Paths.{first-is}
 
 module _ (t : Table) where
-  -- The last step of a path, with its symbol c.
-  pub record LastStep (p : Place) (m : List ℕ) (c : ℕ) (r : Place) : Type 0 where
-    pub q : Place
-    pub path : Path t p m q
-    pub step : Step t q r
-    pub reads : symbol t r ≡ c
-
   -- A pair that m reaches, and a common step of it that reads c.
   pub record Extended (m : List ℕ) (c : ℕ) (p′ q′ : Place) : Type 0 where
     pub p : Place
@@ -27,34 +19,6 @@ module _ (t : Table) where
     pub reads : symbol t p′ ≡ c
 
 module _ {t : Table} where
-  no-path : {p q : Place} → Path t p [] q → ⊥
-  no-path a = elim a [ ]
-
-  -- A path reads at least one symbol.
-  pub path-long : {p q : Place} {m : List ℕ} → Path t p m q → 1 ≤ length m
-  path-long (here e) = omega arith
-  path-long (then e s a) = omega arith
-
-  pub path-is : NonEmpty t → {p q : Place} {m : List ℕ} → Is t p → Path t p m q → Is t q
-  path-is ne i (here e) = i
-  path-is ne i (then e s a) = path-is ne (step-is t ne i s) a
-
-  -- One more step, and its symbol, at the end of a path.
-  pub path-step : {p q r : Place} {m : List ℕ} {c : ℕ} → Path t p m q → Step t q r → symbol t r ≡ c → Path t p (m ++ (c ∷ [])) r
-  path-step (here e) s f = then e s (here f)
-  path-step (then e u a) s f = then e u (path-step a s f)
-
-  before-last : {p q r : Place} {c : ℕ} {m : List ℕ} {d : ℕ} → symbol t p ≡ d → Step t p q → LastStep t q m c r → LastStep t p (d ∷ m) c r
-  before-last e s l = record { q = l .q; path = then e s (l .path); step = l .step; reads = l .reads }
-
-  two-places : {p q : Place} {c d : ℕ} → symbol t p ≡ d → Step t p q → symbol t q ≡ c → LastStep t p (d ∷ []) c q
-  two-places {p} e s f = record { q = p; path = here e; step = s; reads = f }
-
-  pub last-step : (m : List ℕ) {c d : ℕ} {p r : Place} → Path t p (d ∷ (m ++ (c ∷ []))) r → LastStep t p (d ∷ m) c r
-  last-step [] (then e s (here f)) = two-places e s f
-  last-step [] (then e s (then f u a)) = absurd (no-path a)
-  last-step (x ∷ m) (then e s a) = before-last e s (last-step m a)
-
   first→compatible : {c : ℕ} {p q : Place} → FirstPair t p q × (symbol t p ≡ c) → Compatible t (c ∷ []) p q
   first→compatible {c} {p} {q} h = record {
     x = h .0 .x;

@@ -1,14 +1,14 @@
 -- The delay from the compatible pairs. In a code without a pair of two ends two sequences that start with different words share their first N symbols
 -- exactly if some N symbols reach a compatible pair: a message shorter than N counts whole, so it would be equal to the other one, and reach two ends.
 use mathlib.Core.Path.{_≡_, refl, sym, ap, _∙_, subst}
-use mathlib.Core.List.{List, [], _∷_}
+use mathlib.Core.List.{List, _∷_}
 use mathlib.Core.Logic.{_↔_}
-use Prim.Native.Nat.{ℕ, zero, suc, _≤_, _<_, min}
+use Prim.Native.Nat.{ℕ, zero, suc, _≤_, min}
 use native.Mathlib.Decide.{decLe}
 use native.Mathlib.Omega.{arith}
 use lib.ListN.{length, take, length-take}
 use lib.Seq.{take-all}
-use Rattle.code.specs.Definitions.Tables.{Table, size, Permitted, one, message}
+use Rattle.code.specs.Definitions.Tables.{Table, size, message}
 use Rattle.code.specs.Definitions.Delays.{SharePrefix, Delay, WithoutBound}
 use Rattle.theory.specs.Places.{NonEmpty, NoTwoEnds, PairAfter, LongestPath}
 use Rattle.code.specs.Laws.Delays.{share-fewer, two-words-share}
