@@ -28,7 +28,7 @@ module _ (t : Table) where
     pub ends : TwoEnds t m
     pub least : (n : List ℕ) → TwoEnds t n → (m ≡ n) ⊎ Shortlex m n
 
-at-most : (m n : List ℕ) → (m ≡ n) ⊎ Shortlex m n → length m ≤ length n
+pub at-most : (m n : List ℕ) → (m ≡ n) ⊎ Shortlex m n → length m ≤ length n
 at-most m n (inl e) = omega (arith, ap length e)
 at-most m n (inr (shorter l)) = omega arith
 at-most m n (inr (earlier e l)) = omega arith

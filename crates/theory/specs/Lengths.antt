@@ -8,9 +8,12 @@ use native.Mathlib.Decide.{decLe}
 use native.Mathlib.Omega.{arith}
 use lib.ListN.{length}
 use Rattle.code.specs.Definitions.Tables.{Table}
-use Rattle.theory.specs.Places.{Place, NonEmpty, Is, Ends, FirstPair, TwoEnds, PairAfter, LongestPath}
+use Rattle.code.specs.Definitions.Delays.{Delay}
+use Rattle.theory.specs.Places.{Place, NonEmpty, Is, Ends, FirstPair, TwoEnds, NoTwoEnds, PairAfter, LongestPath}
 use Rattle.theory.specs.Paths.{first-is, step-is}
 use Rattle.theory.specs.Pairs.{compatible-reached, compatible-long}
+use Rattle.theory.specs.Ambiguity.{LeastTwoEnds, at-most}
+use Rattle.theory.specs.Sharing.{share→pair, without-bound}
 use Rattle.theory.specs.Walks.{Walk, stay, step, FromFirst, walk-append, walk-swap, walk-cut, compatible-from, from-reached, pair-iff}
 use Rattle.theory.specs.Heights.{Cycle, same, swapped, cycle-further}
 use Rattle.theory.specs.Finite.{pairCount, pair-unique}
@@ -141,3 +144,20 @@ module _ {t : Table} (ne : NonEmpty t) where
       go : Dec (pairCount t ≤ n) → suc n ≤ pairCount t
       go (yes h) = absurd (omega (arith, l .most (suc (suc n)) (endless h (l .some n refl) (suc n))))
       go (no h) = omega arith
+
+  -- The least symbols that reach two ends are at most as many as there are unordered pairs.
+  pub least-short : {m : List ℕ} → LeastTwoEnds t m → length m ≤ pairCount t
+  least-short {m} h = let s = short-ends (h .ends) in omega (arith, s .short, at-most m (s .m) (h .least (s .m) (s .ends)))
+
+  delay-needs : {M : ℕ} → NoTwoEnds t → Delay t (suc M) → Dec (M ≤ pairCount t) → M ≤ pairCount t
+  delay-needs none d (yes l) = l
+  delay-needs {M} none d (no l) =
+      let n = M - 1 in
+      let e : M ≡ suc n = omega arith in
+      let h = subst (PairAfter t) e (share→pair ne none (omega arith) (d .needed M refl)) in
+      absurd (d .enough (without-bound ne (endless {n = n} (omega arith) h) (suc M)))
+
+  -- 01: "Delays therefore run from 0 to 8,257 at most."
+  pub delay-short : (N : ℕ) → NoTwoEnds t → Delay t N → N ≤ suc (pairCount t)
+  delay-short zero none d = omega arith
+  delay-short (suc M) none d = omega (arith, delay-needs none d (decLe M (pairCount t)))

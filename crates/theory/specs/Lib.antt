@@ -13,3 +13,5 @@ pub mod Numbering
 pub mod Finite
 pub mod Repeats
 pub mod Lengths
+pub mod Graphs
+pub mod Searches
