@@ -11,9 +11,9 @@ use lib.Seq.{take-length}
 use Rattle.code.specs.Definitions.Tables.{Table, size, word, Permitted, message}
 use Rattle.code.specs.Definitions.Orders.{Shortlex, shorter, earlier}
 use Rattle.code.specs.Definitions.Readings.{FirstTwo, TwoReadings, Ambiguous, Decipherable}
-use Rattle.theory.specs.Places.{Place, firstPlace, NonEmpty, Path, Compatible, TwoEnds, NoTwoEnds}
 use Rattle.code.specs.Laws.Readings.{decipherable-not-two}
 use Rattle.code.specs.Laws.Sequences.{first-word, rest-permitted}
+use Rattle.theory.specs.Places.{Place, firstPlace, NonEmpty, Path, Compatible, TwoEnds, NoTwoEnds}
 use Rattle.theory.specs.Paths.{Arrive, along, sequence-from}
 
 module _ (t : Table) where
@@ -28,6 +28,7 @@ module _ (t : Table) where
     pub ends : TwoEnds t m
     pub least : (n : List ℕ) → TwoEnds t n → (m ≡ n) ⊎ Shortlex m n
 
+-- What comes before a list in shortlex order, or is that list, is no longer.
 pub at-most : (m n : List ℕ) → (m ≡ n) ⊎ Shortlex m n → length m ≤ length n
 at-most m n (inl e) = omega (arith, ap length e)
 at-most m n (inr (shorter l)) = omega arith
@@ -51,6 +52,7 @@ module _ {t : Table} where
   }
 
 module _ {t : Table} (ne : NonEmpty t) where
+  -- A sequence that is not empty has a message that is not empty.
   pub message-long : {x : ℕ} {s : List ℕ} → Permitted t (x ∷ s) → 1 ≤ length (message t (x ∷ s))
   message-long {x} {s} g = simp length-append (omega (arith, ne x (first-word g)))
 

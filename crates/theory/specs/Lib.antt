@@ -13,5 +13,4 @@ pub mod Numbering
 pub mod Finite
 pub mod Repeats
 pub mod Lengths
-pub mod Graphs
 pub mod Searches

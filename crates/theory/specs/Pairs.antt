@@ -5,7 +5,7 @@ use mathlib.Core.Logic.{_↔_}
 use Prim.Native.Nat.{ℕ, _≤_}
 use lib.ListN.{length}
 use Rattle.code.specs.Definitions.Tables.{Table}
-use Rattle.theory.specs.Places.{Place, NonEmpty, symbol, Is, Step, Path, here, then, Compatible, FirstPair, CommonStep, Reached, start, onward}
+use Rattle.theory.specs.Places.{Place, firstPlace, NonEmpty, symbol, Is, Step, Path, here, then, Compatible, FirstPair, CommonStep, Reached, start, onward}
 use Rattle.theory.specs.LastSteps.{no-path, path-long, path-is, path-step, last-step}
 use Rattle.theory.specs.Paths.{first-is}
 
@@ -30,6 +30,31 @@ module _ {t : Table} where
     right = subst (λ (z : Place). Path t z (c ∷ []) q) (h .0 .right) (here (sym (h .0 .same) ∙ h .1));
   }
 
+  -- The first places of a compatible pair's two words.
+  first-of : {m : List ℕ} {p q a b : Place} (h : Compatible t m p q) → a ≡ firstPlace (h .x) → b ≡ firstPlace (h .y) → symbol t a ≡ symbol t b → FirstPair t a b
+  first-of h e f g = record {
+    x = h .x;
+    y = h .y;
+    left-known = h .left-known;
+    right-known = h .right-known;
+    differ = h .differ;
+    left = e;
+    right = f;
+    same = g;
+  }
+
+  -- Other paths from a compatible pair's two words.
+  with-paths : {m n : List ℕ} {p q p′ q′ : Place} (h : Compatible t m p q) → Path t (firstPlace (h .x)) n p′ → Path t (firstPlace (h .y)) n q′ → Compatible t n p′ q′
+  with-paths h a b = record {
+    x = h .x;
+    y = h .y;
+    left-known = h .left-known;
+    right-known = h .right-known;
+    differ = h .differ;
+    left = a;
+    right = b;
+  }
+
   single : {p q : Place} {c : ℕ} → Path t p (c ∷ []) q → (q ≡ p) × (symbol t q ≡ c)
   single (here e) = (refl, e)
   single (then e s a) = absurd (no-path a)
@@ -37,34 +62,17 @@ module _ {t : Table} where
   compatible→first : {c : ℕ} {p q : Place} → Compatible t (c ∷ []) p q → FirstPair t p q × (symbol t p ≡ c)
   compatible→first h =
       let l = single (h .left) in
-      let r = single (h .right) in (
-        record {
-          x = h .x;
-          y = h .y;
-          left-known = h .left-known;
-          right-known = h .right-known;
-          differ = h .differ;
-          left = l .0;
-          right = r .0;
-          same = l .1 ∙ sym (r .1);
-        },
-        l .1,
-      )
+      let r = single (h .right) in
+      (first-of h (l .0) (r .0) (l .1 ∙ sym (r .1)), l .1)
 
   -- One symbol reaches the first pairs that read it, and no other pair.
   pub one-symbol : {c : ℕ} {p q : Place} → Compatible t (c ∷ []) p q ↔ (FirstPair t p q × (symbol t p ≡ c))
   one-symbol = (compatible→first, first→compatible)
 
+  -- One common step, and its symbol, lead a compatible pair on.
   pub compatible-step : {m : List ℕ} {c : ℕ} {p′ q′ : Place} → Extended t m c p′ q′ → Compatible t (m ++ (c ∷ [])) p′ q′
-  compatible-step h = record {
-    x = h .pair .x;
-    y = h .pair .y;
-    left-known = h .pair .left-known;
-    right-known = h .pair .right-known;
-    differ = h .pair .differ;
-    left = path-step (h .pair .left) (h .step .left) (h .reads);
-    right = path-step (h .pair .right) (h .step .right) (sym (h .step .same) ∙ h .reads);
-  }
+  compatible-step h =
+      with-paths (h .pair) (path-step (h .pair .left) (h .step .left) (h .reads)) (path-step (h .pair .right) (h .step .right) (sym (h .step .same) ∙ h .reads))
 
   compatible→extended : {m : List ℕ} {c d : ℕ} {p′ q′ : Place} → Compatible t (d ∷ (m ++ (c ∷ []))) p′ q′ → Extended t (d ∷ m) c p′ q′
   compatible→extended {m} h =
@@ -73,15 +81,7 @@ module _ {t : Table} where
       record {
         p = l .q;
         q = r .q;
-        pair = record {
-          x = h .x;
-          y = h .y;
-          left-known = h .left-known;
-          right-known = h .right-known;
-          differ = h .differ;
-          left = l .path;
-          right = r .path;
-        };
+        pair = with-paths h (l .path) (r .path);
         step = record { left = l .step; right = r .step; same = l .reads ∙ sym (r .reads) };
         reads = l .reads;
       }
@@ -114,26 +114,13 @@ module _ {t : Table} where
   walk-first f (then e s a) (then g u b) = walk (start (f (e ∙ sym g)) e) s u a b
 
   compatible→reached : {m : List ℕ} {p q : Place} → Compatible t m p q → Reached t m p q
-  compatible→reached h =
-      walk-first
-      (λ e. record {
-        x = h .x;
-        y = h .y;
-        left-known = h .left-known;
-        right-known = h .right-known;
-        differ = h .differ;
-        left = refl;
-        right = refl;
-        same = e;
-      })
-      (h .left)
-      (h .right)
+  compatible→reached h = walk-first (first-of h refl refl) (h .left) (h .right)
 
   -- The compatible pairs are those that 000 builds up from the first pairs.
   pub compatible-reached : {m : List ℕ} {p q : Place} → Compatible t m p q ↔ Reached t m p q
   compatible-reached = (compatible→reached, reached→compatible)
 
-  -- The order of a pair's places does not matter.
+  -- The order of a pair's places does not matter: to compatible pairs, first pairs and common steps.
   pub compatible-swap : {m : List ℕ} {p q : Place} → Compatible t m p q → Compatible t m q p
   compatible-swap h = record {
     x = h .y;
@@ -146,16 +133,7 @@ module _ {t : Table} where
   }
 
   pub first-swap : {p q : Place} → FirstPair t p q → FirstPair t q p
-  first-swap h = record {
-    x = h .y;
-    y = h .x;
-    left-known = h .right-known;
-    right-known = h .left-known;
-    differ = λ e. h .differ (sym e);
-    left = h .right;
-    right = h .left;
-    same = sym (h .same);
-  }
+  first-swap f = one-symbol .0 (compatible-swap (one-symbol .1 (f, refl))) .0
 
   pub common-swap : {p q p′ q′ : Place} → CommonStep t p q p′ q′ → CommonStep t q p q′ p′
   common-swap h = record { left = h .right; right = h .left; same = sym (h .same) }

@@ -9,8 +9,8 @@ use native.Mathlib.Omega.{arith}
 use lib.ListN.{length, take, drop, length-append, length-drop, drop-of-length-le}
 use lib.Seq.{drop-cons}
 use Rattle.code.specs.Definitions.Tables.{Table, size, word, Permitted, one, more, message}
-use Rattle.theory.specs.Places.{Place, firstPlace, nextPlace, NonEmpty, symbol, Is, Ends, Step, inside, across, Path, here, then}
 use Rattle.code.specs.Laws.Sequences.{first-word, rest-permitted, second-follows}
+use Rattle.theory.specs.Places.{Place, firstPlace, nextPlace, NonEmpty, symbol, Is, Ends, Step, inside, across, Path, here, then}
 
 module _ (t : Table) where
   -- What is left to read from place p on, its own symbol included, where the words s come after p's word.
@@ -23,7 +23,7 @@ module _ (t : Table) where
     pub path : Path t p (take N r) q
     pub full : N ≡ length r → Ends t q
 
-  -- The path's symbols m begin the message of a permitted sequence that starts in p, and are all of it if the path ends at the end of a word.
+  -- The path's symbols m begin what a permitted sequence has left to read from p on, and are all of it if the path ends at the end of a word.
   pub record Sequence (p : Place) (m : List ℕ) (q : Place) : Type 0 where
     pub s : List ℕ
     pub permitted : Permitted t (p .w ∷ s)
@@ -36,6 +36,7 @@ module _ (t : Table) where
   rest-after : (p : Place) (s : List ℕ) → Ends t p → rest (nextPlace p) s ≡ message t s
   rest-after p s e = let h : length (word t (p .w)) ≤ suc (p .k) = omega arith in rw (drop-of-length-le (word t (p .w)) h)
 
+  -- The first place of a word is a place of the table.
   pub first-is : NonEmpty t → (x : ℕ) → x < size t → Is t (firstPlace x)
   first-is ne x h = record { known = h; within = ne x h }
 
@@ -122,5 +123,6 @@ module _ (t : Table) where
     sequence-of i (here {p} {c} e) = last-word p c i e
     sequence-of i (then {p} {q} {r} {c} {m} e s a) = one-step p q r c m i e s (sequence-of (step-is ne i s) a)
 
+    -- So a path from the first place of word x opens a sequence that starts with x.
     pub sequence-from : {x : ℕ} {q : Place} {m : List ℕ} → x < size t → Path t (firstPlace x) m q → Sequence (firstPlace x) m q
     sequence-from {x} h a = sequence-of (first-is ne x h) a

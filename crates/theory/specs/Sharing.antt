@@ -10,13 +10,13 @@ use lib.ListN.{length, take, length-take}
 use lib.Seq.{take-all}
 use Rattle.code.specs.Definitions.Tables.{Table, size, message}
 use Rattle.code.specs.Definitions.Delays.{SharePrefix, Delay, WithoutBound}
-use Rattle.theory.specs.Places.{NonEmpty, NoTwoEnds, PairAfter, LongestPath}
 use Rattle.code.specs.Laws.Delays.{share-fewer, two-words-share}
 use Rattle.code.specs.Laws.Sequences.{first-word}
+use Rattle.theory.specs.Places.{NonEmpty, NoTwoEnds, PairAfter, LongestPath}
 use Rattle.theory.specs.Paths.{along, sequence-from}
 use Rattle.theory.specs.Ambiguity.{meet, same-message}
 
--- Where l is shorter than N and the first N of both are the same, l is the other list.
+-- 01: "one shorter than N shares them only with a message equal to it".
 shorter-whole : (N : ℕ) (l r : List ℕ) → take N l ≡ take N r → (N ≤ length l → ⊥) → l ≡ r
 shorter-whole N l r e h =
     let n : min N (length l) ≡ min N (length r) = simp length-take at (ap length e) in
