@@ -2,12 +2,12 @@
 use mathlib.Core.Path.{_≡_, refl, sym, ap, _∙_}
 use mathlib.Core.Bool.{Bool, true, false, true≢false, _||_}
 use mathlib.Core.List.{List, [], _∷_, _++_, map, map-append}
-use Prim.Native.Nat.{ℕ, zero, suc, _+_, _≤_, _<_}
+use Prim.Native.Nat.{ℕ, zero, suc, _+_, _-_, _≤_, _<_}
 use native.Mathlib.Omega.{arith}
-use native.Mathlib.Nat.{zero-add, add-assoc}
+use native.Mathlib.Nat.{zero-add, add-zero, add-suc, add-assoc}
 use native.Mathlib.Numerals.{add-one}
 use native.Mathlib.Decide.{decLt}
-use lib.ListN.{length, getD, length-append, List·getD-append, List·getD-eq-default}
+use lib.ListN.{length, getD, length-append, List·getD-append, List·getD-eq-default, length-map, List·getD-map}
 use lib.Seq.{getD-at, ext-getD}
 use Rattle.code.specs.Definitions.Lists.{any, every, table, sum}
 
@@ -42,10 +42,10 @@ module _ {A : Type 0} where
   getD-table-past f n k d h = List·getD-eq-default (table f n) d (rw (length-table f n) h)
 
   -- A list is the table of its elements.
-  pub list-table : (f : ℕ → A) (l : List A) (d : A) → ((k : ℕ) → k < length l → f k ≡ getD l k d) → table f (length l) ≡ l
-  list-table f l d same =
-      ext-getD d (table f (length l)) l (length-table f (length l))
-      (λ i h. let i< : i < length l = rw (length-table f (length l)) at h in getD-table f (length l) i d i< ∙ same i i<)
+  pub table-list : (f : ℕ → A) (n : ℕ) (l : List A) (d : A) → length l ≡ n → ((k : ℕ) → k < n → f k ≡ getD l k d) → table f n ≡ l
+  table-list f n l d long same =
+      ext-getD d (table f n) l (length-table f n ∙ sym long)
+      (λ i h. let i< : i < n = rw (length-table f n) at h in getD-table f n i d i< ∙ same i i<)
 
   pub table-same : (f g : ℕ → A) (n : ℕ) → ((k : ℕ) → k < n → f k ≡ g k) → table f n ≡ table g n
   unfolding table
@@ -75,6 +75,9 @@ unfolding table
 map-table g f zero = refl
 map-table g f (suc n) = map-append g (table f n) (f n ∷ []) ∙ rw (map-table g f n)
 
+pub table-map : {A B : Type 0} (g : A → B) (l : List A) (d : A) → table (λ k. g (getD l k d)) (length l) ≡ map g l
+table-map g l d = table-list (λ k. g (getD l k d)) (length l) (map g l) (g d) (length-map l g) (λ k h. sym (List·getD-map g l k d))
+
 -- `sum`
 
 pub sum-append : (l m : List ℕ) → sum (l ++ m) ≡ sum l + sum m
@@ -85,3 +88,11 @@ sum-append (a ∷ l) m = rw (sum-append l m, add-assoc)
 pub sum-more : (f : ℕ → ℕ) (n : ℕ) → sum (table f (n + 1)) ≡ sum (table f n) + f n
 unfolding sum
 sum-more f n = rw (table-more f n, sum-append (table f n) (f n ∷ [])) (omega arith)
+
+-- what is zero adds nothing
+sum-on : (f : ℕ → ℕ) (n d : ℕ) → ((k : ℕ) → n ≤ k → f k ≡ 0) → sum (table f (n + d)) ≡ sum (table f n)
+sum-on f n zero none = ap (λ (m : ℕ). sum (table f m)) (add-zero n)
+sum-on f n (suc d) none = rw (add-suc, ← add-one (n + d)) (sum-more f (n + d) ∙ rw (sum-on f n d none, none (n + d) (omega arith)) (omega arith))
+
+pub sum-past : (f : ℕ → ℕ) (n m : ℕ) → n ≤ m → ((k : ℕ) → n ≤ k → f k ≡ 0) → sum (table f m) ≡ sum (table f n)
+sum-past f n m h none = let far : n + (m - n) ≡ m = omega arith in rw (← far) (sum-on f n (m - n) none)
