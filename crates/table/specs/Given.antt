@@ -140,7 +140,7 @@ module _ (l : Limits) (g : List (List (List ℕ))) where
       let len-at : (k : ℕ) → k < l .words → lenOf (codeOf l g) k ≡ wordAt k =
       λ k h. ap (λ (w : Word). w .len) (getD-table (λ i. wordOf l (firstField (getD g i []))) (l .words) k noWord h) in
       ap sum (table-same (lenOf (codeOf l g)) wordAt (l .words) len-at)
-      ∙ sum-past wordAt (length g) (l .words) most (λ k h. ap wordLength (nothing k h))
+      ∙ sum-past wordAt (length g) (l .words) most (λ k h i. ap wordLength (nothing k h))
       ∙ ap sum (table-map wordLength g [])
 
   -- The table of records and fields that no refusal holds of.

@@ -2,9 +2,9 @@
 use mathlib.Core.Path.{_≡_, refl, sym, ap, _∙_}
 use mathlib.Core.Bool.{Bool, true, false, true≢false, _||_}
 use mathlib.Core.List.{List, [], _∷_, _++_, map, map-append}
-use Prim.Native.Nat.{ℕ, zero, suc, _+_, _-_, _≤_, _<_}
+use Prim.Native.Nat.{ℕ, zero, suc, _+_, _-_, _*_, _≤_, _<_}
 use native.Mathlib.Omega.{arith}
-use native.Mathlib.Nat.{zero-add, add-zero, add-suc, add-assoc}
+use native.Mathlib.Nat.{zero-add, add-zero, add-suc, add-assoc, suc-mul}
 use native.Mathlib.Numerals.{add-one}
 use native.Mathlib.Decide.{decLt}
 use lib.ListN.{length, getD, length-append, List·getD-append, List·getD-eq-default, length-map, List·getD-map}
@@ -90,9 +90,20 @@ unfolding sum
 sum-more f n = rw (table-more f n, sum-append (table f n) (f n ∷ [])) (omega arith)
 
 -- what is zero adds nothing
-sum-on : (f : ℕ → ℕ) (n d : ℕ) → ((k : ℕ) → n ≤ k → f k ≡ 0) → sum (table f (n + d)) ≡ sum (table f n)
+sum-on : (f : ℕ → ℕ) (n d : ℕ) → ((k : ℕ) → n ≤ k → k < n + d → f k ≡ 0) → sum (table f (n + d)) ≡ sum (table f n)
 sum-on f n zero none = ap (λ (m : ℕ). sum (table f m)) (add-zero n)
-sum-on f n (suc d) none = rw (add-suc, ← add-one (n + d)) (sum-more f (n + d) ∙ rw (sum-on f n d none, none (n + d) (omega arith)) (omega arith))
+sum-on f n (suc d) none =
+    rw (add-suc, ← add-one (n + d))
+    (sum-more f (n + d) ∙ rw (sum-on f n d (λ k h i. none k h (omega arith)), none (n + d) (omega arith) (omega arith)) (omega arith))
 
-pub sum-past : (f : ℕ → ℕ) (n m : ℕ) → n ≤ m → ((k : ℕ) → n ≤ k → f k ≡ 0) → sum (table f m) ≡ sum (table f n)
-sum-past f n m h none = let far : n + (m - n) ≡ m = omega arith in rw (← far) (sum-on f n (m - n) none)
+pub sum-past : (f : ℕ → ℕ) (n m : ℕ) → n ≤ m → ((k : ℕ) → n ≤ k → k < m → f k ≡ 0) → sum (table f m) ≡ sum (table f n)
+sum-past f n m h none =
+    let far : n + (m - n) ≡ m = omega arith in
+    rw (← far) (sum-on f n (m - n) (λ k i j. none k i (omega arith)))
+
+-- a bound for each element bounds the sum
+pub sum-bound : (f g : ℕ → ℕ) (b n : ℕ) → ((k : ℕ) → k < n → f k ≤ g k + b) → sum (table f n) ≤ sum (table g n) + n * b
+unfolding table sum
+sum-bound f g b zero low = omega arith
+sum-bound f g b (suc n) low =
+    omega (arith, sum-append (table f n) (f n ∷ []), sum-append (table g n) (g n ∷ []), suc-mul n b, low n (omega arith), sum-bound f g b n (λ k h. low k (omega arith)))
