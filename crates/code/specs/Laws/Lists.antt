@@ -70,6 +70,14 @@ module _ {A : Type 0} where
   every-all p [] d h = refl
   every-all p (a ∷ l) d h = rw (h zero (omega arith), every-all p l d (λ k b. h (suc k) (omega arith)))
 
+  pub any-table : (p : A → Bool) (f : ℕ → A) (n : ℕ) → ((k : ℕ) → k < n → p (f k) ≡ false) → any p (table f n) ≡ false
+  any-table p f n h =
+      any-none p (table f n) (f 0) (λ k i. let k< : k < n = rw (length-table f n) at i in rw (getD-table f n k (f 0) k<) (h k k<))
+
+  pub every-table : (p : A → Bool) (f : ℕ → A) (n : ℕ) → ((k : ℕ) → k < n → p (f k) ≡ true) → every p (table f n) ≡ true
+  every-table p f n h =
+      every-all p (table f n) (f 0) (λ k i. let k< : k < n = rw (length-table f n) at i in rw (getD-table f n k (f 0) k<) (h k k<))
+
 pub map-table : {A B : Type 0} (g : A → B) (f : ℕ → A) (n : ℕ) → map g (table f n) ≡ table (λ k. g (f k)) n
 unfolding table
 map-table g f zero = refl
