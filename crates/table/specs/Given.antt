@@ -1,12 +1,12 @@
 -- Every table that an accepted sheet gives is well-formed: refusals 3 to 7 bound what the fields hold, and past the fields a read gives nothing, which counts as zero.
-use mathlib.Core.Path.{_≡_, refl, sym, ap, _∙_}
-use mathlib.Core.Bool.{Bool, true, false, true≢false, not, _||_, and-false, and-eq-true-iff}
+use mathlib.Core.Path.{_≡_, refl, ap, _∙_}
+use mathlib.Core.Bool.{Bool, true, false, true≢false, and-false}
 use mathlib.Core.List.{List, [], _∷_, map}
-use Prim.Native.Nat.{ℕ, zero, suc, _+_, _-_, _≤_, _<_}
+use Prim.Native.Nat.{ℕ, _+_, _≤_, _<_}
 use native.Mathlib.Omega.{arith}
 use native.Mathlib.Decide.{decLt}
-use lib.Dec.{ltb, leb, eqb}
-use lib.ListN.{length, drop, getD, length-drop, length-map, List·getD-map, List·getD-eq-default}
+use lib.Dec.{ltb, eqb}
+use lib.ListN.{length, drop, getD, length-drop, List·getD-eq-default}
 use lib.Seq.{getD-drop}
 use borrow.Author.Tests.{ltb-false, eqb-true, eqb-false, not-false}
 use Rattle.code.specs.declared.Word.{Word}
@@ -16,9 +16,9 @@ use Rattle.code.specs.Definitions.Lists.{any, table, sum}
 use Rattle.code.specs.Definitions.Tables.{noWord, noRow}
 use Rattle.code.specs.Definitions.Sheets.{isDigit, valueOf, body, records, grid, firstField, wordLength, badWidth, badEntry, badRow, badWord, wordOf, rowOf, codeOf, refused3, refused4, refused5, refused6, refused7, FromSheet}
 use Rattle.code.specs.Laws.Lists.{length-table, getD-table, getD-table-past, table-same, table-map, any-at, sum-past, or-neither}
-use Rattle.code.specs.Laws.Clean.{Clean, clean-body, recordFields, records-some}
+use Rattle.code.specs.Laws.Clean.{clean-body, records-some}
 use Rattle.table.specs.WellFormed.{lenOf, WordFits, RowFits, WellFormed}
-use Rattle.table.specs.Accepts.{Accepts, accepts}
+use Rattle.table.specs.Accepts.{accepts}
 use Rattle.table.specs.Digits.{value-symbol, first-digits}
 
 abbrev entry : List (List ℕ) → ℕ → ℕ
@@ -41,34 +41,32 @@ module _ (l : Limits) (n : ℕ) where
       some = some;
       short = short;
       unused = unused;
-      symbol = λ p. symbol-at p (decLt p (l .symbols));
-      past = λ p q. symbol-past p q (decLt p (l .symbols));
+      symbols = record { below = λ p. symbol-at p (decLt p (l .symbols)); zero = λ p q. symbol-past p q (decLt p (l .symbols)) };
     }
 
   -- The row of a record r, by what refusals 6 and 7 leave of it.
   module _ (x : ℕ) (r : List (List ℕ)) where
-    row-given : ((y : ℕ) → entry r y ≤ 1) → (n ≤ x → (y : ℕ) → entry r y ≡ 0) → ((y : ℕ) → n ≤ y → entry r y ≡ 0) → RowFits l n x (rowOf l r)
+    row-given : ((y : ℕ) → entry r y < 2) → (n ≤ x → (y : ℕ) → entry r y ≡ 0) → ((y : ℕ) → n ≤ y → entry r y ≡ 0) → RowFits l n x (rowOf l r)
     row-given bit unused past = record {
       array = length-table (entry r) (l .words);
-      bit = λ y. bit-at y (decLt y (l .words));
+      entries = record { below = λ y. bit-at y (decLt y (l .words)); zero = λ y h. zero-at y (past y h) (decLt y (l .words)) };
       unused = λ h y. zero-at y (unused h y) (decLt y (l .words));
-      past = λ y h. zero-at y (past y h) (decLt y (l .words));
     }
       where
         zero-at : (y : ℕ) → entry r y ≡ 0 → Dec (y < l .words) → getD (rowOf l r .entries) y 0 ≡ 0
         zero-at y e (yes h) = getD-table (entry r) (l .words) y 0 h ∙ e
         zero-at y e (no h) = getD-table-past (entry r) (l .words) y 0 (omega arith)
 
-        bit-at : (y : ℕ) → Dec (y < l .words) → getD (rowOf l r .entries) y 0 ≤ 1
+        bit-at : (y : ℕ) → Dec (y < l .words) → getD (rowOf l r .entries) y 0 < 2
         bit-at y (yes h) = rw (getD-table (entry r) (l .words) y 0 h) (bit y)
         bit-at y (no h) = rw (getD-table-past (entry r) (l .words) y 0 (omega arith)) (omega arith)
 
 -- An entry that refusal 7 leaves is 0 or 1.
-entry-bit : (f : List ℕ) → badEntry f ≡ false → valueOf (getD f 0 48) ≤ 1
+entry-bit : (f : List ℕ) → badEntry f ≡ false → valueOf (getD f 0 48) < 2
 entry-bit [] e = absurd (true≢false e)
 entry-bit (a ∷ f) e = by-digit (eqb a 48) (eqb a 49) refl refl
   where
-    by-digit : (t u : Bool) → eqb a 48 ≡ t → eqb a 49 ≡ u → valueOf a ≤ 1
+    by-digit : (t u : Bool) → eqb a 48 ≡ t → eqb a 49 ≡ u → valueOf a < 2
     by-digit true u p q = rw (eqb-true a 48 p) (omega arith)
     by-digit false true p q = rw (eqb-true a 49 q) (omega arith)
     by-digit false false p q = absurd (true≢false (rw (p, q, and-false) at e))
@@ -85,7 +83,7 @@ module _ (l : Limits) (g : List (List (List ℕ))) where
     width : x < length g → length (getD g x []) ≡ length g + 1
     width h = eqb-true (length (getD g x [])) (length g + 1) (not-false _ (any-at (badWidth (length g)) g [] widths x h))
 
-    inside : x < length g → (y : ℕ) → y < length g → entry (getD g x []) y ≤ 1
+    inside : x < length g → (y : ℕ) → y < length g → entry (getD g x []) y < 2
     inside h y i =
         let row : any badEntry (drop 1 (getD g x [])) ≡ false = any-at badRow g [] entries x h in
         let within : y < length (drop 1 (getD g x [])) = omega (arith, width h, length-drop 1 (getD g x [])) in
@@ -99,7 +97,7 @@ module _ (l : Limits) (g : List (List (List ℕ))) where
     entry-after y h (yes i) = entry-past (getD g x []) y (omega (arith, width i))
     entry-after y h (no i) = entry-unused (omega arith) y
 
-    entry-low : (y : ℕ) → Dec (x < length g) → Dec (y < length g) → entry (getD g x []) y ≤ 1
+    entry-low : (y : ℕ) → Dec (x < length g) → Dec (y < length g) → entry (getD g x []) y < 2
     entry-low y (yes h) (yes i) = inside h y i
     entry-low y (yes h) (no i) = omega (arith, entry-after y (omega arith) (yes h))
     entry-low y (no h) i = omega (arith, entry-unused (omega arith) y)

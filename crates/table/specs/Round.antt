@@ -1,33 +1,31 @@
 -- The sheet that is written for a well-formed table gives the table back, so the well-formed tables are exactly those that accepted sheets give.
 use mathlib.Core.Path.{_≡_, refl, sym, ap, _∙_}
-use mathlib.Core.Bool.{true, false, not, _||_}
+use mathlib.Core.Bool.{false}
 use mathlib.Core.List.{List, [], _∷_, map}
 use mathlib.Core.Logic.{_↔_}
-use Prim.Native.Nat.{ℕ, zero, suc, _+_, _*_, _≤_, _<_}
+use Prim.Native.Nat.{ℕ, zero, suc, _+_, _<_}
 use native.Mathlib.Omega.{arith}
 use native.Mathlib.Decide.{decLt}
 use native.Mathlib.Numerals.{add-one}
-use lib.Dec.{eqb, ltb}
-use lib.ListN.{length, drop, getD, List·getD-map, List·getD-eq-default}
+use lib.ListN.{length, getD, List·getD-map}
 use borrow.Author.Tests.{le-ltb, eq-eqb, ne-eqb}
 use Rattle.code.specs.declared.Word.{Word}
 use Rattle.code.specs.declared.Row.{Row}
 use Rattle.code.specs.declared.Code.{Code}
 use Rattle.code.specs.declared.Limits.{Limits}
 use Rattle.code.specs.declared.SheetAnswer.the-variants.{Accepted}
-use Rattle.code.specs.declared.Taken.{Taken}
-use Rattle.code.specs.Definitions.Lists.{any, table, sum}
+use Rattle.code.specs.Definitions.Lists.{table, sum}
 use Rattle.code.specs.Definitions.Tables.{noWord, noRow, symbolsOf, entryOf}
-use Rattle.code.specs.Definitions.Sheets.{valueOf, grid, firstField, wordLength, badWord, badWidth, badEntry, badRow, wordOf, rowOf, codeOf, refused1, refused3, refused4, refused5, refused6, refused7, taken, FromSheet}
+use Rattle.code.specs.Definitions.Sheets.{valueOf, firstField, wordLength, badWord, badWidth, badEntry, badRow, wordOf, rowOf, codeOf, refused3, refused5, taken, FromSheet}
 use Rattle.code.specs.Laws.Lists.{length-table, getD-table, getD-table-past, table-list, table-same, map-table, any-table}
 use Rattle.table.specs.WellFormed.{lenOf, WellFormed}
-use Rattle.table.specs.Accepts.{Accepts, accepted}
+use Rattle.table.specs.Accepts.{accepted}
 use Rattle.table.specs.Given.{well}
 use Rattle.table.specs.Digits.{digitOf, value-digit}
 use Rattle.table.specs.Print.{wordField, entryField, fieldsOf, print}
 use Rattle.table.specs.Written.{Roomy, within, symbol-written, length-word, written-bytes, written-grid, total-used, written-some, written-short}
 
-bit-digit : (v : ℕ) → v ≤ 1 → badEntry (digitOf v ∷ []) ≡ false
+bit-digit : (v : ℕ) → v < 2 → badEntry (digitOf v ∷ []) ≡ false
 unfolding digitOf
 bit-digit zero h = refl
 bit-digit (suc zero) h = refl
@@ -76,7 +74,7 @@ module _ (l : Limits) (c : Code) (w : WellFormed l c) where
       rw (length-table (fieldsOf c) (c .count), length-table (entryField c x) (c .count), eq-eqb (suc (c .count)) (c .count + 1) (omega arith))
 
   row-fits : (x : ℕ) → x < c .count → badRow (fieldsOf c x) ≡ false
-  row-fits x h = any-table badEntry (entryField c x) (c .count) (λ y i. bit-digit (entryOf c x y) (w .row x (within l c w x h) .bit y))
+  row-fits x h = any-table badEntry (entryField c x) (c .count) (λ y i. bit-digit (entryOf c x y) (w .row x (within l c w x h) .entries .below y))
 
   -- and their table is the one that was written.
 
@@ -90,16 +88,16 @@ module _ (l : Limits) (c : Code) (w : WellFormed l c) where
       rw (word-back k h (decLt k (c .count)))
       (word-is word _ _
       (table-list (λ p. valueOf (getD (wordField c k) p 48)) (l .symbols) (word .symbols) 0 (w .word k h .array)
-      (λ p i. value-written (symbolsOf word) p (rw (symbol-written l c w k h p) (w .word k h .symbol p)) ∙ symbol-written l c w k h p))
+      (λ p i. value-written (symbolsOf word) p (rw (symbol-written l c w k h p) (w .word k h .symbols .below p)) ∙ symbol-written l c w k h p))
       (length-word l c w k h))
 
   same-entry : (x y : ℕ) → x < l .words → Dec (x < c .count) → Dec (y < c .count) → valueOf (getD (getD (getD g x []) (y + 1) []) 0 48) ≡ entryOf c x y
   same-entry x y h (yes i) (yes j) =
       let field : getD (getD g x []) (y + 1) [] ≡ entryField c x y = rw (getD-table (fieldsOf c) (c .count) x [] i, add-one) (getD-table (entryField c x) (c .count) y [] j) in
-      ap read field ∙ value-digit (entryOf c x y) (omega (arith, w .row x h .bit y))
+      ap read field ∙ value-digit (entryOf c x y) (omega (arith, w .row x h .entries .below y))
   same-entry x y h (yes i) (no j) =
       let field : getD (getD g x []) (y + 1) [] ≡ [] = rw (getD-table (fieldsOf c) (c .count) x [] i, add-one) (getD-table-past (entryField c x) (c .count) y [] (omega arith)) in
-      ap read field ∙ sym (w .row x h .past y (omega arith))
+      ap read field ∙ sym (w .row x h .entries .zero y (omega arith))
   same-entry x y h (no i) j =
       let field : getD (getD g x []) (y + 1) [] ≡ [] = rw (getD-table-past (fieldsOf c) (c .count) x [] (omega arith)) in
       ap read field ∙ sym (w .row x h .unused (omega arith) y)
