@@ -23,6 +23,10 @@ value-symbol a e = by-test (leb a 57) refl
         let high = rw (p, and-false) at e in
         omega (arith, leb-true a 70 (and-eq-true-iff (leb 65 a) (leb a 70) .0 high .1))
 
+-- The value of an entry's field.
+abbrev pub entryValue : List ℕ → ℕ
+entryValue f = valueOf (getD f 0 48)
+
 -- The digit of a symbol.
 unfoldable pub digitOf : ℕ → ℕ
 digitOf v = if ltb v 10 then v + 48 else v + 55
