@@ -3,3 +3,6 @@ pub mod Nodes
 pub mod Onward
 pub mod Steps
 pub mod Roots
+pub mod Lays
+pub mod Words
+pub mod Writes

@@ -89,10 +89,10 @@ parts-same w p q r s t = rw (p, q, r, s, t)
 
 later-on : (n w y : ℕ) (a b c : Bool) (f : List ℕ) (r : List (List ℕ)) (g : List (List (List ℕ)))
     → ((n y : ℕ) (a b c : Bool) → surveyRecords (parts (n + 1) 0 w y a b c) g
-        ≡ parts (n + 1 + length g) 0 w (y + sum (map wordLength g)) (a || any (badWord limits) g) (b || any (otherWidth w) g) (c || any badRow g))
+    ≡ parts (n + 1 + length g) 0 w (y + sum (map wordLength g)) (a || any (badWord limits) g) (b || any (otherWidth w) g) (c || any badRow g))
     → surveyRecords (parts (n + 1) 0 w y a b c) ((f ∷ r) ∷ g)
     ≡ parts (n + 1 + suc (length g)) 0 w (y + sum (map wordLength ((f ∷ r) ∷ g))) (a || any (badWord limits) ((f ∷ r) ∷ g))
-        (b || any (otherWidth w) ((f ∷ r) ∷ g)) (c || any badRow ((f ∷ r) ∷ g))
+    (b || any (otherWidth w) ((f ∷ r) ∷ g)) (c || any badRow ((f ∷ r) ∷ g))
 unfolding surveyRecords endRecord any sum
 later-on n w y a b c f r g ih =
     rw (one (n + 1) w y a b c f r, ne-eqb (n + 1) 0 (λ e. omega arith))
