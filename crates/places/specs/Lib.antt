@@ -6,3 +6,6 @@ pub mod Roots
 pub mod Lays
 pub mod Words
 pub mod Writes
+pub mod Bases
+pub mod Layouts
+pub mod Whole
