@@ -14,7 +14,7 @@ use Rattle.code.specs.declared.Row.{Row}
 use Rattle.code.specs.Definitions.Tables.{Table, size, word}
 use Rattle.places.specs.Bases.{base-none, base-more, base-before}
 use Rattle.places.specs.Flat.{symbolAt, ownerAt, firstAt, wordCount}
-use Rattle.places.specs.Lays.{lengthOf, base, WordAt}
+use Rattle.places.specs.Lays.{lengthOf, base, LaysWord}
 use Rattle.places.specs.Words.{WordLaid}
 
 -- Nothing is laid out at number p.
@@ -27,7 +27,7 @@ pub record Clear (f : List ℕ) (p : ℕ) : Type 0 where
 pub record LaysTo (t : Table) (n : ℕ) (f : List ℕ) : Type 0 where
   pub long : length f ≡ 1441
   pub count : wordCount f ≡ size t
-  pub words : (x : ℕ) → x < n → WordAt t f x (base t x)
+  pub words : (x : ℕ) → x < n → LaysWord t f x (base t x)
   pub clear : (p : ℕ) → base t n ≤ p → p < 128 → Clear f p
   pub firsts : (x : ℕ) → n ≤ x → x < 32 → firstAt f x ≡ 0
 
@@ -39,22 +39,23 @@ pub record Holds (t : Table) (x : ℕ) (w : Word) (r : Row) : Type 0 where
 
 module _ (t : Table) where
   -- Before the first word the list is zero but for the number of words.
-  pub lays-none : LaysTo t 0 (set (replicate 1441 0) 1440 (size t))
-  lays-none =
-      let zero : (i : ℕ) → i < 1440 → getD (set (replicate 1441 0) 1440 (size t)) i 0 ≡ 0 =
-      λ i l. getD-set-other (replicate 1441 0) 1440 i (size t) 0 (omega arith) ∙ getD-replicate 1441 i 0 0 (omega arith) in
-      record {
-        long = length-set (replicate 1441 0) 1440 (size t) ∙ length-replicate {A = ℕ} 1441 0;
-        count = getD-set-same (replicate 1441 0) 1440 (size t) 0 (omega (arith, length-replicate {A = ℕ} 1441 0));
-        words = λ x l. absurd (omega arith);
-        clear = λ p l h. record { symbol = zero p (omega arith); owner = zero (128 + p) (omega arith); end = zero (256 + p) (omega arith) };
-        firsts = λ x l h. zero (384 + x) (omega arith);
-      }
+  module _ (count : ℕ) (known : count ≡ size t) where
+    empty : (i : ℕ) → i < 1440 → getD (set (replicate 1441 0) 1440 count) i 0 ≡ 0
+    empty i l = getD-set-other (replicate 1441 0) 1440 i count 0 (omega arith) ∙ getD-replicate 1441 i 0 0 (omega arith)
+
+    pub lays-none : LaysTo t 0 (set (replicate 1441 0) 1440 count)
+    lays-none = record {
+      long = length-set (replicate 1441 0) 1440 count ∙ length-replicate {A = ℕ} 1441 0;
+      count = getD-set-same (replicate 1441 0) 1440 count 0 (omega (arith, length-replicate {A = ℕ} 1441 0)) ∙ known;
+      words = λ x l. absurd (omega arith);
+      clear = λ p l h. record { symbol = empty p (omega arith); owner = empty (128 + p) (omega arith); end = empty (256 + p) (omega arith) };
+      firsts = λ x l h. empty (384 + x) (omega arith);
+    }
 
   module _ (n : ℕ) (w : Word) (r : Row) {f g : List ℕ} (laid : WordLaid (base t n) n w r f g) (holds : Holds t n w r) (low : n < 32) (few : size t ≤ 32)
       (some : 0 < lengthOf t n) (room : base t n + lengthOf t n ≤ 128) (old : LaysTo t n f) where
     -- an earlier word stays
-    kept : (x : ℕ) → x < n → WordAt t f x (base t x) → WordAt t g x (base t x)
+    kept : (x : ℕ) → x < n → LaysWord t f x (base t x) → LaysWord t g x (base t x)
     kept x h a =
         let before = base-before t x n h in
         let len = holds .len in
@@ -76,7 +77,7 @@ module _ (t : Table) where
         let zero = laid .others (256 + (base t n + k)) (omega arith) ∙ old .clear (base t n + k) (omega arith) (omega arith) .end in
         ne-eqb (getD g (256 + (base t n + k)) 0) 1 (λ h. omega (arith, zero)) ∙ sym (ne-eqb _ _ e)
 
-    added : WordAt t g n (base t n)
+    added : LaysWord t g n (base t n)
     added =
         let len = holds .len in
         record {
@@ -87,7 +88,7 @@ module _ (t : Table) where
           follow = λ y l. ap (λ (v : ℕ). eqb v 1) (laid .row y (omega arith)) ∙ holds .follow y l;
         }
 
-    by-word : (x : ℕ) → x < n + 1 → Dec (x < n) → WordAt t g x (base t x)
+    by-word : (x : ℕ) → x < n + 1 → Dec (x < n) → LaysWord t g x (base t x)
     by-word x h (yes l) = kept x l (old .words x l)
     by-word x h (no l) =
         let e : x ≡ n = omega arith in

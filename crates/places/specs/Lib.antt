@@ -9,3 +9,4 @@ pub mod Writes
 pub mod Bases
 pub mod Layouts
 pub mod Whole
+pub mod Codes

@@ -10,6 +10,10 @@ ghost use Rattle.places.specs.Flat.{Laid, symbolAt, ownerAt, endAt, firs
 ghost use Rattle.places.specs.Steps.{Arrives, startNode};
 ghost use Rattle.places.specs.Writes.{Written, elements, always};
 ghost use Rattle.places.specs.Words.{Room, WordLaid};
+ghost use Rattle.places.specs.Whole.{LaidOut};
+ghost use Rattle.code.specs.Definitions.Sheets.{limits};
+ghost use Rattle.code.specs.Definitions.Tables.{tableOf};
+ghost use Rattle.table.specs.WellFormed.{WellFormed};
 
 // Where each part of the flat list starts: for each place its symbol, its word, and 1 if it is the end of its word; for each word its
 // first place; the follow matrix row by row; the number of words.
@@ -206,4 +210,23 @@ fn lay_word(places: &mut [u8], at: usize, x: usize, word: Word, row: Row)
         &entries,
         Code::WORDS,
     );
+}
+
+// The flat list of a code.
+pub fn lay_out(code: Code) -> [u8; Layout::LENGTH]
+    requires { ⌜ WellFormed limits code ⌝ }
+    ensures { λ r. ⌜ LaidOut (tableOf code) r ⌝ }
+{
+    let mut places = [0u8; Layout::LENGTH];
+    places[Layout::COUNT] = code.count as u8;
+    let mut at: usize = 0;
+    let mut x: usize = 0;
+    while x < code.count {
+        let word = code.words[x];
+        let row = code.rows[x];
+        lay_word(&mut places, at, x, word, row);
+        at += word.len;
+        x += 1;
+    }
+    places
 }
