@@ -1,3 +1,6 @@
 pub mod Fields
 pub mod Front
 pub mod Survey
+pub mod Passing
+pub mod Rows
+pub mod Building

@@ -4,3 +4,12 @@ pub mod Paths
 pub mod Pairs
 pub mod Ambiguity
 pub mod Sharing
+pub mod Walks
+pub mod Heights
+pub mod Bounded
+pub mod MetTwice
+pub mod Apart
+pub mod Numbering
+pub mod Finite
+pub mod Repeats
+pub mod Lengths

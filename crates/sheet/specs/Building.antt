@@ -1,0 +1,1 @@
+-- The table of an accepted sheet: where the digits of each word and each entry stand.
