@@ -1,6 +1,6 @@
 -- The nodes of the graph of pairs as pairs of places, and the arcs as steps of both places.
-use mathlib.Core.Path.{_≡_, sym, _∙_}
-use mathlib.Core.Bool.{Bool, true, false, _&&_, _||_}
+use mathlib.Core.Path.{_≡_, refl, sym, _∙_}
+use mathlib.Core.Bool.{Bool, true, false, _&&_, _||_, and-comm, or-comm}
 use mathlib.Core.List.{List}
 use Prim.Native.Nat.{ℕ, _+_, _*_, _/_, _%_, _≤_, _<_, min, max}
 use native.Mathlib.Omega.{arith}
@@ -28,6 +28,9 @@ pub record Leads (f : List ℕ) (v w : ℕ) : Type 0 where
   pub slot : ℕ
   pub within : slot < slotsOf f (v / 128) (v % 128)
   pub pair : NodeOf f (onward f (v / 128) slot) (onward f (v % 128) slot) w
+
+slots-swap : (f : List ℕ) (p q : ℕ) → slotsOf f p q ≡ slotsOf f q p
+slots-swap f p q = rw (and-comm (endAt f p) (endAt f q), or-comm (endAt f p) (endAt f q))
 
 module _ {f : List ℕ} where
   by-place : {p q v : ℕ} → pairNode f p q ≡ v → v < 16384 → Dec (p < 128) → Dec (q < 128) → Dec (symbolAt f p ≡ symbolAt f q) → NodeOf f p q v
@@ -88,3 +91,32 @@ module _ {f : List ℕ} where
     leads = arc-within f (v / 128) (v % 128) (s .slot) (s .within) ∙ of-node (s .pair);
     node = node-below (s .pair);
   }
+
+  -- The order of two places does not matter.
+  pub node-swap : {p q v : ℕ} → NodeOf f p q v → NodeOf f q p v
+  node-swap n = record { left = n .right; right = n .left; same = sym (n .same); node = omega (arith, n .node) }
+
+  in-order : {p q v : ℕ} → NodeOf f p q v → p ≤ q → (v / 128 ≡ p) × (v % 128 ≡ q)
+  in-order n h = (omega (arith, n .node, n .left, n .right), omega (arith, n .node, n .left, n .right))
+
+  -- What holds of a pair's places in either order holds of its node.
+  on-node : (P : ℕ → ℕ → Type 0) {p q v : ℕ} → NodeOf f p q v → P p q → P q p → P (v / 128) (v % 128)
+  on-node P {p} {q} {v} n a b = by (decLe p q)
+    where
+      by : Dec (p ≤ q) → P (v / 128) (v % 128)
+      by (yes h) = rw (in-order n h .0, in-order n h .1) a
+      by (no h) = rw (in-order (node-swap n) (omega arith) .0, in-order (node-swap n) (omega arith) .1) b
+
+  -- The symbol of a pair is that of its places.
+  pub node-symbol : {p q v : ℕ} → NodeOf f p q v → pairGraph f .symbol v ≡ symbolAt f p
+  node-symbol {p} n = on-node (λ a b. symbolAt f b ≡ symbolAt f p) n (sym (n .same)) refl
+
+  -- A pair of two ends is a goal.
+  pub node-goal : {p q v : ℕ} → NodeOf f p q v → endAt f p ≡ true → endAt f q ≡ true → pairGraph f .goal v ≡ true
+  node-goal n a b = on-node (λ x y. (endAt f x && endAt f y) ≡ true) n (rw (a, b)) (rw (b, a))
+
+  -- A slot that leads both places leads the pair.
+  pub node-leads : {p q v w : ℕ} → NodeOf f p q v → (j : ℕ) → j < slotsOf f p q → NodeOf f (onward f p j) (onward f q j) w → Leads f v w
+  node-leads {p} {q} {w = w} n j h m =
+      let both = on-node (λ a b. (j < slotsOf f a b) × NodeOf f (onward f a j) (onward f b j) w) n (h, m) (rw (slots-swap f q p) h, node-swap m) in
+      record { slot = j; within = both .0; pair = both .1 }

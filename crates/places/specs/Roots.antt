@@ -71,7 +71,7 @@ module _ {f : List ℕ} where
     pub root-starts : {v : ℕ} → v < 16384 → pairGraph f .root v ≡ true → Starts f v
     root-starts {v} h e = start-of refl refl h (first-tests (v / 128) (v % 128) e)
 
-    start-node : {v : ℕ} → v < 16384 → (s : Starts f v) → NodeOf f (firstAt f (s .x)) (firstAt f (s .y)) v
+    pub start-node : {v : ℕ} → v < 16384 → (s : Starts f v) → NodeOf f (firstAt f (s .x)) (firstAt f (s .y)) v
     start-node h s = node-of (firstAt f (s .x)) (firstAt f (s .y)) (s .node) h
 
     -- The first pair of two words in order is a root.

@@ -22,6 +22,7 @@ pub record Fits (t : Table) : Type 0 where
 
 -- The flat list of a table.
 pub record LaidOut (t : Table) (f : List ℕ) : Type 0 where
+  pub fits : Fits t
   pub laid : Laid f
   pub numbered : Numbered f
   pub lays : Lays t f
@@ -60,6 +61,7 @@ module _ {t : Table} (fits : Fits t) {f : List ℕ} (done : LaysTo t (size t) f)
   laid-out =
       let count = done .count in
       record {
+        fits = fits;
         laid = record {
           long = done .long;
           words = omega (arith, fits .most);
