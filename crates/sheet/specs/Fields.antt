@@ -129,6 +129,7 @@ leading-at (a ∷ t) k d h = by-digit a t k d (leading-at t) (isDigit a) refl h
         → k < suc (length (leading t)) → (getD (a ∷ t) k d ≡ getD (a ∷ leading t) k d) × (isDigit (getD (a ∷ t) k d) ≡ true)
     at-front a t zero d e rest h = (refl, e)
     at-front a t (suc k) d e rest h = rest k d (omega arith)
+
     by-digit : (a : ℕ) (t : List ℕ) (k d : ℕ)
         → ((k d : ℕ) → k < length (leading t) → (getD t k d ≡ getD (leading t) k d) × (isDigit (getD t k d) ≡ true))
         → (b : Bool) → isDigit a ≡ b → k < length (leading (a ∷ t)) → (getD (a ∷ t) k d ≡ getD (leading (a ∷ t)) k d) × (isDigit (getD (a ∷ t) k d) ≡ true)

@@ -128,38 +128,41 @@ module _ (s : List ℕ) (c : Cursor) (e : ℕ) (v : Survey) (clean : Clean (drop
       let k = counted in
       let n = field-comma s (c .at) e clean ends h b in
       let g : List (List (List ℕ)) = recordFields (drop (e + 1) s) in
-      record
-        { rest = ap (surveyRecords v) (rest-within s (e + 1) (omega arith))
+      record {
+        rest = ap (surveyRecords v) (rest-within s (e + 1) (omega arith))
             ∙ comma-rest (c .survey) v (leading (drop (c .at) s)) g field-taken (recordFields-some (drop (e + 1) s))
-            ∙ ap (surveyRecords (c .survey)) (sym (n .same) ∙ sym (rest-within s (c .at) (omega arith)))
-        ; clean = λ h. n .clean
-        ; bounded = record { records = omega (arith, bounded .records); fields = omega (arith, bounded .fields); symbols = omega (arith, bounded .symbols) }
-        ; further = omega arith
-        ; within = omega arith }
+            ∙ ap (surveyRecords (c .survey)) (sym (n .same) ∙ sym (rest-within s (c .at) (omega arith)));
+        clean = λ h. n .clean;
+        bounded = record { records = omega (arith, bounded .records); fields = omega (arith, bounded .fields); symbols = omega (arith, bounded .symbols) };
+        further = omega arith;
+        within = omega arith;
+      }
 
   pub step-line : e < length s → (getD s e 0 ≡ 44 → ⊥) → Step s c (record { survey = endRecord v; at = e + 2 })
   step-line h b =
       let n = field-line s (c .at) e clean ends h b in
       let g : List (List (List ℕ)) = recordFields (drop (e + 2) s) in
-      record
-        { rest = ap (surveyRecords (endRecord v)) (rest-within s (e + 2) (n .1))
+      record {
+        rest = ap (surveyRecords (endRecord v)) (rest-within s (e + 2) (n .1))
             ∙ line-rest (c .survey) v (leading (drop (c .at) s)) g field-taken
-            ∙ ap (surveyRecords (c .survey)) (sym (n .0 .same) ∙ sym (rest-within s (c .at) (omega arith)))
-        ; clean = λ h. n .0 .clean
-        ; bounded = line-bounded
-        ; further = omega arith
-        ; within = omega arith }
+            ∙ ap (surveyRecords (c .survey)) (sym (n .0 .same) ∙ sym (rest-within s (c .at) (omega arith)));
+        clean = λ h. n .0 .clean;
+        bounded = line-bounded;
+        further = omega arith;
+        within = omega arith;
+      }
 
   pub step-last : length s ≤ e → Step s c (record { survey = endRecord v; at = e + 2 })
   step-last h =
-      record
-        { rest = ap (surveyRecords (endRecord v)) (rest-past s (e + 2) (omega arith))
+      record {
+        rest = ap (surveyRecords (endRecord v)) (rest-past s (e + 2) (omega arith))
             ∙ line-rest (c .survey) v (leading (drop (c .at) s)) [] field-taken
-            ∙ ap (surveyRecords (c .survey)) (sym (field-last s (c .at) e clean ends h) ∙ sym (rest-within s (c .at) (omega arith)))
-        ; clean = λ k. absurd (omega arith)
-        ; bounded = line-bounded
-        ; further = omega arith
-        ; within = omega arith }
+            ∙ ap (surveyRecords (c .survey)) (sym (field-last s (c .at) e clean ends h) ∙ sym (rest-within s (c .at) (omega arith)));
+        clean = λ k. absurd (omega arith);
+        bounded = line-bounded;
+        further = omega arith;
+        within = omega arith;
+      }
 
 -- Before the first step all is to come; past the end nothing is.
 pub passing-starts : (s : List ℕ) → surveyRecords start (restOf s 0) ≡ surveyRecords start (recordFields s)

@@ -33,14 +33,16 @@ single (b ∷ []) e = (b, refl)
 single (b ∷ c ∷ f) e = absurd (true≢false (rw (ne-eqb (length (b ∷ c ∷ f)) 1 (λ q. omega arith)) at e))
 
 entries-last : (b : ℕ) (u : List ℕ) (g : List (List (List ℕ))) → isDigit b ≡ true → After g u → Entries (b ∷ u) ((b ∷ []) ∷ []) g
-entries-last b u g d a = record
-  { bytes = λ y h. first y (omega arith)
-  ; digits = λ y h. first-digit y (omega arith)
-  ; long = omega arith
-  ; after = a }
+entries-last b u g d a = record {
+  bytes = λ y h. first y (omega arith);
+  digits = λ y h. first-digit y (omega arith);
+  long = omega arith;
+  after = a;
+}
   where
     first : (y : ℕ) → y ≡ 0 → getD (b ∷ u) (2 * y) 48 ≡ getD (getD ((b ∷ []) ∷ []) y []) 0 48
     first y e = rw e
+
     first-digit : (y : ℕ) → y ≡ 0 → isDigit (getD (b ∷ u) (2 * y) 48) ≡ true
     first-digit y e = rw e d
 
@@ -54,9 +56,11 @@ entries-more b t r g d h e = record { bytes = bytes-on; digits = digits-on; long
     bytes-on : (y : ℕ) → y < suc (length r) → getD (b ∷ 44 ∷ t) (2 * y) 48 ≡ getD (getD ((b ∷ []) ∷ r) y []) 0 48
     bytes-on zero l = refl
     bytes-on (suc y) l = rw (twice y) (e .bytes y (omega arith))
+
     digits-on : (y : ℕ) → y < suc (length r) → isDigit (getD (b ∷ 44 ∷ t) (2 * y) 48) ≡ true
     digits-on zero l = d
     digits-on (suc y) l = rw (twice y) (e .digits y (omega arith))
+
     gone : 2 * suc (length r) - 1 ≡ suc (suc (2 * length r - 1))
     gone = omega arith
 

@@ -122,7 +122,7 @@ later w (row {f} {r} {g} rs) n y a b c = later-on n w y a b c f r g (later w rs)
 -- The first record gives the width; the flags then are the refusals.
 first : (f : List ℕ) (r : List (List ℕ)) {g : List (List (List ℕ))} → Rows g → surveyRecords start ((f ∷ r) ∷ g)
     ≡ parts (suc (length g)) 0 (suc (length r)) (sum (map wordLength ((f ∷ r) ∷ g))) (any (badWord limits) ((f ∷ r) ∷ g))
-        (any (otherWidth (suc (length r))) g) (any badRow ((f ∷ r) ∷ g))
+    (any (otherWidth (suc (length r))) g) (any badRow ((f ∷ r) ∷ g))
 unfolding surveyRecords endRecord any sum
 first f r {g} rs =
     rw (one 0 0 0 false false false f r, eq-eqb (suc (length r)) (suc (length r)) refl)
@@ -141,7 +141,7 @@ resultOf (Refused r) g = refusedBy limits r
 
 chain : (a b c d e : Bool) (g : List (List (List ℕ)))
     → (if a then refusedBy limits RecordCount else if b then refusedBy limits WordLength else if c then refusedBy limits CodeLength else
-        if d then refusedBy limits FieldCount else if e then refusedBy limits RowEntry else record { answer = Accepted; code = codeOf limits g })
+    if d then refusedBy limits FieldCount else if e then refusedBy limits RowEntry else record { answer = Accepted; code = codeOf limits g })
     ≡ resultOf (answerBy a b c d e) g
 chain true b c d e g = refl
 chain false true c d e g = refl

@@ -6,7 +6,6 @@ use code::Code;
 use code::Refusal;
 use code::SheetAnswer;
 use code::Word;
-
 ghost use mathlib.Core.Path.{_≡_};
 ghost use Prim.Native.Nat.{_+_, _≤_, _<_};
 ghost use lib.ListN.{length, drop, getD};

@@ -30,6 +30,6 @@ module _ {A : Type 0} (f : ℕ → A) where
   pub fill-end : (v : A) (i n : ℕ) → ((k : ℕ) → i ≤ k → f k ≡ v) → i ≤ n → table f i ++ drop i (replicate n v) ≡ table f n
   fill-end v i n b h =
       let long : length (table f i ++ drop i (replicate n v)) ≡ n =
-              length-append (table f i) (drop i (replicate n v)) ∙ rw (length-table f i, length-drop i (replicate n v), length-replicate n v) (omega arith) in
+      length-append (table f i) (drop i (replicate n v)) ∙ rw (length-table f i, length-drop i (replicate n v), length-replicate n v) (omega arith) in
       ext-getD v (table f i ++ drop i (replicate n v)) (table f n) (long ∙ sym (length-table f n))
       (λ k l. let l< : k < n = rw long at l in blank-at v i n b h k l< (decLt k i) ∙ sym (getD-table f n k v l<))

@@ -22,16 +22,30 @@ or-requires : tie.Need-or-requires
 or-requires c κs = search needs
 
 returns-4 : tie.Need-returns-4
-returns-4 c = rw (le-ltb 32 _ (c .before .before .before .before .before .before .before .if1 .left), c .before .before .before .before .before .before .if2 .left,
-    le-ltb 128 _ (c .before .before .before .before .if3 .left), sym (c .before .or .ensures) ∙ c .if4 .taken)
+returns-4 c = rw (
+  le-ltb 32 _ (c .before .before .before .before .before .before .before .if1 .left),
+  c .before .before .before .before .before .before .if2 .left,
+  le-ltb 128 _ (c .before .before .before .before .if3 .left),
+  sym (c .before .or .ensures) ∙ c .if4 .taken,
+)
 
 returns-5 : tie.Need-returns-5
-returns-5 c = rw (le-ltb 32 _ (c .before .before .before .before .before .before .before .before .if1 .left), c .before .before .before .before .before .before .before .if2 .left,
-    le-ltb 128 _ (c .before .before .before .before .before .if3 .left), sym (c .before .before .or .ensures) ∙ c .before .if4 .left, c .if5 .taken)
+returns-5 c = rw (
+  le-ltb 32 _ (c .before .before .before .before .before .before .before .before .if1 .left),
+  c .before .before .before .before .before .before .before .if2 .left,
+  le-ltb 128 _ (c .before .before .before .before .before .if3 .left),
+  sym (c .before .before .or .ensures) ∙ c .before .if4 .left,
+  c .if5 .taken,
+)
 
 returns-6 : tie.Need-returns-6
-returns-6 c = rw (le-ltb 32 _ (c .before .before .before .before .before .before .before .before .if1 .left), c .before .before .before .before .before .before .before .if2 .left,
-    le-ltb 128 _ (c .before .before .before .before .before .if3 .left), sym (c .before .before .or .ensures) ∙ c .before .if4 .left, c .if5 .left)
+returns-6 c = rw (
+  le-ltb 32 _ (c .before .before .before .before .before .before .before .before .if1 .left),
+  c .before .before .before .before .before .before .before .if2 .left,
+  le-ltb 128 _ (c .before .before .before .before .before .if3 .left),
+  sym (c .before .before .or .ensures) ∙ c .before .if4 .left,
+  c .if5 .left,
+)
 
 pub judge-spec : {M : Type 1} → statement M
 judge-spec =
