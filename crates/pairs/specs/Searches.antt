@@ -1,10 +1,10 @@
 -- What a search of the graph of pairs shows of the code: its goals are the pairs of two ends, the first symbols that reach a goal are the first that reach two
 -- ends, and without a goal its walks are as long as the compatible pairs are far.
-use mathlib.Core.Path.{_≡_, refl, sym, ap, _∙_}
+use mathlib.Core.Path.{_≡_, sym, ap, _∙_}
 use mathlib.Core.Bool.{true, and-eq-true-iff}
-use mathlib.Core.List.{List, [], _∷_, _++_}
+use mathlib.Core.List.{List, _∷_, _++_}
 use mathlib.Core.Logic.{_⊎_, inl, inr, ⊎-elim, _↔_}
-use Prim.Native.Nat.{ℕ, suc, _+_, _/_, _%_, _≤_, _<_}
+use Prim.Native.Nat.{ℕ, suc, _/_, _%_, _<_}
 use native.Mathlib.Omega.{arith}
 use lib.ListN.{length, length-append}
 use Rattle.code.specs.Definitions.Orders.{Shortlex, shorter, earlier}
@@ -15,9 +15,10 @@ use Rattle.places.specs.Nodes.{node-goal}
 use Rattle.places.specs.Whole.{LaidOut}
 use Rattle.theory.specs.Ambiguity.{LeastTwoEnds}
 use Rattle.theory.specs.Pairs.{compatible-same, compatible-is}
-use Rattle.theory.specs.Places.{Ends, Compatible, TwoEnds, NoTwoEnds, PairAfter, LongestPath}
+use Rattle.theory.specs.Places.{TwoEnds, NoTwoEnds, PairAfter, LongestPath}
 use Rattle.pairs.specs.Numbers.{number, ends-marked, marked-ends}
-use Rattle.pairs.specs.Walks.{ReachesPair, GoalBefore, nodeOf, place-node, walk-pair, pair-walk}
+use Rattle.pairs.specs.PairWalks.{GoalBefore, nodeOf, place-node, pair-walk}
+use Rattle.pairs.specs.WalkPairs.{ReachesPair, walk-pair}
 
 -- No walk leads to a goal.
 abbrev pub NoGoal : List ℕ → Type 0

@@ -4,7 +4,7 @@ use mathlib.Core.List.{List}
 use Prim.Native.Nat.{ℕ, _+_, _≤_, _<_}
 use native.Mathlib.Decide.{decLt}
 use native.Mathlib.Omega.{arith}
-use lib.ListN.{length, getD, take, length-map, List·getD-map, List·getD-eq-default}
+use lib.ListN.{getD, take, length-map, List·getD-map, List·getD-eq-default}
 use lib.Seq.{length-take-le, getD-take}
 use Rattle.code.specs.declared.Code.{Code}
 use Rattle.code.specs.declared.Word.{Word}
@@ -20,6 +20,7 @@ use Rattle.places.specs.Whole.{Fits}
 use Rattle.places.specs.Words.{Room, WordLaid}
 
 module _ (c : Code) (well : WellFormed limits c) where
+  -- The table has `count` words.
   pub size-count : size (tableOf c) ≡ c .count
   size-count = length-map (take (c .count) (c .words)) symbolsOf ∙ length-take-le (c .count) (c .words) (omega (arith, well .most, well .words))
 
@@ -55,6 +56,7 @@ module _ (c : Code) (well : WellFormed limits c) where
   by-symbol x k h (yes l) = omega (arith, holds x h .symbols k l, well .word x (omega (arith, well .most)) .symbol k)
   by-symbol x k h (no l) = omega (arith, List·getD-eq-default (word (tableOf c) x) 0 {n = k} (omega arith))
 
+  -- The table is within the limits.
   pub code-fits : Fits (tableOf c)
   code-fits =
       let n = size-count in
@@ -81,9 +83,11 @@ module _ (c : Code) (well : WellFormed limits c) where
           entries = well .row x (omega (arith, well .most)) .array;
         }
 
+    -- The next word starts where this one ends.
     pub next-start : at + lenOf c x ≡ base (tableOf c) (x + 1)
     next-start = omega (arith, base-more (tableOf c) x, word-length x h)
 
+    -- Laying out word x after those before it lays out the first x + 1.
     pub next-lays : (g : List ℕ) → WordLaid at x (getD (c .words) x noWord) (getD (c .rows) x noRow) f g → LaysTo (tableOf c) (x + 1) g
     next-lays g laid =
         let n = size-count in

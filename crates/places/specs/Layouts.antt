@@ -1,6 +1,5 @@
 -- Laying out a table word by word: the words laid out so far stay as they are, and what comes after them is zero.
-use mathlib.Core.Path.{_≡_, refl, sym, ap, _∙_}
-use mathlib.Core.Bool.{Bool}
+use mathlib.Core.Path.{_≡_, sym, ap, _∙_}
 use mathlib.Core.List.{List}
 use Prim.Native.Nat.{ℕ, suc, _+_, _*_, _-_, _≤_, _<_}
 use native.Mathlib.Decide.{decLt, ℕ-discrete}
@@ -12,7 +11,7 @@ use borrow.Author.Tests.{eq-eqb, ne-eqb}
 use Rattle.code.specs.declared.Word.{Word}
 use Rattle.code.specs.declared.Row.{Row}
 use Rattle.code.specs.Definitions.Tables.{Table, size, word}
-use Rattle.places.specs.Bases.{base-none, base-more, base-before}
+use Rattle.places.specs.Bases.{base-more, base-before}
 use Rattle.places.specs.Flat.{symbolAt, ownerAt, firstAt, wordCount}
 use Rattle.places.specs.Lays.{lengthOf, base, LaysWord}
 use Rattle.places.specs.Words.{WordLaid}

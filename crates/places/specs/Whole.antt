@@ -57,6 +57,7 @@ module _ {t : Table} (fits : Fits t) {f : List ℕ} (done : LaysTo t (size t) f)
       omega
       (arith, done .words x (omega arith) .first, done .words y l .first, base-before t x y h, fits .some x (omega arith))
 
+  -- With every word laid out, the list is the table's flat list.
   pub laid-out : LaidOut t f
   laid-out =
       let count = done .count in
