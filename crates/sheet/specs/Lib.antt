@@ -4,3 +4,4 @@ pub mod Survey
 pub mod Passing
 pub mod Rows
 pub mod Building
+pub mod Taking

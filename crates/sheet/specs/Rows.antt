@@ -118,11 +118,16 @@ module _ (f t : List ℕ) (g : List (List (List ℕ))) (good : badEntry f ≡ fa
       recast (b .same) (b .is) (entries-more (b .byte) u (h ∷ r) g (b .digit) (omega arith) (rest u c s))
   next-entry h r rest (at-line c p) q e = absurd (nil≢cons (sym (heads (sym e ∙ p) .1)))
 
--- The entries of a good row stand where they should.
-pub row-entries : (r : List (List ℕ)) (f t : List ℕ) (g : List (List (List ℕ))) → Clean t → recordFields t ≡ (f ∷ r) ∷ g → any badEntry (f ∷ r) ≡ false
+entries-on : (r : List (List ℕ)) (f t : List ℕ) (g : List (List (List ℕ))) → Clean t → recordFields t ≡ (f ∷ r) ∷ g → any badEntry (f ∷ r) ≡ false
     → Entries t (f ∷ r) g
 unfolding any
-row-entries [] f t g c e o = last-entry f t g (or-neither (badEntry f) false o .0) (front c) refl e
-row-entries (h ∷ r) f t g c e o =
+entries-on [] f t g c e o = last-entry f t g (or-neither (badEntry f) false o .0) (front c) refl e
+entries-on (h ∷ r) f t g c e o =
     let n = or-neither (badEntry f) (badEntry h || any badEntry r) o in
-    next-entry f t g (n .0) h r (λ u k q. row-entries r h u g k q (n .1)) (front c) refl e
+    next-entry f t g (n .0) h r (λ u k q. entries-on r h u g k q (n .1)) (front c) refl e
+
+-- The entries of a good row stand where they should.
+pub row-entries : (r : List (List ℕ)) (t : List ℕ) (g : List (List (List ℕ))) → Clean t → recordFields t ≡ r ∷ g → 1 ≤ length r → any badEntry r ≡ false
+    → Entries t r g
+row-entries [] t g c e h o = absurd (omega arith)
+row-entries (f ∷ r) t g c e h o = entries-on r f t g c e o

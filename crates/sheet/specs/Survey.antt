@@ -2,7 +2,7 @@
 use mathlib.Core.Path.{_≡_, refl, sym, ap, ap₂, _∙_}
 use mathlib.Core.Bool.{Bool, true, false, not, _&&_, _||_, or-false, or-true, or-assoc}
 use mathlib.Core.List.{List, [], _∷_, map}
-use Prim.Native.Nat.{ℕ, suc, _+_, _<_}
+use Prim.Native.Nat.{ℕ, suc, _+_, _≤_}
 use native.Mathlib.Nat.{add-zero}
 use native.Mathlib.Omega.{arith}
 use lib.Dec.{ltb, eqb}
@@ -150,15 +150,28 @@ chain false false false true e g = refl
 chain false false false false true g = refl
 chain false false false false false g = refl
 
--- The survey's answer is the definition's.
-pub survey-answers : (f : List ℕ) (r : List (List ℕ)) {g : List (List (List ℕ))} → Rows g
-    → takenGrid limits ((f ∷ r) ∷ g) ≡ resultOf (answerOf (surveyRecords start ((f ∷ r) ∷ g))) ((f ∷ r) ∷ g)
-unfolding takenGrid any
-survey-answers f r {g} rs =
-    let all : List (List (List ℕ)) = (f ∷ r) ∷ g in
+-- What the survey of all records says.
+pub record Flags (g : List (List (List ℕ))) (v : Survey) : Type 0 where
+  pub records : v .records ≡ length g
+  pub symbols : v .symbols ≡ sum (map wordLength g)
+  pub word : v .badword ≡ any (badWord limits) g
+  pub width : v .badwidth || not (eqb (v .width) (v .records + 1)) ≡ refused6 g
+  pub entry : v .badentry ≡ any badRow g
+
+flags : (f : List ℕ) (r : List (List ℕ)) {g : List (List (List ℕ))} → Rows g → Flags ((f ∷ r) ∷ g) (surveyRecords start ((f ∷ r) ∷ g))
+unfolding any
+flags f r {g} rs =
     let w : ℕ = suc (length r) in
     let m : ℕ = suc (length g) + 1 in
-    rw (first f r rs)
-    (chain (ltb 32 (length all)) (any (badWord limits) all) (ltb 128 (sum (map wordLength all))) (refused6 all) (any badRow all) all
-    ∙ ap (λ (d : Bool). resultOf (answerBy (ltb 32 (length all)) (any (badWord limits) all) (ltb 128 (sum (map wordLength all))) d (any badRow all)) all)
-    (sym (widths w m g (eqb w m) refl)))
+    rw (first f r rs) record { records = refl; symbols = refl; word = refl; width = widths w m g (eqb w m) refl; entry = refl }
+
+pub survey-flags : {g : List (List (List ℕ))} → Rows g → 1 ≤ length g → Flags g (surveyRecords start g)
+survey-flags no-row h = absurd (omega arith)
+survey-flags (row {f} {r} rs) h = flags f r rs
+
+-- The survey's answer is the definition's.
+pub survey-answers : (g : List (List (List ℕ))) (v : Survey) → Flags g v → takenGrid limits g ≡ resultOf (answerOf v) g
+unfolding takenGrid
+survey-answers g v f =
+    rw (f .width, f .records, f .symbols, f .word, f .entry)
+    (chain (ltb 32 (length g)) (any (badWord limits) g) (ltb 128 (sum (map wordLength g))) (refused6 g) (any badRow g) g)

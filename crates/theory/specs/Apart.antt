@@ -8,9 +8,10 @@ use native.Mathlib.Decide.{ℕ-discrete}
 use native.Mathlib.Omega.{arith}
 use lib.ListN.{length, length-append}
 use Rattle.code.specs.Definitions.Tables.{Table, word}
-use Rattle.theory.specs.Places.{Place, nextPlace, symbol, Ends, Step, inside, across, Compatible, FirstPair, CommonStep, Reached, start, onward, TwoEnds, NoTwoEnds}
+use Rattle.theory.specs.Places.{Place, symbol, Ends, Step, inside, across, Compatible, FirstPair, CommonStep, Reached, start, onward, TwoEnds, NoTwoEnds}
 use Rattle.theory.specs.Pairs.{compatible-reached}
 
+-- Places with the same word and the same index are the same.
 abbrev pub place-eq : {p q : Place} → p .w ≡ q .w → p .k ≡ q .k → p ≡ q
 place-eq e f = λ i. record { w = e i; k = f i }
 
@@ -57,6 +58,7 @@ module _ {t : Table} where
       go (inl h) = later c (ih h)
       go (inr h) = ends-before c r h
 
+  -- Only after two ends do both paths of a pair stand at one place.
   together : {m : List ℕ} {p q : Place} → Reached t m p q → p ≡ q → EndsBefore t m
   together (start f e) h = absurd (first-apart f h)
   together (onward {c = c} r s e) h = together-step c r (λ g. together r g) s h
@@ -69,6 +71,7 @@ module _ {t : Table} where
   pub apart : NoTwoEnds t → {m : List ℕ} {p q : Place} → Compatible t m p q → p ≡ q → ⊥
   apart n h e = let b = together (compatible-reached .0 h) e in n (b .n) (b .ends)
 
+  -- One step leads an inner place on.
   inside-only : {p a b : Place} → (Ends t p → ⊥) → Step t p a → Step t p b → a ≡ b
   inside-only n (inside h e) (inside k f) = e ∙ sym f
   inside-only n (inside h e) (across d k f g) = absurd (n d)

@@ -2,7 +2,6 @@
 -- It goes along all walks, however often they meet, so that a delay of a small table is shown by computation.
 use mathlib.Core.Path.{_≡_, refl, sym, ap, _∙_, subst}
 use mathlib.Core.Bool.{Bool, true, false, not, _&&_, false≢true}
-use mathlib.Core.List.{List}
 use Prim.Native.Nat.{ℕ, zero, suc, _-_, _≤_, _<_}
 use native.Mathlib.Decide.{ℕ-discrete}
 use native.Mathlib.Omega.{arith}
@@ -19,6 +18,7 @@ use Rattle.theory.specs.Ambiguity.{decipherable}
 use Rattle.theory.specs.Sharing.{share→pair}
 use Rattle.theory.specs.Walks.{Walk, stay, step, compatible-from, pair-iff}
 
+-- Every number below n passes the test.
 unfoldable pub everyBelow : (ℕ → Bool) → ℕ → Bool
 everyBelow f zero = true
 everyBelow f (suc n) = f n && everyBelow f n
@@ -45,6 +45,7 @@ module _ (t : Table) where
       let further = everyStep p (λ a. everyStep q (λ b. let r = boundedPair n a b in if eqb (symbol t a) (symbol t b) then r else true)) in
       if isEnd p && isEnd q then false else further
 
+  -- From every first pair fewer than n common steps lead on, and to no two ends. (A branch is bound by `let`, so that it is computed only where it is taken.)
   unfoldable pub bounded : ℕ → Bool
   unfolding everyBelow boundedPair
   bounded n =
@@ -127,17 +128,18 @@ module _ (t : Table) where
         (every-below _ (size t) (every-below _ (size t) e x (f .left-known)) y (f .right-known))
         (rw (ne-eqb x y (f .differ)) (eq-eqb _ _ (ap (symbol t) (sym (f .left)) ∙ f .same ∙ ap (symbol t) (f .right)))))
 
-    -- The test is right: no pair of two ends, and no more than n symbols reach a compatible pair.
+    -- Where the test is true there is no compatible pair of two ends.
     pub bounded-no-ends : NoTwoEnds t
     bounded-no-ends m h =
         let a = compatible-from {n = length m - 1} (h .pair) (omega (arith, compatible-long (h .pair))) in
         bounded-walk n (bounded-first (a .first)) (a .walk) .1 (h .left-ends) (h .right-ends)
 
+    -- Nor do more than n symbols reach a compatible pair.
     pub bounded-most : (k : ℕ) → PairAfter t k → k ≤ n
     bounded-most zero a = omega arith
     bounded-most (suc k) a = let z = pair-iff .0 a in omega (arith, bounded-walk n (bounded-first (z .first)) (z .further .walk) .0)
 
-    -- With two sequences that share n symbols, the delay.
+    -- With two sequences that share n symbols this shows the delay.
     pub bounded-delay : NonEmpty t → SharePrefix t n → Decipherable t × Delay t (suc n)
     bounded-delay ne s = (
       decipherable ne bounded-no-ends,

@@ -3,7 +3,6 @@ use mathlib.Core.Path.{_≡_}
 use mathlib.Core.List.{map}
 use mathlib.Core.Logic.{_⊎_, inl, inr}
 use Prim.Native.Nat.{ℕ, suc, _+_, _*_, _/_, _≤_, _<_}
-use native.Mathlib.Omega.{arith}
 use lib.ListN.{length}
 use Rattle.code.specs.Definitions.Lists.{sum}
 use Rattle.code.specs.Definitions.Tables.{Table, size, word}
@@ -25,21 +24,25 @@ module _ (t : Table) where
   unfoldable pub placeNumber : Place → ℕ
   placeNumber p = upTo (λ x. length (word t x)) (p .w) + p .k
 
+  -- the number of an unordered pair of places
   unfoldable pub pairNumber : Place → Place → ℕ
   unfolding placeNumber
   pairNumber p q = unordered (placeNumber p) (placeNumber q)
 
 module _ {t : Table} where
+  -- Each place has a number below the number of places,
   pub place-below : {p : Place} → Is t p → placeNumber t p < placeCount t
   unfolding placeNumber placeCount
   place-below {p} i = rw (← upTo-words (t .words)) (slot-below (λ x. length (word t x)) (p .w) (p .k) (size t) (i .within) (i .known))
 
+  -- of its own;
   pub place-unique : {p q : Place} → Is t p → Is t q → placeNumber t p ≡ placeNumber t q → p ≡ q
   unfolding placeNumber
   place-unique {p} {q} i j e =
       let r = slot-unique (λ x. length (word t x)) (p .w) (p .k) (q .w) (q .k) (i .within) (j .within) e in
       place-eq (r .0) (r .1)
 
+  -- and each unordered pair one below the number of unordered pairs.
   pub pair-below : {p q : Place} → Is t p → Is t q → pairNumber t p q < pairCount t
   unfolding pairNumber pairCount
   pair-below {p} {q} i j = unordered-below (placeNumber t p) (placeNumber t q) (placeCount t) (place-below i) (place-below j)

@@ -1,6 +1,6 @@
 -- The height of a pair is the number of common steps that lead it on at most. Heights come from the heights of the next pairs, the longest path from
 -- the heights of the first pairs; and a pair that comes back to itself is led on without end.
-use mathlib.Core.Path.{_≡_, refl}
+use mathlib.Core.Path.{_≡_}
 use mathlib.Core.List.{List}
 use Prim.Native.Nat.{ℕ, zero, suc, _+_, _-_, _≤_}
 use native.Mathlib.Omega.{arith}
@@ -10,7 +10,7 @@ use Rattle.code.specs.Definitions.Delays.{WithoutBound}
 use Rattle.theory.specs.Places.{Place, NonEmpty, Compatible, FirstPair, CommonStep, PairAfter, LongestPath}
 use Rattle.theory.specs.Pairs.{compatible-long}
 use Rattle.theory.specs.Sharing.{without-bound}
-use Rattle.theory.specs.Walks.{Walk, stay, step, Further, FirstFurther, walk-cast, walk-swap, walk-append, walk-cut, compatible-from, pair-iff, further-step}
+use Rattle.theory.specs.Walks.{Walk, stay, step, Further, walk-cast, walk-swap, walk-append, walk-cut, compatible-from, pair-iff, further-step}
 
 module _ (t : Table) where
   -- h common steps lead the pair on, and no more.

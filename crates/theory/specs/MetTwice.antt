@@ -2,16 +2,16 @@
 -- by 010 and by 0110, and the delay is 5.
 use mathlib.Core.Path.{_≡_, refl}
 use mathlib.Core.Bool.{true}
-use mathlib.Core.List.{List, [], _∷_}
+use mathlib.Core.List.{[], _∷_}
 use Prim.Native.Nat.{ℕ, suc, _<_}
 use native.Mathlib.Omega.{arith}
 use lib.Dec.{ltb}
 use lib.ListN.{length}
 use borrow.Author.Tests.{ltb-true}
-use Rattle.code.specs.Definitions.Tables.{Table, size, word, one, more}
+use Rattle.code.specs.Definitions.Tables.{Table, word, one, more}
 use Rattle.code.specs.Definitions.Readings.{Decipherable}
 use Rattle.code.specs.Definitions.Delays.{SharePrefix, Delay}
-use Rattle.theory.specs.Places.{Place, firstPlace, NonEmpty, Ends, FirstPair, CommonStep, Step, inside, across, Reached, start, onward}
+use Rattle.theory.specs.Places.{Place, firstPlace, NonEmpty, symbol, Ends, FirstPair, CommonStep, Step, inside, across, Reached, start, onward}
 use Rattle.theory.specs.Bounded.{everyBelow, every-below, bounded, bounded-delay}
 
 abbrev pub fourWords : Table
@@ -34,34 +34,20 @@ into e h = across e h refl refl
 along : {x k : ℕ} → suc k < length (word fourWords x) → Step fourWords (at x k) (at x (suc k))
 along h = inside h refl
 
+first : {x y : ℕ} → x < 4 → y < 4 → (x ≡ y → ⊥) → symbol fourWords (firstPlace x) ≡ symbol fourWords (firstPlace y)
+    → FirstPair fourWords (firstPlace x) (firstPlace y)
+first {x} {y} h k d e = record { x = x; y = y; left-known = h; right-known = k; differ = d; left = refl; right = refl; same = e }
+
 by-010 : Reached fourWords (0 ∷ 1 ∷ 0 ∷ []) (at 3 1) (at 0 0)
 by-010 =
-    let f : FirstPair fourWords (at 0 0) (at 1 0) = record {
-      x = 0;
-      y = 1;
-      left-known = omega arith;
-      right-known = omega arith;
-      differ = λ e. omega arith;
-      left = refl;
-      right = refl;
-      same = refl;
-    } in
+    let f : FirstPair fourWords (at 0 0) (at 1 0) = first (omega arith) (omega arith) (λ e. omega arith) refl in
     let a : CommonStep fourWords (at 0 0) (at 1 0) (at 3 0) (at 1 1) = record { left = into refl (omega arith); right = along (omega arith); same = refl } in
     let b : CommonStep fourWords (at 3 0) (at 1 1) (at 3 1) (at 0 0) = record { left = along (omega arith); right = into refl (omega arith); same = refl } in
     onward (onward (start f refl) a refl) b refl
 
 by-0110 : Reached fourWords (0 ∷ 1 ∷ 1 ∷ 0 ∷ []) (at 3 1) (at 0 0)
 by-0110 =
-    let f : FirstPair fourWords (at 1 0) (at 2 0) = record {
-      x = 1;
-      y = 2;
-      left-known = omega arith;
-      right-known = omega arith;
-      differ = λ e. omega arith;
-      left = refl;
-      right = refl;
-      same = refl;
-    } in
+    let f : FirstPair fourWords (at 1 0) (at 2 0) = first (omega arith) (omega arith) (λ e. omega arith) refl in
     let a : CommonStep fourWords (at 1 0) (at 2 0) (at 1 1) (at 2 1) = record { left = along (omega arith); right = along (omega arith); same = refl } in
     let b : CommonStep fourWords (at 1 1) (at 2 1) (at 3 0) (at 2 2) = record { left = into refl (omega arith); right = along (omega arith); same = refl } in
     let c : CommonStep fourWords (at 3 0) (at 2 2) (at 3 1) (at 0 0) = record { left = along (omega arith); right = into refl (omega arith); same = refl } in

@@ -1,5 +1,5 @@
 -- Walks of pairs by common steps. The pairs that suc k symbols reach are the pairs k common steps from a first pair.
-use mathlib.Core.Path.{_≡_, refl, sym, _∙_, subst}
+use mathlib.Core.Path.{_≡_, refl, subst}
 use mathlib.Core.List.{List, [], _∷_, _++_}
 use mathlib.Core.Logic.{_↔_}
 use Prim.Native.Nat.{ℕ, zero, suc, _+_, _≤_}
@@ -51,6 +51,7 @@ module _ {t : Table} where
   pub walk-cast : {n k : ℕ} {p q p′ q′ : Place} → n ≡ k → Walk t n p q p′ q′ → Walk t k p q p′ q′
   walk-cast {p = p} {q = q} {p′ = p′} {q′ = q′} e w = subst (λ (i : ℕ). Walk t i p q p′ q′) e w
 
+  -- The order of the places does not matter to a walk.
   pub walk-swap : {n : ℕ} {p q p′ q′ : Place} → Walk t n p q p′ q′ → Walk t n q p q′ p′
   walk-swap stay = stay
   walk-swap (step s w) = step (common-swap s) (walk-swap w)
@@ -65,6 +66,7 @@ module _ {t : Table} where
   walk-append stay v = walk-cast (omega arith) v
   walk-append (step s w) v = walk-cast (omega arith) (step s (walk-append w v))
 
+  -- One common step before others.
   pub further-step : {n : ℕ} {p q a b : Place} → CommonStep t p q a b → Further t n a b → Further t (suc n) p q
   further-step s f = record { p′ = f .p′; q′ = f .q′; walk = step s (f .walk) }
 
@@ -84,6 +86,7 @@ module _ {t : Table} where
     long = simp length-append (omega (arith, h .long));
   }
 
+  -- A reached pair is traced back to a first pair, step by step.
   trace : {m : List ℕ} {p q : Place} → Reached t m p q → Traced t m p q
   trace (start {c = c} f e) = trace-first c f
   trace (onward {c = c} r s e) = trace-step c (trace r) s
@@ -98,6 +101,7 @@ module _ {t : Table} where
     long = simp length-append (omega (arith, h .long));
   }
 
+  -- Each step of a walk from a reached pair reads one symbol more.
   walk-reached : {L n : ℕ} {p q p′ q′ : Place} → ReachedBy t L p q → Walk t n p q p′ q′ → ReachedBy t (L + n) p′ q′
   walk-reached h stay = by-cast (omega arith) h
   walk-reached h (step s w) = by-cast (omega arith) (walk-reached (by-step h s) w)
