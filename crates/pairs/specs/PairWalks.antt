@@ -16,21 +16,20 @@ use Rattle.places.specs.Whole.{LaidOut}
 use Rattle.theory.specs.Pairs.{compatible-reached, compatible-same, compatible-is}
 use Rattle.theory.specs.Paths.{first-is, step-is}
 use Rattle.theory.specs.Places.{Place, symbol, Is, Compatible, FirstPair, CommonStep, Reached, start as begin, onward as on}
+use Rattle.theory.specs.Searches.{GoalBy}
 use Rattle.pairs.specs.Numbers.{number, Way, inner, outer, number-below, number-symbol, number-first, step-way}
 
 -- the node of two places, in either order
 abbrev pub nodeOf : Table → Place → Place → ℕ
 nodeOf t p q = min (number t p) (number t q) * 128 + max (number t p) (number t q)
 
--- A walk that reads an opening of m, and not all of it, leads to a goal.
-pub record GoalBefore (f m : List ℕ) : Type 0 where
+-- An opening of m, and not all of it, is read by a walk to a goal.
+pub record GoalOnTheWay (f m : List ℕ) : Type 0 where
   pub k : List ℕ
   pub c : ℕ
   pub rest : List ℕ
   pub opening : m ≡ k ++ (c ∷ rest)
-  pub v : ℕ
-  pub walk : Reach (pairGraph f) k v
-  pub goal : pairGraph f .goal v ≡ true
+  pub goal : GoalBy (pairGraph f) k
 
 node-cast : {f : List ℕ} {a b c d v : ℕ} → a ≡ b → c ≡ d → NodeOf f a c v → NodeOf f b d v
 node-cast e g n = rw (← e, ← g) n
@@ -75,7 +74,7 @@ module _ {t : Table} {f : List ℕ} (l : LaidOut t f) where
         onward walk (leads-edge (l .laid) (node-leads (place-node i j e) k h (node-cast (sym a) (sym b) next-node)))
         (node-symbol next-node ∙ number-symbol l (step-is t (l .fits .some) i (s .left)) ∙ r)
 
-    by-ways : Way t f p p′ → Way t f q q′ → Reach (pairGraph f) (m ++ (c ∷ [])) (nodeOf t p′ q′) ⊎ GoalBefore f (m ++ (c ∷ []))
+    by-ways : Way t f p p′ → Way t f q q′ → Reach (pairGraph f) (m ++ (c ∷ [])) (nodeOf t p′ q′) ⊎ GoalOnTheWay f (m ++ (c ∷ []))
     by-ways (inner a x) (inner b y) = inl (by-slot 0 (rw (a, b) (omega arith)) (x 0) (y 0))
     by-ways (inner a x) (outer k b h y) = inl (by-slot k (rw (a, b) h) (x k) y)
     by-ways (outer k a h x) (inner b y) = inl (by-slot k (rw (a, b) h) x (y k))
@@ -84,33 +83,29 @@ module _ {t : Table} {f : List ℕ} (l : LaidOut t f) where
       c = c;
       rest = [];
       opening = refl;
-      v = nodeOf t p q;
-      walk = walk;
-      goal = node-goal (place-node i j e) a b;
+      goal = record { v = nodeOf t p q; walk = walk; met = node-goal (place-node i j e) a b };
     })
 
-  later : {m : List ℕ} (c : ℕ) → GoalBefore f m → GoalBefore f (m ++ (c ∷ []))
+  later : {m : List ℕ} (c : ℕ) → GoalOnTheWay f m → GoalOnTheWay f (m ++ (c ∷ []))
   later c g = record {
     k = g .k;
     c = g .c;
     rest = g .rest ++ (c ∷ []);
     opening = ap (λ (z : List ℕ). z ++ (c ∷ [])) (g .opening) ∙ append-assoc (g .k) (g .c ∷ g .rest) (c ∷ []);
-    v = g .v;
-    walk = g .walk;
     goal = g .goal;
   }
 
-  to-edge : {m : List ℕ} {c : ℕ} {p q p′ q′ : Place} → Compatible t m p q → Reach (pairGraph f) m (nodeOf t p q) ⊎ GoalBefore f m
-      → CommonStep t p q p′ q′ → symbol t p′ ≡ c → Reach (pairGraph f) (m ++ (c ∷ [])) (nodeOf t p′ q′) ⊎ GoalBefore f (m ++ (c ∷ []))
+  to-edge : {m : List ℕ} {c : ℕ} {p q p′ q′ : Place} → Compatible t m p q → Reach (pairGraph f) m (nodeOf t p q) ⊎ GoalOnTheWay f m
+      → CommonStep t p q p′ q′ → symbol t p′ ≡ c → Reach (pairGraph f) (m ++ (c ∷ [])) (nodeOf t p′ q′) ⊎ GoalOnTheWay f (m ++ (c ∷ []))
   to-edge h (inl w) s r =
       let i = compatible-is (l .fits .some) h in
       by-ways (i .0) (i .1) (compatible-same h) w s r (step-way l (i .0) (s .left)) (step-way l (i .1) (s .right))
   to-edge {c = c} h (inr g) s r = inr (later c g)
 
-  from-reached : {m : List ℕ} {p q : Place} → Reached t m p q → Reach (pairGraph f) m (nodeOf t p q) ⊎ GoalBefore f m
+  from-reached : {m : List ℕ} {p q : Place} → Reached t m p q → Reach (pairGraph f) m (nodeOf t p q) ⊎ GoalOnTheWay f m
   from-reached (begin s e) = inl (to-root s e)
   from-reached (on r s e) = to-edge (compatible-reached .1 r) (from-reached r) s e
 
   -- Symbols that reach two places are read by a walk to their node, unless an opening of them is read by a walk to a goal.
-  pub pair-walk : {m : List ℕ} {p q : Place} → Compatible t m p q → Reach (pairGraph f) m (nodeOf t p q) ⊎ GoalBefore f m
+  pub pair-walk : {m : List ℕ} {p q : Place} → Compatible t m p q → Reach (pairGraph f) m (nodeOf t p q) ⊎ GoalOnTheWay f m
   pair-walk h = from-reached (compatible-reached .0 h)
