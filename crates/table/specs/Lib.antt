@@ -5,3 +5,7 @@ pub mod Tested
 pub mod Accepts
 pub mod Digits
 pub mod Given
+pub mod Join
+pub mod Print
+pub mod Written
+pub mod Round
