@@ -7,7 +7,6 @@ use native.Mathlib.Omega.{arith}
 use lib.ListN.{getD, take, length-map, List·getD-map, List·getD-eq-default}
 use lib.Seq.{length-take-le, getD-take}
 use Rattle.code.specs.declared.Code.{Code}
-use Rattle.code.specs.declared.Word.{Word}
 use Rattle.code.specs.Definitions.Lists.{table, sum}
 use Rattle.code.specs.Definitions.Sheets.{limits}
 use Rattle.code.specs.Definitions.Tables.{size, word, symbolsOf, noWord, noRow, tableOf}
@@ -45,15 +44,11 @@ module _ (c : Code) (well : WellFormed limits c) where
   unfolding base
   base-sum x h = ap sum (table-same (lengthOf (tableOf c)) (lenOf c) x (λ k l. word-length k (omega arith)))
 
-  by-array : (k : ℕ) → c .count ≤ k → Dec (k < 32) → lenOf c k ≡ 0
-  by-array k h (yes l) = well .word k l .unused h
-  by-array k h (no l) = ap (λ (w : Word). w .len) (List·getD-eq-default (c .words) noWord {n = k} (omega (arith, well .words)))
-
   total : base (tableOf c) (c .count) ≤ 128
-  total = omega (arith, base-sum (c .count) (omega arith), sum-past (lenOf c) (c .count) 32 (well .most) (λ k h. by-array k h (decLt k 32)), well .total)
+  total = omega (arith, base-sum (c .count) (omega arith), sum-past (lenOf c) (c .count) 32 (well .most) (λ k h b. well .word k b .unused h), well .total)
 
   by-symbol : (x k : ℕ) → x < c .count → Dec (k < lengthOf (tableOf c) x) → getD (word (tableOf c) x) k 0 < 16
-  by-symbol x k h (yes l) = omega (arith, holds x h .symbols k l, well .word x (omega (arith, well .most)) .symbol k)
+  by-symbol x k h (yes l) = omega (arith, holds x h .symbols k l, well .word x (omega (arith, well .most)) .symbols .below k)
   by-symbol x k h (no l) = omega (arith, List·getD-eq-default (word (tableOf c) x) 0 {n = k} (omega arith))
 
   -- The table is within the limits.
