@@ -1,0 +1,4 @@
+pub mod Conditions
+pub mod Messages
+pub mod Sequences
+pub mod RoundTrip

@@ -1,0 +1,38 @@
+-- The message of a sequence grows by one word with each entry, so the message of its first entries is a prefix of the whole. In the table of a code
+-- the word that is added stands in the array.
+use mathlib.Core.Path.{_≡_, refl, sym, ap, _∙_}
+use mathlib.Core.List.{List, [], _∷_, _++_, map, append-assoc, append-nil}
+use Prim.Native.Nat.{ℕ, suc, _+_, _≤_, _<_}
+use native.Mathlib.Numerals.{add-one}
+use native.Mathlib.Omega.{arith}
+use lib.ListN.{length, take, drop, getD, length-append, length-take, length-map, take-append-drop, List·getD-map}
+use lib.Seq.{length-take-le, take-suc, take-all, getD-take}
+use Rattle.code.specs.declared.Code.{Code}
+use Rattle.code.specs.Definitions.Tables.{Table, size, word, message, symbolsOf, noWord, tableOf}
+
+module _ (t : Table) where
+  -- The message of two sequences in a row is their messages in a row.
+  pub message-append : (s u : List ℕ) → message t (s ++ u) ≡ message t s ++ message t u
+  message-append [] u = refl
+  message-append (x ∷ s) u = rw (message-append s u, append-assoc)
+
+  -- One entry more adds its word.
+  pub message-more : (s : List ℕ) (i : ℕ) → i < length s → message t (take (i + 1) s) ≡ message t (take i s) ++ word t (getD s i 0)
+  message-more s i h = rw (add-one, take-suc s i 0, message-append, append-nil)
+
+  pub message-all : (s : List ℕ) (i : ℕ) → length s ≤ i → message t (take i s) ≡ message t s
+  message-all s i h = rw (take-all i s h)
+
+  -- The message of the first entries is no longer than the whole.
+  pub message-part : (s : List ℕ) (i : ℕ) → length (message t (take i s)) ≤ length (message t s)
+  message-part s i =
+      let parts : message t s ≡ message t (take i s) ++ message t (drop i s) = sym (ap (message t) (take-append-drop i s)) ∙ message-append (take i s) (drop i s) in
+      omega (arith, simp length-append at (ap length parts))
+
+-- The table of a code has as many words as the code counts.
+pub size-of : (c : Code) → c .count ≤ length (c .words) → size (tableOf c) ≡ c .count
+size-of c h = length-map (take (c .count) (c .words)) symbolsOf ∙ length-take-le (c .count) (c .words) h
+
+-- and each is the one of that number in the array
+pub word-of : (c : Code) (x : ℕ) → x < c .count → word (tableOf c) x ≡ symbolsOf (getD (c .words) x noWord)
+word-of c x h = List·getD-map symbolsOf (take (c .count) (c .words)) x noWord ∙ ap symbolsOf (getD-take (c .count) (c .words) x noWord h)

@@ -1,0 +1,1 @@
+// Encoding: the symbols of a sequence's words, joined in a lent buffer.
