@@ -6,4 +6,5 @@ pub mod Sequences
 pub mod Sharing
 pub mod Delays
 pub mod Verdicts
+pub mod Lists
 pub mod Clean

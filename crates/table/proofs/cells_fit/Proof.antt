@@ -1,0 +1,64 @@
+use Prim.Native.Nat.{ℕ, _≤_, _<_, _-_}
+use native.Mathlib.Omega.{arith}
+use mathlib.Core.Path.{_≡_}
+use lib.ListN.{length}
+use borrow.Author.Needs.{needs}
+use Rattle.table.specs.Exactly.{Exactly, exactly-none, exactly-more}
+use Rattle.table.specs.Cells.{CellAt}
+use Rattle.table.proofs.cells_fit.Statement.{statement}
+use Rattle.table.proofs.cells_fit.Tie as tie
+use Rattle.table.proofs.cells_fit.Reads as reads
+use Rattle.table.proofs.cells_fit.Lts as lts
+use Rattle.table.proofs.and.Reads as and-reads
+use Rattle.table.proofs.cell_fits.Reads as cell-fits-reads
+
+abbrev Inv-loop : tie.InvT-loop
+Inv-loop a used bound ok₀ p₀ ok p = (p ≤ length a) × Exactly ok ((i : ℕ) → i < p → CellAt bound used a i)
+
+abbrev μ-loop : tie.MeasureT-loop
+μ-loop a used bound ok₀ p₀ ok p = length a - p
+
+loop-holds : tie.Need-loop-holds Inv-loop μ-loop
+loop-holds c = (omega arith, exactly-none (CellAt (c .before .args .bound) (c .before .args .used) (c .before .args .a .now)))
+
+shared-slice-read-cell-fits : tie.Need-shared-slice-read-cell-fits Inv-loop μ-loop
+shared-slice-read-cell-fits c = omega arith
+
+cell-fits-requires : tie.Need-cell-fits-requires Inv-loop μ-loop
+cell-fits-requires c κs = search needs
+
+and-requires : tie.Need-and-requires Inv-loop μ-loop
+and-requires c κs = search needs
+
+add-p : tie.Need-add-p Inv-loop μ-loop
+add-p c = omega arith
+
+loop-less : tie.Need-loop-less Inv-loop μ-loop
+loop-less c = omega arith
+
+loop-again : tie.Need-loop-again Inv-loop μ-loop
+loop-again c =
+    let l = c .before .before .before .before .loop in
+    let args = c .before .before .before .before .before .before .args in
+    (omega arith, rw (c .and .ensures) (exactly-more (CellAt (args .bound) (args .used) (args .a .now)) (l .p) (c .before .cell-fits .ensures) (l .inv .1)))
+
+returns : tie.Need-returns Inv-loop μ-loop
+returns c =
+    let l = c .before .loop in
+    let end : l .p ≡ length (c .before .before .before .args .a .now) = omega arith in
+    rw end at (l .inv .1)
+
+pub cells-fit-spec : {M : Type 1} → statement M
+cells-fit-spec =
+    tie.close
+    (tie.spec
+    Inv-loop
+    μ-loop
+    loop-holds
+    shared-slice-read-cell-fits
+    cell-fits-requires
+    and-requires
+    add-p
+    loop-less
+    loop-again
+    returns)

@@ -1,0 +1,68 @@
+use mathlib.Core.Path.{_≡_, refl, _∙_}
+use Prim.Native.Nat.{_-_, _≤_}
+use native.Mathlib.Omega.{arith}
+use borrow.Author.Needs.{needs}
+use Rattle.code.specs.Definitions.Lists.{table, sum}
+use Rattle.table.specs.WellFormed.{lenOf}
+use Rattle.table.specs.Tested.{room-more, room-left}
+use Rattle.table.proofs.total_fits.Statement.{statement}
+use Rattle.table.proofs.total_fits.Tie as tie
+use Rattle.table.proofs.total_fits.Reads as reads
+use Rattle.table.proofs.total_fits.Lts as lts
+use Rattle.table.proofs.minus.Reads as minus-reads
+
+abbrev Inv-loop : tie.InvT-loop
+Inv-loop code room₀ k₀ room k = (k ≤ 32) × (room ≡ 129 - sum (table (lenOf code) k))
+
+abbrev μ-loop : tie.MeasureT-loop
+μ-loop code room₀ k₀ room k = 32 - k
+
+add-room : tie.Need-add-room Inv-loop μ-loop
+add-room c = search needs
+
+loop-holds : tie.Need-loop-holds Inv-loop μ-loop
+unfolding table sum
+loop-holds c = (omega arith, refl)
+
+mul-w : tie.Need-mul-w Inv-loop μ-loop
+mul-w c = search needs
+
+element-copy-out-w : tie.Need-element-copy-out-w Inv-loop μ-loop
+element-copy-out-w c = search needs
+
+minus-requires : tie.Need-minus-requires Inv-loop μ-loop
+minus-requires c κs = search needs
+
+add-k : tie.Need-add-k Inv-loop μ-loop
+add-k c = omega arith
+
+loop-less : tie.Need-loop-less Inv-loop μ-loop
+loop-less c = omega arith
+
+loop-again : tie.Need-loop-again Inv-loop μ-loop
+loop-again c =
+    let s = c .before .before .before in
+    let l = s .loop in
+    (omega arith, c .minus .ensures ∙ room-more (s .before .args .t1) (l .k) (l .room) (l .inv .1))
+
+returns : tie.Need-returns Inv-loop μ-loop
+returns c =
+    let l = c .before .loop in
+    let end : l .k ≡ 32 = omega arith in
+    room-left (c .before .before .args .t1) (l .k) (l .room) end (l .inv .1)
+
+pub total-fits-spec : {M : Type 1} → statement M
+total-fits-spec =
+    tie.close
+    (tie.spec
+    Inv-loop
+    μ-loop
+    add-room
+    loop-holds
+    mul-w
+    element-copy-out-w
+    minus-requires
+    add-k
+    loop-less
+    loop-again
+    returns)

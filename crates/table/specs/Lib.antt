@@ -1,0 +1,4 @@
+pub mod Exactly
+pub mod WellFormed
+pub mod Cells
+pub mod Tested

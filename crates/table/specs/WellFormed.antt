@@ -1,0 +1,47 @@
+-- The table values that 01's limits and the canonical form allow: words and entries within their bounds, and zero wherever nothing stands.
+-- Shown elsewhere: they are the tables that an accepted sheet gives.
+use mathlib.Core.Path.{_≡_}
+use Prim.Native.Nat.{ℕ, _≤_, _<_}
+use lib.ListN.{length, getD}
+use Rattle.code.specs.declared.Word.{Word}
+use Rattle.code.specs.declared.Row.{Row}
+use Rattle.code.specs.declared.Code.{Code}
+use Rattle.code.specs.declared.Limits.{Limits}
+use Rattle.code.specs.Definitions.Lists.{table, sum}
+use Rattle.code.specs.Definitions.Tables.{noWord, noRow}
+
+abbrev pub lenOf : Code → ℕ → ℕ
+lenOf c k = getD (c .words) k noWord .len
+
+module _ (l : Limits) where
+  -- Word k of a code of n words.
+  pub record WordFits (n k : ℕ) (w : Word) : Type 0 where
+    pub array : length (w .symbols) ≡ l .symbols
+    pub some : k < n → 1 ≤ w .len
+    pub short : w .len ≤ l .symbols
+    pub unused : n ≤ k → w .len ≡ 0
+    pub symbol : (p : ℕ) → getD (w .symbols) p 0 < 16
+    pub past : (p : ℕ) → w .len ≤ p → getD (w .symbols) p 0 ≡ 0
+
+  -- Row x of the follow matrix of a code of n words.
+  pub record RowFits (n x : ℕ) (r : Row) : Type 0 where
+    pub array : length (r .entries) ≡ l .words
+    pub bit : (y : ℕ) → getD (r .entries) y 0 ≤ 1
+    pub unused : n ≤ x → (y : ℕ) → getD (r .entries) y 0 ≡ 0
+    pub past : (y : ℕ) → n ≤ y → getD (r .entries) y 0 ≡ 0
+
+  module _ (c : Code) where
+    abbrev pub WordAt : ℕ → Type 0
+    WordAt k = WordFits (c .count) k (getD (c .words) k noWord)
+
+    abbrev pub RowAt : ℕ → Type 0
+    RowAt x = RowFits (c .count) x (getD (c .rows) x noRow)
+
+  pub record WellFormed (c : Code) : Type 0 where
+    pub one : 1 ≤ c .count
+    pub most : c .count ≤ l .words
+    pub words : length (c .words) ≡ l .words
+    pub rows : length (c .rows) ≡ l .words
+    pub word : (k : ℕ) → k < l .words → WordAt c k
+    pub row : (x : ℕ) → x < l .words → RowAt c x
+    pub total : sum (table (lenOf c) (l .words)) ≤ l .total

@@ -1,0 +1,118 @@
+// The test for refusal 8: whether an accepted sheet gives a table value.
+
+use code::Code;
+use code::Row;
+use code::Word;
+ghost use mathlib.Core.Bool.{_&&_};
+ghost use mathlib.Core.Path.{_≡_};
+ghost use Prim.Native.Nat.{ℕ, _-_, _≤_, _<_};
+ghost use Rattle.code.specs.Definitions.Lists.{table, sum};
+ghost use Rattle.code.specs.Definitions.Sheets.{limits};
+ghost use Rattle.table.specs.WellFormed.{WordFits, RowFits, WordAt, RowAt, WellFormed, lenOf};
+ghost use Rattle.table.specs.Exactly.{Exactly};
+ghost use Rattle.table.specs.Cells.{CellFits, CellsFit};
+
+fn and(a: bool, b: bool) -> bool
+    ensures { λ r. ⌜ r ≡ (a && b) ⌝ }
+{
+    if a { b } else { false }
+}
+
+fn cell_fits(v: u8, p: usize, used: usize, bound: u8) -> bool
+    ensures { λ r. ⌜ Exactly r (CellFits bound used p v) ⌝ }
+{
+    if p < used { v < bound } else { v == 0 }
+}
+
+fn cells_fit(a: &[u8], used: usize, bound: u8) -> bool
+    ensures { λ r. ⌜ Exactly r (CellsFit bound used (now (a .entry))) ⌝ }
+{
+    let mut ok = true;
+    let mut p = 0;
+    while p < a.len() {
+        ok = and(cell_fits(a[p], p, used, bound), ok);
+        p += 1;
+    }
+    ok
+}
+
+fn word_fits(w: Word, k: usize, n: usize) -> bool
+    ensures { λ r. ⌜ Exactly r (WordFits limits n k w) ⌝ }
+{
+    let symbols = w.symbols;
+    let cells = cells_fit(&symbols, w.len, Word::ALPHABET);
+    if k < n {
+        and(and(1 <= w.len, w.len <= Word::SYMBOLS), cells)
+    } else {
+        and(w.len == 0, cells)
+    }
+}
+
+fn row_fits(row: Row, x: usize, n: usize) -> bool
+    ensures { λ r. ⌜ Exactly r (RowFits limits n x row) ⌝ }
+{
+    let entries = row.entries;
+    if x < n {
+        cells_fit(&entries, n, 2)
+    } else {
+        cells_fit(&entries, 0, 2)
+    }
+}
+
+fn words_fit(code: Code) -> bool
+    ensures { λ r. ⌜ Exactly r ((k : ℕ) → k < 32 → WordAt limits code k) ⌝ }
+{
+    let mut ok = true;
+    let mut k = 0;
+    while k < Code::WORDS {
+        let w = code.words[k];
+        ok = and(word_fits(w, k, code.count), ok);
+        k += 1;
+    }
+    ok
+}
+
+fn rows_fit(code: Code) -> bool
+    ensures { λ r. ⌜ Exactly r ((x : ℕ) → x < 32 → RowAt limits code x) ⌝ }
+{
+    let mut ok = true;
+    let mut x = 0;
+    while x < Code::WORDS {
+        let row = code.rows[x];
+        ok = and(row_fits(row, x, code.count), ok);
+        x += 1;
+    }
+    ok
+}
+
+// a - b, and 0 where b is greater.
+fn minus(a: usize, b: usize) -> usize
+    ensures { λ r. ⌜ r ≡ a - b ⌝ }
+{
+    if b <= a { a - b } else { 0 }
+}
+
+fn total_fits(code: Code) -> bool
+    ensures { λ r. ⌜ Exactly r (sum (table (lenOf code) 32) ≤ 128) ⌝ }
+{
+    // One more than the symbols that may still come.
+    let mut room = Code::SYMBOLS + 1;
+    let mut k = 0;
+    while k < Code::WORDS {
+        let w = code.words[k];
+        room = minus(room, w.len);
+        k += 1;
+    }
+    0 < room
+}
+
+// An accepted sheet gives this table: the answer to refusal 8.
+pub fn well_formed(code: Code) -> bool
+    ensures { λ r. ⌜ Exactly r (WellFormed limits code) ⌝ }
+{
+    let n = code.count;
+    and(
+        and(1 <= n, n <= Code::WORDS),
+        and(and(words_fit(code), rows_fit(code)), total_fits(code)),
+    )
+}
