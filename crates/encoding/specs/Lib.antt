@@ -1,3 +1,4 @@
+pub mod Passes
 pub mod Conditions
 pub mod Messages
 pub mod Sequences

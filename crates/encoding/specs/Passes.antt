@@ -1,0 +1,114 @@
+-- The passes of encoding over a sequence: each keeps what it knows of the entries passed, and one entry more is one lemma.
+use mathlib.Core.Path.{_≡_, refl, sym, ap, _∙_}
+use mathlib.Core.Bool.{true, false, false≢true}
+use mathlib.Core.List.{List, _++_, append-assoc}
+use Prim.Native.Nat.{ℕ, _+_, _≤_, _<_, min}
+use native.Mathlib.Omega.{arith}
+use lib.ListN.{length, take, drop, getD, length-append}
+use lib.Seq.{length-take-le, take-append-seam, drop-append-add, drop-drop, paste}
+use borrow.Author.Tests.{eqb-false, eq-eqb, ne-eqb}
+use Rattle.code.specs.declared.Word.{Word}
+use Rattle.code.specs.declared.Row.{Row}
+use Rattle.code.specs.declared.Code.{Code}
+use Rattle.code.specs.Definitions.Tables.{size, word, message, symbolsOf, noWord, noRow, entryOf, tableOf}
+use Rattle.code.specs.Definitions.Sheets.{limits}
+use Rattle.code.specs.Definitions.Operations.{HasUnknown, HasForbidden, written}
+use Rattle.table.specs.Exactly.{Exactly, exactly-true, exactly-false}
+use Rattle.table.specs.WellFormed.{WordFits, WellFormed}
+use Rattle.encoding.specs.Messages.{size-of, word-of, message-more, message-all, message-part}
+
+-- Refusal 9: the entries passed are words.
+
+-- Each of the first i entries of s is a word of the code c.
+abbrev pub WordsBelow : Code → List ℕ → ℕ → Type 0
+WordsBelow c s i = (k : ℕ) → k < i → getD s k 0 < c .count
+
+module _ {c : Code} (well : WellFormed limits c) where
+  count-size : size (tableOf c) ≡ c .count
+  count-size = size-of c (omega (arith, well .most, well .words))
+
+  pub unknown-here : (s : List ℕ) (i : ℕ) → i < length s → c .count ≤ getD s i 0 → Exactly true (HasUnknown (tableOf c) s)
+  unknown-here s i h u = exactly-true (record { at = i; within = h; unknown = rw count-size u })
+
+  pub unknown-nowhere : (s : List ℕ) (i : ℕ) → length s ≤ i → WordsBelow c s i → Exactly false (HasUnknown (tableOf c) s)
+  unknown-nowhere s i h w = exactly-false (λ u. let x = w (u .at) (omega (arith, u .within)) in omega (arith, count-size, u .unknown))
+
+-- A list pasted behind what is written lengthens it.
+written-more : (m b ws : List ℕ) (n : ℕ) → n ≤ length ws → paste (written m b) (length m) ws n ≡ written (m ++ take n ws) b
+written-more m b ws n h = rw (take-append-seam, drop-append-add, drop-drop, length-append, length-take-le n ws h)
+
+-- A table that a sheet gives, and a sequence of its words.
+pub record Known (c : Code) (s : List ℕ) : Type 0 where
+  pub well : WellFormed limits c
+  pub known : WordsBelow c s (length s)
+
+-- The word and the row that an entry names.
+abbrev pub wordAt : Code → List ℕ → ℕ → Word
+wordAt c s i = getD (c .words) (getD s i 0) noWord
+
+abbrev pub rowAt : Code → List ℕ → ℕ → Row
+rowAt c s i = getD (c .rows) (getD s i 0) noRow
+
+module _ {c : Code} {s : List ℕ} (known : Known c s) (i : ℕ) (within : i < length s) where
+  pub known-number : getD s i 0 < 32
+  known-number = omega (arith, known .known i within, known .well .most)
+
+  known-fits : WordFits limits (c .count) (getD s i 0) (wordAt c s i)
+  known-fits = known .well .word (getD s i 0) known-number
+
+  pub known-short : wordAt c s i .len ≤ 16
+  known-short = known-fits .short
+
+  pub known-word : wordAt c s i .len ≤ length (wordAt c s i .symbols)
+  known-word = omega (arith, known-fits .short, known-fits .array)
+
+  pub known-row : length (rowAt c s i .entries) ≡ 32
+  known-row = known .well .row (getD s i 0) known-number .array
+
+  -- One entry more adds its word to the message.
+  pub message-on : message (tableOf c) (take (i + 1) s) ≡ message (tableOf c) (take i s) ++ symbolsOf (wordAt c s i)
+  message-on = message-more (tableOf c) s i within ∙ rw (word-of c (getD s i 0) (known .known i within))
+
+  pub length-on : length (message (tableOf c) (take (i + 1) s)) ≡ length (message (tableOf c) (take i s)) + wordAt c s i .len
+  length-on = rw (message-on, length-append, length-take-le (wordAt c s i .len) (wordAt c s i .symbols) known-word)
+
+-- Refusal 10: the pairs passed are permitted.
+
+-- Entry k + 1 of s may come immediately after entry k.
+abbrev pub FollowsAt : Code → List ℕ → ℕ → Type 0
+FollowsAt c s k = entryOf c (getD s (k + 1) 0) (getD s k 0) ≡ 1
+
+abbrev pub FollowsBelow : Code → List ℕ → ℕ → Type 0
+FollowsBelow c s i = (k : ℕ) → k < i → FollowsAt c s k
+
+module _ {c : Code} {s : List ℕ} (known : Known c s) where
+  pub forbidden-here : (i : ℕ) → i + 1 < length s → (FollowsAt c s i → ⊥) → Exactly true (HasForbidden (tableOf c) s)
+  forbidden-here i h f = exactly-true (record { at = i; within = h; forbidden = ne-eqb _ _ f })
+
+  pub forbidden-nowhere : (i : ℕ) → length s ≤ i + 1 → FollowsBelow c s i → Exactly false (HasForbidden (tableOf c) s)
+  forbidden-nowhere i h f = exactly-false (λ u. eqb-false _ _ (u .forbidden) (f (u .at) (omega (arith, u .within))))
+
+  -- Refusal 11: the length of the message, as far as the limit.
+
+  pub length-more : (i n : ℕ) → i < length s → n ≡ length (message (tableOf c) (take i s)) → n + wordAt c s i .len ≡ length (message (tableOf c) (take (i + 1) s))
+  length-more i n h e = rw e (sym (length-on known i h))
+
+  pub length-over : (i n : ℕ) → i < length s → n ≡ length (message (tableOf c) (take i s)) → 16384 < n + wordAt c s i .len
+      → 16385 ≡ min (length (message (tableOf c) s)) 16385
+  length-over i n h e over = omega (arith, length-on known i h, message-part (tableOf c) s (i + 1))
+
+  pub length-whole : (i n : ℕ) → length s ≤ i → n ≡ length (message (tableOf c) (take i s)) → n ≤ 16384 → n ≡ min (length (message (tableOf c) s)) 16385
+  length-whole i n h e within = omega (arith, ap length (message-all (tableOf c) s i h))
+
+  -- Writing: the message of the entries passed stands at the start of the buffer.
+
+  pub write-room : (i at n : ℕ) → i < length s → at ≡ length (message (tableOf c) (take i s)) → length (message (tableOf c) s) ≤ n → at + wordAt c s i .len ≤ n
+  write-room i at n h e room = omega (arith, length-on known i h, message-part (tableOf c) s (i + 1))
+
+  pub write-more : (i at : ℕ) (b m m′ : List ℕ) → i < length s → at ≡ length (message (tableOf c) (take i s)) → m ≡ written (message (tableOf c) (take i s)) b
+      → m′ ≡ paste m at (wordAt c s i .symbols) (wordAt c s i .len) → m′ ≡ written (message (tableOf c) (take (i + 1) s)) b
+  write-more i at b m m′ h e w p =
+      p ∙ rw (w, e, message-on known i h) (written-more (message (tableOf c) (take i s)) b (wordAt c s i .symbols) (wordAt c s i .len) (known-word known i h))
+
+  pub write-whole : (i : ℕ) (b m : List ℕ) → length s ≤ i → m ≡ written (message (tableOf c) (take i s)) b → m ≡ written (message (tableOf c) s) b
+  write-whole i b m h w = rw (← message-all (tableOf c) s i h) w
