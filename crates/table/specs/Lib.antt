@@ -2,3 +2,9 @@ pub mod Exactly
 pub mod WellFormed
 pub mod Cells
 pub mod Tested
+pub mod Accepts
+pub mod Digits
+pub mod Given
+pub mod Join
+pub mod Print
+pub mod Written

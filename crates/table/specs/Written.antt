@@ -1,0 +1,98 @@
+-- What stands in the sheet that is written for a well-formed table: its fields are digits, its records and fields are those that were joined, and it is short enough.
+use mathlib.Core.Path.{_≡_, refl, sym, ap, _∙_}
+use mathlib.Core.Bool.{true, false}
+use mathlib.Core.List.{List, [], _∷_, _++_, map}
+use Prim.Native.Nat.{ℕ, _+_, _*_, _≤_, _<_}
+use native.Mathlib.Omega.{arith}
+use native.Mathlib.Nat.{mul-le-mul}
+use native.Mathlib.Decide.{decLt}
+use lib.ListN.{length, take, getD, length-append, length-map, length-take, List·getD-map, List·getD-eq-default}
+use lib.Seq.{getD-take, length-take-le}
+use Rattle.code.specs.declared.Code.{Code}
+use Rattle.code.specs.declared.Limits.{Limits}
+use Rattle.code.specs.Definitions.Lists.{every, table, sum}
+use Rattle.code.specs.Definitions.Tables.{noWord, noRow, symbolsOf, entryOf}
+use Rattle.code.specs.Definitions.Sheets.{isDigit, body, grid, records, fields, badBytes}
+use Rattle.code.specs.Laws.Lists.{length-table, getD-table, table-same, map-table, every-all, sum-past, sum-bound}
+use Rattle.code.specs.Laws.Clean.{bad-end, body-end}
+use Rattle.table.specs.WellFormed.{lenOf, WellFormed}
+use Rattle.table.specs.Digits.{digitOf, digit-digit}
+use Rattle.table.specs.Join.{join, isPlain, fields-join, records-join, bad-join, plain-join, length-join}
+use Rattle.table.specs.Print.{wordField, entryField, fieldsOf, lineOf, linesOf, print}
+
+take-zeros : (n : ℕ) (s : List ℕ) → ((p : ℕ) → n ≤ p → getD s p 0 ≡ 0) → (p : ℕ) → Dec (p < n) → getD (take n s) p 0 ≡ getD s p 0
+take-zeros n s zeros p (yes h) = getD-take n s p 0 h
+take-zeros n s zeros p (no h) = List·getD-eq-default (take n s) 0 (omega (arith, length-take n s)) ∙ sym (zeros p (omega arith))
+
+module _ (l : Limits) (c : Code) (w : WellFormed l c) where
+  module _ (k : ℕ) (h : k < l .words) where
+    pub symbol-written : (p : ℕ) → getD (symbolsOf (getD (c .words) k noWord)) p 0 ≡ getD (getD (c .words) k noWord .symbols) p 0
+    symbol-written p = take-zeros (lenOf c k) (getD (c .words) k noWord .symbols) (w .word k h .past) p (decLt p (lenOf c k))
+
+    pub length-word : length (wordField c k) ≡ lenOf c k
+    length-word =
+        length-map (symbolsOf (getD (c .words) k noWord)) digitOf
+        ∙ length-take-le (lenOf c k) (getD (c .words) k noWord .symbols) (omega (arith, w .word k h .short, w .word k h .array))
+
+    word-digits : every isDigit (wordField c k) ≡ true
+    word-digits =
+        every-all isDigit (wordField c k) (digitOf 0)
+        (λ p i. rw (List·getD-map digitOf (symbolsOf (getD (c .words) k noWord)) p 0, symbol-written p) (digit-digit _ (w .word k h .symbol p)))
+
+    entries-digits : every (every isDigit) (table (entryField c k) (c .count)) ≡ true
+    unfolding every
+    entries-digits =
+        every-all (every isDigit) (table (entryField c k) (c .count)) []
+        (λ y i. rw (getD-table (entryField c k) (c .count) y [] (rw length-table at i), digit-digit (entryOf c k y) (omega (arith, w .row k h .bit y))))
+
+    fields-digits : every (every isDigit) (fieldsOf c k) ≡ true
+    unfolding every
+    fields-digits = rw (word-digits, entries-digits)
+
+    -- each field with its comma
+    entries-length : sum (map (λ (f : List ℕ). length f + 1) (table (entryField c k) (c .count))) ≤ c .count * 2
+    unfolding table sum
+    entries-length =
+        let none : ℕ → ℕ = λ y. 0 in
+        rw (map-table (λ (f : List ℕ). length f + 1) (entryField c k) (c .count))
+        (omega (arith, sum-bound (λ y. 2) none 2 (c .count) (λ y i. omega arith), sum-past none 0 (c .count) (omega arith) (λ y i j. refl)))
+
+    line-length : length (lineOf c k) + 2 ≤ lenOf c k + (c .count * 2 + 3)
+    unfolding sum
+    line-length = omega (arith, length-join (44 ∷ []) (fieldsOf c k), length-word, entries-length)
+
+  within : (k : ℕ) → k < c .count → k < l .words
+  within k h = omega (arith, w .most)
+
+  lines-plain : every (every isPlain) (table (lineOf c) (c .count)) ≡ true
+  lines-plain =
+      every-all (every isPlain) (table (lineOf c) (c .count)) []
+      (λ x i. let x< : x < c .count = rw length-table at i in rw (getD-table (lineOf c) (c .count) x [] x<) (plain-join (fieldsOf c x) (fields-digits x (within x x<))))
+
+  pub written-bytes : badBytes false (print c) ≡ false
+  unfolding print
+  written-bytes = bad-end false (linesOf c) ∙ bad-join (table (lineOf c) (c .count)) lines-plain
+
+  pub written-grid : grid (print c) ≡ table (fieldsOf c) (c .count)
+  unfolding grid print
+  written-grid =
+      rw (body-end (linesOf c), records-join (table (lineOf c) (c .count)) (rw (length-table (lineOf c) (c .count)) (w .one)) lines-plain)
+      (map-table fields (lineOf c) (c .count)
+      ∙ table-same (λ x. fields (lineOf c x)) (fieldsOf c) (c .count) (λ x h. fields-join (fieldsOf c x) (omega arith) (fields-digits x (within x h))))
+
+  -- the symbols of the words in use are all there are
+  pub total-used : sum (table (lenOf c) (c .count)) ≤ l .total
+  total-used = omega (arith, w .total, sum-past (lenOf c) (c .count) (l .words) (w .most) (λ k h i. w .word k i .unused h))
+
+  pub written-some : 0 < length (print c)
+  unfolding print
+  written-some = omega (arith, length-append (linesOf c) (13 ∷ 10 ∷ []))
+
+  pub written-short : l .total + l .words * (l .words * 2 + 3) + 2 ≤ l .bytes → length (print c) ≤ l .bytes
+  unfolding print
+  written-short room =
+      let lines : length (linesOf c) ≤ sum (table (λ x. length (lineOf c x) + 2) (c .count)) =
+        rw (map-table (λ (f : List ℕ). length f + 2) (lineOf c) (c .count)) at (length-join (13 ∷ 10 ∷ []) (table (lineOf c) (c .count))) in
+      let bound = sum-bound (λ x. length (lineOf c x) + 2) (lenOf c) (c .count * 2 + 3) (c .count) (λ x h. line-length x (within x h)) in
+      let square : c .count * (c .count * 2 + 3) ≤ l .words * (l .words * 2 + 3) = mul-le-mul (w .most) (omega (arith, w .most)) in
+      omega (arith, length-append (linesOf c) (13 ∷ 10 ∷ []), total-used)
