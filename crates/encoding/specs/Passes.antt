@@ -3,6 +3,7 @@ use mathlib.Core.Path.{_≡_, refl, sym, ap, _∙_}
 use mathlib.Core.Bool.{true, false, false≢true}
 use mathlib.Core.List.{List, _++_, append-assoc}
 use Prim.Native.Nat.{ℕ, _+_, _≤_, _<_, min}
+use native.Mathlib.Decide.{decLt}
 use native.Mathlib.Omega.{arith}
 use lib.ListN.{length, take, drop, getD, length-append}
 use lib.Seq.{length-take-le, take-append-seam, drop-append-add, drop-drop, paste}
@@ -32,6 +33,14 @@ module _ {c : Code} (well : WellFormed limits c) where
 
   pub unknown-nowhere : (s : List ℕ) (i : ℕ) → length s ≤ i → WordsBelow c s i → Exactly false (HasUnknown (tableOf c) s)
   unknown-nowhere s i h w = exactly-false (λ u. let x = w (u .at) (omega (arith, u .within)) in omega (arith, count-size, u .unknown))
+
+  -- A sequence without unknown entry consists of words.
+  pub all-words : (s : List ℕ) → (HasUnknown (tableOf c) s → ⊥) → WordsBelow c s (length s)
+  all-words s none i h = by-test (decLt (getD s i 0) (c .count))
+    where
+      by-test : Dec (getD s i 0 < c .count) → getD s i 0 < c .count
+      by-test (yes x) = x
+      by-test (no x) = absurd (none (record { at = i; within = h; unknown = omega (arith, count-size) }))
 
 -- A list pasted behind what is written lengthens it.
 written-more : (m b ws : List ℕ) (n : ℕ) → n ≤ length ws → paste (written m b) (length m) ws n ≡ written (m ++ take n ws) b

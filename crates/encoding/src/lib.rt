@@ -1,14 +1,17 @@
 // Encoding: the symbols of a sequence's words, joined in a lent buffer. Refusals 9, 10 and 11 are a pass over the sequence each; a last pass writes.
 
 use code::Code;
+use code::Encoding;
 use code::Message;
+use code::Refusal;
+use code::SymbolCount;
 use code::Word;
 
 ghost use mathlib.Core.Path.{_≡_};
 ghost use Prim.Native.Nat.{_+_, _≤_, min};
 ghost use lib.ListN.{length};
 ghost use lib.Seq.{paste};
-ghost use Rattle.code.specs.Definitions.Operations.{HasUnknown, HasForbidden, written};
+ghost use Rattle.code.specs.Definitions.Operations.{HasUnknown, HasForbidden, written, Encodes};
 ghost use Rattle.code.specs.Definitions.Sheets.{limits};
 ghost use Rattle.code.specs.Definitions.Tables.{tableOf, message as messageOf};
 ghost use Rattle.table.specs.Exactly.{Exactly};
@@ -89,4 +92,28 @@ fn write_message(code: Code, words: &[u8], message: &mut [u8])
         at = write_word(w, message, at);
         i += 1;
     }
+}
+
+// Encodes a sequence of word numbers: its message stands at the start of the buffer. Refused with 8, 9, 10, 11 or 13, it leaves the buffer as it was.
+pub fn encode(code: Code, words: &[u8], message: &mut [u8]) -> Encoding
+    ensures { λ r. ⌜ Encodes limits code (now (words .entry)) (now (message .entry)) (now (message .exit)) r ⌝ }
+{
+    if !table::well_formed(code) {
+        return Encoding::Refused(Refusal::NotFromSheet);
+    }
+    if has_unknown(code, words) {
+        return Encoding::Refused(Refusal::UnknownWord);
+    }
+    if has_forbidden(code, words) {
+        return Encoding::Refused(Refusal::ForbiddenPair);
+    }
+    let n = message_len(code, words);
+    if Message::SYMBOLS < n {
+        return Encoding::Refused(Refusal::MessageLength);
+    }
+    if message.len() < n {
+        return Encoding::Refused(Refusal::ShortBuffer);
+    }
+    write_message(code, words, message);
+    Encoding::Encoded(SymbolCount(n))
 }
