@@ -8,3 +8,4 @@ pub mod Given
 pub mod Join
 pub mod Print
 pub mod Written
+pub mod Round

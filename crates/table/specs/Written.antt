@@ -13,12 +13,16 @@ use Rattle.code.specs.declared.Limits.{Limits}
 use Rattle.code.specs.Definitions.Lists.{every, table, sum}
 use Rattle.code.specs.Definitions.Tables.{noWord, noRow, symbolsOf, entryOf}
 use Rattle.code.specs.Definitions.Sheets.{isDigit, body, grid, records, fields, badBytes}
-use Rattle.code.specs.Laws.Lists.{length-table, getD-table, table-same, map-table, every-all, sum-past, sum-bound}
+use Rattle.code.specs.Laws.Lists.{length-table, getD-table, table-same, map-table, every-all, every-table, sum-past, sum-bound}
 use Rattle.code.specs.Laws.Clean.{bad-end, body-end}
 use Rattle.table.specs.WellFormed.{lenOf, WellFormed}
 use Rattle.table.specs.Digits.{digitOf, digit-digit}
 use Rattle.table.specs.Join.{join, isPlain, fields-join, records-join, bad-join, plain-join, length-join}
 use Rattle.table.specs.Print.{wordField, entryField, fieldsOf, lineOf, linesOf, print}
+
+-- A sheet has room for every table: for the symbols, for each of the entries with a comma, and for the separators.
+abbrev pub Roomy : Limits → Type 0
+Roomy l = l .total + l .words * (l .words * 2 + 3) + 2 ≤ l .bytes
 
 take-zeros : (n : ℕ) (s : List ℕ) → ((p : ℕ) → n ≤ p → getD s p 0 ≡ 0) → (p : ℕ) → Dec (p < n) → getD (take n s) p 0 ≡ getD s p 0
 take-zeros n s zeros p (yes h) = getD-take n s p 0 h
@@ -42,8 +46,7 @@ module _ (l : Limits) (c : Code) (w : WellFormed l c) where
     entries-digits : every (every isDigit) (table (entryField c k) (c .count)) ≡ true
     unfolding every
     entries-digits =
-        every-all (every isDigit) (table (entryField c k) (c .count)) []
-        (λ y i. rw (getD-table (entryField c k) (c .count) y [] (rw length-table at i), digit-digit (entryOf c k y) (omega (arith, w .row k h .bit y))))
+        every-table (every isDigit) (entryField c k) (c .count) (λ y i. rw (digit-digit (entryOf c k y) (omega (arith, w .row k h .bit y))))
 
     fields-digits : every (every isDigit) (fieldsOf c k) ≡ true
     unfolding every
@@ -61,13 +64,11 @@ module _ (l : Limits) (c : Code) (w : WellFormed l c) where
     unfolding sum
     line-length = omega (arith, length-join (44 ∷ []) (fieldsOf c k), length-word, entries-length)
 
-  within : (k : ℕ) → k < c .count → k < l .words
+  pub within : (k : ℕ) → k < c .count → k < l .words
   within k h = omega (arith, w .most)
 
   lines-plain : every (every isPlain) (table (lineOf c) (c .count)) ≡ true
-  lines-plain =
-      every-all (every isPlain) (table (lineOf c) (c .count)) []
-      (λ x i. let x< : x < c .count = rw length-table at i in rw (getD-table (lineOf c) (c .count) x [] x<) (plain-join (fieldsOf c x) (fields-digits x (within x x<))))
+  lines-plain = every-table (every isPlain) (lineOf c) (c .count) (λ x i. plain-join (fieldsOf c x) (fields-digits x (within x i)))
 
   pub written-bytes : badBytes false (print c) ≡ false
   unfolding print
@@ -88,7 +89,7 @@ module _ (l : Limits) (c : Code) (w : WellFormed l c) where
   unfolding print
   written-some = omega (arith, length-append (linesOf c) (13 ∷ 10 ∷ []))
 
-  pub written-short : l .total + l .words * (l .words * 2 + 3) + 2 ≤ l .bytes → length (print c) ≤ l .bytes
+  pub written-short : Roomy l → length (print c) ≤ l .bytes
   unfolding print
   written-short room =
       let lines : length (linesOf c) ≤ sum (table (λ x. length (lineOf c x) + 2) (c .count)) =
