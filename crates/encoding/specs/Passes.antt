@@ -9,10 +9,9 @@ use lib.ListN.{length, take, drop, getD, length-append}
 use lib.Seq.{length-take-le, take-append-seam, drop-append-add, drop-drop, paste}
 use borrow.Author.Tests.{eqb-false, eq-eqb, ne-eqb}
 use Rattle.code.specs.declared.Word.{Word}
-use Rattle.code.specs.declared.Row.{Row}
 use Rattle.code.specs.declared.Code.{Code}
-use Rattle.code.specs.Definitions.Tables.{size, word, message, symbolsOf, noWord, noRow, entryOf, tableOf}
-use Rattle.code.specs.Definitions.Sheets.{limits}
+use Rattle.code.specs.declared.Limits.{Limits}
+use Rattle.code.specs.Definitions.Tables.{size, word, message, symbolsOf, noWord, entryOf, tableOf}
 use Rattle.code.specs.Definitions.Operations.{HasUnknown, HasForbidden, written}
 use Rattle.table.specs.Exactly.{Exactly, exactly-true, exactly-false}
 use Rattle.table.specs.WellFormed.{WordFits, WellFormed}
@@ -24,7 +23,7 @@ use Rattle.encoding.specs.Messages.{size-of, word-of, message-more, mess
 abbrev pub WordsBelow : Code → List ℕ → ℕ → Type 0
 WordsBelow c s i = (k : ℕ) → k < i → getD s k 0 < c .count
 
-module _ {c : Code} (well : WellFormed limits c) where
+module _ {l : Limits} {c : Code} (well : WellFormed l c) where
   count-size : size (tableOf c) ≡ c .count
   count-size = size-of c (omega (arith, well .most, well .words))
 
@@ -47,32 +46,26 @@ written-more : (m b ws : List ℕ) (n : ℕ) → n ≤ length ws → paste (writ
 written-more m b ws n h = rw (take-append-seam, drop-append-add, drop-drop, length-append, length-take-le n ws h)
 
 -- A table that a sheet gives, and a sequence of its words.
-pub record Known (c : Code) (s : List ℕ) : Type 0 where
-  pub well : WellFormed limits c
+pub record Known (l : Limits) (c : Code) (s : List ℕ) : Type 0 where
+  pub well : WellFormed l c
   pub known : WordsBelow c s (length s)
 
--- The word and the row that an entry names.
+-- The word that entry i of s names.
 abbrev pub wordAt : Code → List ℕ → ℕ → Word
 wordAt c s i = getD (c .words) (getD s i 0) noWord
 
-abbrev pub rowAt : Code → List ℕ → ℕ → Row
-rowAt c s i = getD (c .rows) (getD s i 0) noRow
-
-module _ {c : Code} {s : List ℕ} (known : Known c s) (i : ℕ) (within : i < length s) where
-  pub known-number : getD s i 0 < 32
+module _ (l : Limits) {c : Code} {s : List ℕ} (known : Known l c s) (i : ℕ) (within : i < length s) where
+  pub known-number : getD s i 0 < l .words
   known-number = omega (arith, known .known i within, known .well .most)
 
-  known-fits : WordFits limits (c .count) (getD s i 0) (wordAt c s i)
+  known-fits : WordFits l (c .count) (getD s i 0) (wordAt c s i)
   known-fits = known .well .word (getD s i 0) known-number
 
-  pub known-short : wordAt c s i .len ≤ 16
+  pub known-short : wordAt c s i .len ≤ l .symbols
   known-short = known-fits .short
 
   pub known-word : wordAt c s i .len ≤ length (wordAt c s i .symbols)
   known-word = omega (arith, known-fits .short, known-fits .array)
-
-  pub known-row : length (rowAt c s i .entries) ≡ 32
-  known-row = known .well .row (getD s i 0) known-number .array
 
   -- One entry more adds its word to the message.
   pub message-on : message (tableOf c) (take (i + 1) s) ≡ message (tableOf c) (take i s) ++ symbolsOf (wordAt c s i)
@@ -90,7 +83,7 @@ FollowsAt c s k = entryOf c (getD s (k + 1) 0) (getD s k 0) ≡ 1
 abbrev pub FollowsBelow : Code → List ℕ → ℕ → Type 0
 FollowsBelow c s i = (k : ℕ) → k < i → FollowsAt c s k
 
-module _ {c : Code} {s : List ℕ} (known : Known c s) where
+module _ (l : Limits) {c : Code} {s : List ℕ} (known : Known l c s) where
   pub forbidden-here : (i : ℕ) → i + 1 < length s → (FollowsAt c s i → ⊥) → Exactly true (HasForbidden (tableOf c) s)
   forbidden-here i h f = exactly-true (record { at = i; within = h; forbidden = ne-eqb _ _ f })
 
@@ -100,24 +93,24 @@ module _ {c : Code} {s : List ℕ} (known : Known c s) where
   -- Refusal 11: the length of the message, as far as the limit.
 
   pub length-more : (i n : ℕ) → i < length s → n ≡ length (message (tableOf c) (take i s)) → n + wordAt c s i .len ≡ length (message (tableOf c) (take (i + 1) s))
-  length-more i n h e = rw e (sym (length-on known i h))
+  length-more i n h e = rw e (sym (length-on l known i h))
 
-  pub length-over : (i n : ℕ) → i < length s → n ≡ length (message (tableOf c) (take i s)) → 16384 < n + wordAt c s i .len
-      → 16385 ≡ min (length (message (tableOf c) s)) 16385
-  length-over i n h e over = omega (arith, length-on known i h, message-part (tableOf c) s (i + 1))
+  pub length-over : (i n : ℕ) → i < length s → n ≡ length (message (tableOf c) (take i s)) → l .message < n + wordAt c s i .len
+      → l .message + 1 ≡ min (length (message (tableOf c) s)) (l .message + 1)
+  length-over i n h e over = omega (arith, length-on l known i h, message-part (tableOf c) s (i + 1))
 
-  pub length-whole : (i n : ℕ) → length s ≤ i → n ≡ length (message (tableOf c) (take i s)) → n ≤ 16384 → n ≡ min (length (message (tableOf c) s)) 16385
+  pub length-whole : (i n : ℕ) → length s ≤ i → n ≡ length (message (tableOf c) (take i s)) → n ≤ l .message → n ≡ min (length (message (tableOf c) s)) (l .message + 1)
   length-whole i n h e within = omega (arith, ap length (message-all (tableOf c) s i h))
 
   -- Writing: the message of the entries passed stands at the start of the buffer.
 
   pub write-room : (i at n : ℕ) → i < length s → at ≡ length (message (tableOf c) (take i s)) → length (message (tableOf c) s) ≤ n → at + wordAt c s i .len ≤ n
-  write-room i at n h e room = omega (arith, length-on known i h, message-part (tableOf c) s (i + 1))
+  write-room i at n h e room = omega (arith, length-on l known i h, message-part (tableOf c) s (i + 1))
 
   pub write-more : (i at : ℕ) (b m m′ : List ℕ) → i < length s → at ≡ length (message (tableOf c) (take i s)) → m ≡ written (message (tableOf c) (take i s)) b
       → m′ ≡ paste m at (wordAt c s i .symbols) (wordAt c s i .len) → m′ ≡ written (message (tableOf c) (take (i + 1) s)) b
   write-more i at b m m′ h e w p =
-      p ∙ rw (w, e, message-on known i h) (written-more (message (tableOf c) (take i s)) b (wordAt c s i .symbols) (wordAt c s i .len) (known-word known i h))
+      p ∙ rw (w, e, message-on l known i h) (written-more (message (tableOf c) (take i s)) b (wordAt c s i .symbols) (wordAt c s i .len) (known-word l known i h))
 
   pub write-whole : (i : ℕ) (b m : List ℕ) → length s ≤ i → m ≡ written (message (tableOf c) (take i s)) b → m ≡ written (message (tableOf c) s) b
   write-whole i b m h w = rw (← message-all (tableOf c) s i h) w

@@ -1,58 +1,60 @@
 -- The ways through encoding. Each refusal is tested where all lower ones were found not to hold, so the first that is found is the lowest.
 use mathlib.Core.Path.{_≡_, refl}
-use mathlib.Core.Bool.{Bool, true, false}
+use mathlib.Core.Bool.{Bool, true, false, not}
 use mathlib.Core.List.{List}
 use mathlib.Core.Logic.{inl, inr}
-use Prim.Native.Nat.{ℕ, _≤_, _<_, min}
+use Prim.Native.Nat.{ℕ, _+_, _≤_, _<_, min}
 use native.Mathlib.Omega.{arith}
 use lib.ListN.{length}
+use borrow.Author.Tests.{not-true, not-false}
 use Rattle.code.specs.declared.Code.{Code}
+use Rattle.code.specs.declared.Limits.{Limits}
 use Rattle.code.specs.declared.Refusal.the-variants.{NotFromSheet, UnknownWord, ForbiddenPair, MessageLength, ShortBuffer}
 use Rattle.code.specs.declared.Encoding.the-variants.{Encoded, Refused}
 use Rattle.code.specs.Definitions.Tables.{message, tableOf}
-use Rattle.code.specs.Definitions.Sheets.{limits, FromSheet}
+use Rattle.code.specs.Definitions.Sheets.{FromSheet}
 use Rattle.code.specs.Definitions.Operations.{HasUnknown, HasForbidden, written, Encodes, refused, encoded}
 use Rattle.table.specs.Exactly.{Exactly}
 use Rattle.table.specs.WellFormed.{WellFormed}
 use Rattle.table.specs.Given.{well}
 use Rattle.encoding.specs.Passes.{Known, all-words}
 
-module _ {c : Code} {t : Bool} (sheet : Exactly t (FromSheet limits c)) where
-  pub way-8 : {s b : List ℕ} → t ≡ false → Encodes limits c s b b (Refused NotFromSheet)
-  way-8 e = refused (inl (sheet .no e, refl)) refl
+module _ (l : Limits) {c : Code} {t : Bool} (sheet : Exactly t (FromSheet l c)) where
+  pub way-8 : {s b : List ℕ} → not t ≡ true → Encodes l c s b b (Refused NotFromSheet)
+  way-8 e = refused (inl (sheet .no (not-true t e), refl)) refl
 
-  module _ (from-sheet : t ≡ true) where
-    passed-8 : (FromSheet limits c → ⊥) → ⊥
-    passed-8 n = n (sheet .yes from-sheet)
+  module _ (from-sheet : not t ≡ false) where
+    passed-8 : (FromSheet l c → ⊥) → ⊥
+    passed-8 n = n (sheet .yes (not-false t from-sheet))
 
-    pub sheet-well : WellFormed limits c
-    sheet-well = well (sheet .yes from-sheet)
+    pub sheet-well : WellFormed l c
+    sheet-well = well (sheet .yes (not-false t from-sheet))
 
     module _ {s : List ℕ} {u : Bool} (unknown : Exactly u (HasUnknown (tableOf c) s)) where
-      pub way-9 : {b : List ℕ} → u ≡ true → Encodes limits c s b b (Refused UnknownWord)
+      pub way-9 : {b : List ℕ} → u ≡ true → Encodes l c s b b (Refused UnknownWord)
       way-9 e = refused (inr (passed-8, inl (unknown .yes e, refl))) refl
 
       module _ (none-unknown : u ≡ false) where
-        pub all-known : Known c s
+        pub all-known : Known l c s
         all-known = record { well = sheet-well; known = all-words sheet-well s (unknown .no none-unknown) }
 
         module _ {f : Bool} (forbidden : Exactly f (HasForbidden (tableOf c) s)) where
-          pub way-10 : {b : List ℕ} → f ≡ true → Encodes limits c s b b (Refused ForbiddenPair)
+          pub way-10 : {b : List ℕ} → f ≡ true → Encodes l c s b b (Refused ForbiddenPair)
           way-10 e = refused (inr (passed-8, inr (unknown .no none-unknown, inl (forbidden .yes e, refl)))) refl
 
-          module _ (none-forbidden : f ≡ false) {n : ℕ} (count : n ≡ min (length (message (tableOf c) s)) 16385) where
-            pub way-11 : {b : List ℕ} → 16384 < n → Encodes limits c s b b (Refused MessageLength)
+          module _ (none-forbidden : f ≡ false) {n : ℕ} (count : n ≡ min (length (message (tableOf c) s)) (l .message + 1)) where
+            pub way-11 : {b : List ℕ} → l .message < n → Encodes l c s b b (Refused MessageLength)
             way-11 over =
                 refused (inr (passed-8, inr (unknown .no none-unknown, inr (forbidden .no none-forbidden, inl (omega arith, refl))))) refl
 
-            module _ (within : n ≤ 16384) where
+            module _ (within : n ≤ l .message) where
               pub message-count : n ≡ length (message (tableOf c) s)
               message-count = omega arith
 
-              pub way-13 : {b : List ℕ} → length b < n → Encodes limits c s b b (Refused ShortBuffer)
+              pub way-13 : {b : List ℕ} → length b < n → Encodes l c s b b (Refused ShortBuffer)
               way-13 short =
                   refused (inr (passed-8, inr (unknown .no none-unknown, inr (forbidden .no none-forbidden, inr ((λ h. omega arith), inl (omega arith, refl)))))) refl
 
-              pub way-encoded : {b b′ : List ℕ} → n ≤ length b → b′ ≡ written (message (tableOf c) s) b → Encodes limits c s b b′ (Encoded (record { 0 = n }))
+              pub way-encoded : {b b′ : List ℕ} → n ≤ length b → b′ ≡ written (message (tableOf c) s) b → Encodes l c s b b′ (Encoded (record { 0 = n }))
               way-encoded room w =
                   encoded (passed-8, (unknown .no none-unknown, (forbidden .no none-forbidden, ((λ h. omega arith), ((λ h. omega arith), tt))))) message-count w

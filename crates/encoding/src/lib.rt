@@ -35,7 +35,7 @@ fn has_unknown(code: Code, words: &[u8]) -> bool
 
 // Refusal 10: some word may not come immediately after the one before it.
 fn has_forbidden(code: Code, words: &[u8]) -> bool
-    requires { ⌜ Known code (now words) ⌝ }
+    requires { ⌜ Known limits code (now words) ⌝ }
     ensures { λ r. ⌜ Exactly r (HasForbidden (tableOf code) (now (words .entry))) ⌝ }
 {
     let mut i: usize = 0;
@@ -51,7 +51,7 @@ fn has_forbidden(code: Code, words: &[u8]) -> bool
 
 // The length of the message, and one more than the limit for a longer one: adding stops there.
 fn message_len(code: Code, words: &[u8]) -> usize
-    requires { ⌜ Known code (now words) ⌝ }
+    requires { ⌜ Known limits code (now words) ⌝ }
     ensures { λ r. ⌜ r ≡ min (length (messageOf (tableOf code) (now (words .entry)))) (limits .message + 1) ⌝ }
 {
     let mut n: usize = 0;
@@ -82,7 +82,7 @@ fn write_word(w: Word, message: &mut [u8], at: usize) -> usize
 
 // Writes the message at the start of the buffer.
 fn write_message(code: Code, words: &[u8], message: &mut [u8])
-    requires { ⌜ Known code (now words) × (length (messageOf (tableOf code) (now words)) ≤ length (now message)) ⌝ }
+    requires { ⌜ Known limits code (now words) × (length (messageOf (tableOf code) (now words)) ≤ length (now message)) ⌝ }
     ensures { λ _. ⌜ now (message .exit) ≡ written (messageOf (tableOf code) (now (words .entry))) (now (message .entry)) ⌝ }
 {
     let mut at: usize = 0;

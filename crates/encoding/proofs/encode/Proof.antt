@@ -1,3 +1,4 @@
+use Rattle.encoding.specs.Ways.{way-8, sheet-well, way-9, all-known, way-10, way-11, message-count, way-13, way-encoded}
 use borrow.Author.Needs.{needs}
 use Rattle.encoding.proofs.encode.Statement.{statement}
 use Rattle.encoding.proofs.encode.Tie as tie

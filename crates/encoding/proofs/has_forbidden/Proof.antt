@@ -1,4 +1,5 @@
-use Rattle.encoding.specs.Passes.{FollowsBelow, known-number, known-row, forbidden-here, forbidden-nowhere}
+use Rattle.code.specs.Definitions.Sheets.{limits}
+use Rattle.encoding.specs.Passes.{FollowsBelow, known-number, forbidden-here, forbidden-nowhere}
 use borrow.Author.Count.{below-none, below-more}
 use mathlib.Core.Path.{_≡_}
 use lib.ListN.{length, take, getD}
@@ -42,7 +43,7 @@ mul-row c = omega (arith, c .shared-slice-known .given (c .before .before .loop 
 
 -- src/lib.rt:40:19
 element-copy-out-row : tie.Need-element-copy-out-row Inv-loop μ-loop
-element-copy-out-row c = search known-number
+element-copy-out-row c = search (known-number limits)
 
 -- src/lib.rt:41:24
 shared-slice-read-if1 : tie.Need-shared-slice-read-if1 Inv-loop μ-loop
@@ -54,11 +55,11 @@ cast-if1 c = omega (arith, c .shared-slice-known2 .given (c .before .before .bef
 
 -- src/lib.rt:41:12
 element-copy-out-if1 : tie.Need-element-copy-out-if1 Inv-loop μ-loop
-element-copy-out-if1 c = known-number (c .before .before .before .before .before .pre) (c .before .before .before .before .loop .i) (omega arith)
+element-copy-out-if1 c = known-number limits (c .before .before .before .before .before .pre) (c .before .before .before .before .loop .i) (omega arith)
 
 -- src/lib.rt:42:13
 returns : tie.Need-returns Inv-loop μ-loop
-returns c = search forbidden-here
+returns c = search (forbidden-here limits)
 
 -- src/lib.rt:44:9
 add-i : tie.Need-add-i Inv-loop μ-loop
@@ -74,7 +75,7 @@ loop-again c = (search needs, below-more _ _ (c .before .before .before .before 
 
 -- src/lib.rt:34:1
 returns-2 : tie.Need-returns-2 Inv-loop μ-loop
-returns-2 c = search forbidden-nowhere
+returns-2 c = search (forbidden-nowhere limits)
 
 pub has-forbidden-spec : {M : Type 1} → statement M
 has-forbidden-spec =

@@ -1,3 +1,4 @@
+use Rattle.code.specs.Definitions.Sheets.{limits}
 use Rattle.encoding.specs.Passes.{known-number, known-short, length-more, length-over, length-whole}
 use Rattle.code.specs.Definitions.Tables.{message, tableOf}
 use borrow.Author.Count.{below-none, below-more}
@@ -35,11 +36,11 @@ mul-w c = omega (arith, c .shared-slice-known .given (c .before .before .loop .i
 
 -- src/lib.rt:57:17
 element-copy-out-w : tie.Need-element-copy-out-w Inv-loop μ-loop
-element-copy-out-w c = search known-number
+element-copy-out-w c = search (known-number limits)
 
 -- src/lib.rt:58:9
 add-n : tie.Need-add-n Inv-loop μ-loop
-add-n c = omega (arith, known-short (c .before .before .before .before .before .pre) (c .before .before .before .before .loop .i) (search needs))
+add-n c = omega (arith, known-short limits (c .before .before .before .before .before .pre) (c .before .before .before .before .loop .i) (search needs))
 
 -- src/lib.rt:60:20
 add-result : tie.Need-add-result Inv-loop μ-loop
@@ -47,7 +48,7 @@ add-result c = search needs
 
 -- src/lib.rt:60:13
 returns : tie.Need-returns Inv-loop μ-loop
-returns c = search length-over
+returns c = search (length-over limits)
 
 -- src/lib.rt:62:9
 add-i : tie.Need-add-i Inv-loop μ-loop
@@ -59,11 +60,11 @@ loop-less c = search needs
 
 -- src/lib.rt:56:5
 loop-again : tie.Need-loop-again Inv-loop μ-loop
-loop-again c = (search needs, search length-more, search needs)
+loop-again c = (search needs, search (length-more limits), search needs)
 
 -- src/lib.rt:50:1
 returns-2 : tie.Need-returns-2 Inv-loop μ-loop
-returns-2 c = search length-whole
+returns-2 c = search (length-whole limits)
 
 pub message-len-spec : {M : Type 1} → statement M
 message-len-spec =

@@ -1,3 +1,4 @@
+use Rattle.code.specs.Definitions.Sheets.{limits}
 use mathlib.Core.Path.{_≡_, _∙_}
 use Rattle.encoding.specs.Passes.{known-number, known-short, length-more, write-room, write-more, write-whole}
 use Rattle.code.specs.Definitions.Operations.{written}
@@ -37,13 +38,13 @@ mul-w c = omega (arith, c .shared-slice-known2 .given (c .before .before .loop .
 
 -- src/lib.rt:88:17
 element-copy-out-w : tie.Need-element-copy-out-w Inv-loop μ-loop
-element-copy-out-w c = search known-number
+element-copy-out-w c = search (known-number limits)
 
 -- src/lib.rt:89:9
 write-word-requires : tie.Need-write-word-requires Inv-loop μ-loop
 write-word-requires c κs = let l = c .before .before .before .before .loop in
     let p = c .before .before .before .before .before .before .before .pre in
-    (search known-short, write-room (p .0) (l .i) (l .at) _ (search needs) (l .inv .1) (omega arith))
+    (search (known-short limits), write-room limits (p .0) (l .i) (l .at) _ (search needs) (l .inv .1) (omega arith))
 
 -- src/lib.rt:90:9
 add-i : tie.Need-add-i Inv-loop μ-loop
@@ -59,7 +60,7 @@ loop-again c = let l = c .before .before .before .before .before .before .before
     let p = c .before .before .before .before .before .before .before .before .before .before .pre in
     let w = c .before .before .write-word in
     let within : l .i < length (c .before .before .before .before .before .before .before .before .before .before .args .words .now) = omega arith in
-    (omega arith, w .ensures .0 ∙ length-more (p .0) (l .i) (l .at) within (l .inv .1), omega arith, write-more (p .0) (l .i) (l .at) _ (l .message) _ within (l .inv .1) (l .inv .3) (w .ensures .1))
+    (omega arith, w .ensures .0 ∙ length-more limits (p .0) (l .i) (l .at) within (l .inv .1), omega arith, write-more limits (p .0) (l .i) (l .at) _ (l .message) _ within (l .inv .1) (l .inv .3) (w .ensures .1))
 
 -- src/lib.rt:81:1
 same-length : tie.Need-same-length Inv-loop μ-loop
@@ -67,7 +68,7 @@ same-length c = search needs
 
 -- src/lib.rt:81:1
 returns : tie.Need-returns Inv-loop μ-loop
-returns c = search write-whole
+returns c = search (write-whole limits)
 
 pub write-message-spec : {M : Type 1} → statement M
 write-message-spec =
