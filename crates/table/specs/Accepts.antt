@@ -8,7 +8,6 @@ use Rattle.code.specs.declared.Code.{Code}
 use Rattle.code.specs.declared.Limits.{Limits}
 use Rattle.code.specs.declared.Refusal.{Refusal}
 use Rattle.code.specs.declared.Refusal.the-variants.{SheetLength, SheetBytes, RecordCount, WordLength, CodeLength, FieldCount, RowEntry}
-use Rattle.code.specs.declared.SheetAnswer.{SheetAnswer}
 use Rattle.code.specs.declared.SheetAnswer.the-variants.{Accepted, Refused}
 use Rattle.code.specs.declared.Taken.{Taken}
 use Rattle.code.specs.Definitions.Lists.{if_then_else_}

@@ -1,14 +1,14 @@
 -- Digits and the symbols they stand for; and the first field of every record of a sheet without refusal 2 is digits.
-use mathlib.Core.Path.{_≡_, refl, sym, ap, _∙_}
-use mathlib.Core.Bool.{Bool, true, false, _||_, and-true, and-false, or-false, and-eq-true-iff}
+use mathlib.Core.Path.{_≡_, refl}
+use mathlib.Core.Bool.{Bool, true, false, and-false, and-eq-true-iff}
 use mathlib.Core.List.{List, [], _∷_}
-use Prim.Native.Nat.{ℕ, zero, suc, _+_, _-_, _≤_, _<_}
+use Prim.Native.Nat.{ℕ, zero, suc, _+_, _-_, _<_}
 use native.Mathlib.Omega.{arith}
 use native.Mathlib.Decide.{decLt}
 use lib.Dec.{ltb, leb}
 use lib.ListN.{drop, getD}
 use lib.Seq.{getD-drop}
-use borrow.Author.Tests.{leb-true, leb-false, le-leb, lt-leb, lt-ltb, le-ltb}
+use borrow.Author.Tests.{leb-true, le-leb, lt-leb, lt-ltb, le-ltb}
 use Rattle.code.specs.Definitions.Lists.{if_then_else_}
 use Rattle.code.specs.Definitions.Sheets.{isDigit, valueOf, push, firstField}
 use Rattle.code.specs.Laws.Clean.{Clean, none, digit, comma, line, recordFields, recordFields-none, recordFields-digit, recordFields-comma, recordFields-line}
@@ -22,6 +22,10 @@ value-symbol a e = by-test (leb a 57) refl
     by-test false p =
         let high = rw (p, and-false) at e in
         omega (arith, leb-true a 70 (and-eq-true-iff (leb 65 a) (leb a 70) .0 high .1))
+
+-- The value of an entry's field.
+abbrev pub entryValue : List ℕ → ℕ
+entryValue f = valueOf (getD f 0 48)
 
 -- The digit of a symbol.
 unfoldable pub digitOf : ℕ → ℕ

@@ -1,8 +1,8 @@
 -- Lists joined with a separator between them: parting the whole gives them back, whatever parts at the separator; records and fields both do.
-use mathlib.Core.Path.{_≡_, refl, sym, ap, _∙_}
-use mathlib.Core.Bool.{Bool, true, false, _&&_, _||_, and-eq-true-iff}
+use mathlib.Core.Path.{_≡_, refl, _∙_}
+use mathlib.Core.Bool.{Bool, true, false, _||_, and-eq-true-iff}
 use mathlib.Core.List.{List, [], _∷_, _++_, map, append-nil}
-use Prim.Native.Nat.{ℕ, zero, suc, _+_, _≤_}
+use Prim.Native.Nat.{ℕ, _+_, _≤_}
 use native.Mathlib.Omega.{arith}
 use lib.Dec.{eqb}
 use lib.ListN.{length, length-append}
@@ -17,7 +17,7 @@ join sep (f ∷ []) = f
 join sep (f ∷ g ∷ fs) = f ++ (sep ++ join sep (g ∷ fs))
 
 module _ (part : List ℕ → List (List ℕ)) (sep : List ℕ) (good : ℕ → Bool) (none : part [] ≡ [] ∷ []) (cut : (s : List ℕ) → part (sep ++ s) ≡ [] ∷ part s)
-  (grow : (a : ℕ) (s : List ℕ) → good a ≡ true → part (a ∷ s) ≡ push a (part s)) where
+    (grow : (a : ℕ) (s : List ℕ) → good a ≡ true → part (a ∷ s) ≡ push a (part s)) where
   part-front : (f s : List ℕ) (r : List (List ℕ)) → every good f ≡ true → part s ≡ [] ∷ r → part (f ++ s) ≡ f ∷ r
   unfolding every
   part-front [] s r e p = p

@@ -15,14 +15,19 @@ module _ (c : Code) where
   abbrev pub entryField : ℕ → ℕ → List ℕ
   entryField x y = digitOf (entryOf c x y) ∷ []
 
+  -- the fields of record x, and of all records
   abbrev pub fieldsOf : ℕ → List (List ℕ)
   fieldsOf x = wordField x ∷ table (entryField x) (c .count)
 
-  abbrev pub lineOf : ℕ → List ℕ
-  lineOf x = join (44 ∷ []) (fieldsOf x)
+  abbrev pub gridOf : List (List (List ℕ))
+  gridOf = table fieldsOf (c .count)
 
-  abbrev pub linesOf : List ℕ
-  linesOf = join (13 ∷ 10 ∷ []) (table lineOf (c .count))
+  -- the bytes of record x, and of all records
+  abbrev pub recordOf : ℕ → List ℕ
+  recordOf x = join (44 ∷ []) (fieldsOf x)
+
+  abbrev pub bodyOf : List ℕ
+  bodyOf = join (13 ∷ 10 ∷ []) (table recordOf (c .count))
 
   unfoldable pub print : List ℕ
-  print = linesOf ++ (13 ∷ 10 ∷ [])
+  print = bodyOf ++ (13 ∷ 10 ∷ [])

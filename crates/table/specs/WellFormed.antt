@@ -1,6 +1,6 @@
--- The table values that 01's limits and the canonical form allow: words and entries within their bounds, and zero wherever nothing stands.
--- Shown elsewhere: they are the tables that an accepted sheet gives.
+-- The table values within the limits of 01, with zero wherever nothing stands. `well-formed` of Round shows that they are the tables that accepted sheets give.
 use mathlib.Core.Path.{_≡_}
+use mathlib.Core.List.{List}
 use Prim.Native.Nat.{ℕ, _≤_, _<_}
 use lib.ListN.{length, getD}
 use Rattle.code.specs.declared.Word.{Word}
@@ -9,6 +9,11 @@ use Rattle.code.specs.declared.Code.{Code}
 use Rattle.code.specs.declared.Limits.{Limits}
 use Rattle.code.specs.Definitions.Lists.{table, sum}
 use Rattle.code.specs.Definitions.Tables.{noWord, noRow}
+
+-- An array of which the first cells are in use: what stands there is below the bound, the rest is zero.
+pub record CellsFit (bound used : ℕ) (a : List ℕ) : Type 0 where
+  pub below : (p : ℕ) → getD a p 0 < bound
+  pub zero : (p : ℕ) → used ≤ p → getD a p 0 ≡ 0
 
 abbrev pub lenOf : Code → ℕ → ℕ
 lenOf c k = getD (c .words) k noWord .len
@@ -20,15 +25,13 @@ module _ (l : Limits) where
     pub some : k < n → 1 ≤ w .len
     pub short : w .len ≤ l .symbols
     pub unused : n ≤ k → w .len ≡ 0
-    pub symbol : (p : ℕ) → getD (w .symbols) p 0 < 16
-    pub past : (p : ℕ) → w .len ≤ p → getD (w .symbols) p 0 ≡ 0
+    pub symbols : CellsFit 16 (w .len) (w .symbols)
 
   -- Row x of the follow matrix of a code of n words.
   pub record RowFits (n x : ℕ) (r : Row) : Type 0 where
     pub array : length (r .entries) ≡ l .words
-    pub bit : (y : ℕ) → getD (r .entries) y 0 ≤ 1
+    pub entries : CellsFit 2 n (r .entries)
     pub unused : n ≤ x → (y : ℕ) → getD (r .entries) y 0 ≡ 0
-    pub past : (y : ℕ) → n ≤ y → getD (r .entries) y 0 ≡ 0
 
   module _ (c : Code) where
     abbrev pub WordAt : ℕ → Type 0

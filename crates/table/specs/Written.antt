@@ -1,7 +1,7 @@
 -- What stands in the sheet that is written for a well-formed table: its fields are digits, its records and fields are those that were joined, and it is short enough.
-use mathlib.Core.Path.{_≡_, refl, sym, ap, _∙_}
+use mathlib.Core.Path.{_≡_, refl, sym, _∙_}
 use mathlib.Core.Bool.{true, false}
-use mathlib.Core.List.{List, [], _∷_, _++_, map}
+use mathlib.Core.List.{List, [], _∷_, map}
 use Prim.Native.Nat.{ℕ, _+_, _*_, _≤_, _<_}
 use native.Mathlib.Omega.{arith}
 use native.Mathlib.Nat.{mul-le-mul}
@@ -11,14 +11,14 @@ use lib.Seq.{getD-take, length-take-le}
 use Rattle.code.specs.declared.Code.{Code}
 use Rattle.code.specs.declared.Limits.{Limits}
 use Rattle.code.specs.Definitions.Lists.{every, table, sum}
-use Rattle.code.specs.Definitions.Tables.{noWord, noRow, symbolsOf, entryOf}
-use Rattle.code.specs.Definitions.Sheets.{isDigit, body, grid, records, fields, badBytes}
-use Rattle.code.specs.Laws.Lists.{length-table, getD-table, table-same, map-table, every-all, every-table, sum-past, sum-bound}
+use Rattle.code.specs.Definitions.Tables.{noWord, symbolsOf, entryOf}
+use Rattle.code.specs.Definitions.Sheets.{isDigit, grid, fields, badBytes}
+use Rattle.code.specs.Laws.Lists.{length-table, table-same, map-table, every-all, every-table, sum-past, sum-bound}
 use Rattle.code.specs.Laws.Clean.{bad-end, body-end}
 use Rattle.table.specs.WellFormed.{lenOf, WellFormed}
 use Rattle.table.specs.Digits.{digitOf, digit-digit}
-use Rattle.table.specs.Join.{join, isPlain, fields-join, records-join, bad-join, plain-join, length-join}
-use Rattle.table.specs.Print.{wordField, entryField, fieldsOf, lineOf, linesOf, print}
+use Rattle.table.specs.Join.{isPlain, fields-join, records-join, bad-join, plain-join, length-join}
+use Rattle.table.specs.Print.{wordField, entryField, fieldsOf, gridOf, recordOf, bodyOf, print}
 
 -- A sheet has room for every table: for the symbols, for each of the entries with a comma, and for the separators.
 abbrev pub Roomy : Limits → Type 0
@@ -31,7 +31,7 @@ take-zeros n s zeros p (no h) = List·getD-eq-default (take n s) 0 (omega (arith
 module _ (l : Limits) (c : Code) (w : WellFormed l c) where
   module _ (k : ℕ) (h : k < l .words) where
     pub symbol-written : (p : ℕ) → getD (symbolsOf (getD (c .words) k noWord)) p 0 ≡ getD (getD (c .words) k noWord .symbols) p 0
-    symbol-written p = take-zeros (lenOf c k) (getD (c .words) k noWord .symbols) (w .word k h .past) p (decLt p (lenOf c k))
+    symbol-written p = take-zeros (lenOf c k) (getD (c .words) k noWord .symbols) (w .word k h .symbols .zero) p (decLt p (lenOf c k))
 
     pub length-word : length (wordField c k) ≡ lenOf c k
     length-word =
@@ -41,12 +41,12 @@ module _ (l : Limits) (c : Code) (w : WellFormed l c) where
     word-digits : every isDigit (wordField c k) ≡ true
     word-digits =
         every-all isDigit (wordField c k) (digitOf 0)
-        (λ p i. rw (List·getD-map digitOf (symbolsOf (getD (c .words) k noWord)) p 0, symbol-written p) (digit-digit _ (w .word k h .symbol p)))
+        (λ p i. rw (List·getD-map digitOf (symbolsOf (getD (c .words) k noWord)) p 0, symbol-written p) (digit-digit _ (w .word k h .symbols .below p)))
 
     entries-digits : every (every isDigit) (table (entryField c k) (c .count)) ≡ true
     unfolding every
     entries-digits =
-        every-table (every isDigit) (entryField c k) (c .count) (λ y i. rw (digit-digit (entryOf c k y) (omega (arith, w .row k h .bit y))))
+        every-table (every isDigit) (entryField c k) (c .count) (λ y i. rw (digit-digit (entryOf c k y) (omega (arith, w .row k h .entries .below y))))
 
     fields-digits : every (every isDigit) (fieldsOf c k) ≡ true
     unfolding every
@@ -60,26 +60,26 @@ module _ (l : Limits) (c : Code) (w : WellFormed l c) where
         rw (map-table (λ (f : List ℕ). length f + 1) (entryField c k) (c .count))
         (omega (arith, sum-bound (λ y. 2) none 2 (c .count) (λ y i. omega arith), sum-past none 0 (c .count) (omega arith) (λ y i j. refl)))
 
-    line-length : length (lineOf c k) + 2 ≤ lenOf c k + (c .count * 2 + 3)
+    record-length : length (recordOf c k) + 2 ≤ lenOf c k + (c .count * 2 + 3)
     unfolding sum
-    line-length = omega (arith, length-join (44 ∷ []) (fieldsOf c k), length-word, entries-length)
+    record-length = omega (arith, length-join (44 ∷ []) (fieldsOf c k), length-word, entries-length)
 
   pub within : (k : ℕ) → k < c .count → k < l .words
   within k h = omega (arith, w .most)
 
-  lines-plain : every (every isPlain) (table (lineOf c) (c .count)) ≡ true
-  lines-plain = every-table (every isPlain) (lineOf c) (c .count) (λ x i. plain-join (fieldsOf c x) (fields-digits x (within x i)))
+  records-plain : every (every isPlain) (table (recordOf c) (c .count)) ≡ true
+  records-plain = every-table (every isPlain) (recordOf c) (c .count) (λ x i. plain-join (fieldsOf c x) (fields-digits x (within x i)))
 
   pub written-bytes : badBytes false (print c) ≡ false
   unfolding print
-  written-bytes = bad-end false (linesOf c) ∙ bad-join (table (lineOf c) (c .count)) lines-plain
+  written-bytes = bad-end false (bodyOf c) ∙ bad-join (table (recordOf c) (c .count)) records-plain
 
-  pub written-grid : grid (print c) ≡ table (fieldsOf c) (c .count)
+  pub written-grid : grid (print c) ≡ gridOf c
   unfolding grid print
   written-grid =
-      rw (body-end (linesOf c), records-join (table (lineOf c) (c .count)) (rw (length-table (lineOf c) (c .count)) (w .one)) lines-plain)
-      (map-table fields (lineOf c) (c .count)
-      ∙ table-same (λ x. fields (lineOf c x)) (fieldsOf c) (c .count) (λ x h. fields-join (fieldsOf c x) (omega arith) (fields-digits x (within x h))))
+      rw (body-end (bodyOf c), records-join (table (recordOf c) (c .count)) (rw (length-table (recordOf c) (c .count)) (w .one)) records-plain)
+      (map-table fields (recordOf c) (c .count)
+      ∙ table-same (λ x. fields (recordOf c x)) (fieldsOf c) (c .count) (λ x h. fields-join (fieldsOf c x) (omega arith) (fields-digits x (within x h))))
 
   -- the symbols of the words in use are all there are
   pub total-used : sum (table (lenOf c) (c .count)) ≤ l .total
@@ -87,13 +87,13 @@ module _ (l : Limits) (c : Code) (w : WellFormed l c) where
 
   pub written-some : 0 < length (print c)
   unfolding print
-  written-some = omega (arith, length-append (linesOf c) (13 ∷ 10 ∷ []))
+  written-some = omega (arith, length-append (bodyOf c) (13 ∷ 10 ∷ []))
 
   pub written-short : Roomy l → length (print c) ≤ l .bytes
   unfolding print
   written-short room =
-      let lines : length (linesOf c) ≤ sum (table (λ x. length (lineOf c x) + 2) (c .count)) =
-        rw (map-table (λ (f : List ℕ). length f + 2) (lineOf c) (c .count)) at (length-join (13 ∷ 10 ∷ []) (table (lineOf c) (c .count))) in
-      let bound = sum-bound (λ x. length (lineOf c x) + 2) (lenOf c) (c .count * 2 + 3) (c .count) (λ x h. line-length x (within x h)) in
+      let joined : length (bodyOf c) ≤ sum (table (λ x. length (recordOf c x) + 2) (c .count)) =
+      rw (map-table (λ (f : List ℕ). length f + 2) (recordOf c) (c .count)) at (length-join (13 ∷ 10 ∷ []) (table (recordOf c) (c .count))) in
+      let bound = sum-bound (λ x. length (recordOf c x) + 2) (lenOf c) (c .count * 2 + 3) (c .count) (λ x h. record-length x (within x h)) in
       let square : c .count * (c .count * 2 + 3) ≤ l .words * (l .words * 2 + 3) = mul-le-mul (w .most) (omega (arith, w .most)) in
-      omega (arith, length-append (linesOf c) (13 ∷ 10 ∷ []), total-used)
+      omega (arith, length-append (bodyOf c) (13 ∷ 10 ∷ []), total-used)

@@ -1,16 +1,17 @@
-// The test for refusal 8: whether an accepted sheet gives a table value.
+// The test for refusal 8: whether an accepted sheet gives a table value. Each part of the table is held to its bounds, and all that stands past a word,
+// past a row or past the count to zero.
 
 use code::Code;
 use code::Row;
 use code::Word;
-ghost use mathlib.Core.Bool.{_&&_};
 ghost use mathlib.Core.Path.{_≡_};
+ghost use mathlib.Core.Bool.{_&&_};
 ghost use Prim.Native.Nat.{ℕ, _-_, _≤_, _<_};
 ghost use Rattle.code.specs.Definitions.Lists.{table, sum};
-ghost use Rattle.code.specs.Definitions.Sheets.{limits};
-ghost use Rattle.table.specs.WellFormed.{WordFits, RowFits, WordAt, RowAt, WellFormed, lenOf};
+ghost use Rattle.code.specs.Definitions.Sheets.{limits, FromSheet};
 ghost use Rattle.table.specs.Exactly.{Exactly};
-ghost use Rattle.table.specs.Cells.{CellFits, CellsFit};
+ghost use Rattle.table.specs.Cells.{CellFits};
+ghost use Rattle.table.specs.WellFormed.{lenOf, CellsFit, WordFits, RowFits, WordAt, RowAt};
 
 fn and(a: bool, b: bool) -> bool
     ensures { λ r. ⌜ r ≡ (a && b) ⌝ }
@@ -18,6 +19,14 @@ fn and(a: bool, b: bool) -> bool
     if a { b } else { false }
 }
 
+// a - b, and 0 where b is greater.
+fn minus(a: usize, b: usize) -> usize
+    ensures { λ r. ⌜ r ≡ a - b ⌝ }
+{
+    if b <= a { a - b } else { 0 }
+}
+
+// The value v of cell p of an array of which `used` cells are in use.
 fn cell_fits(v: u8, p: usize, used: usize, bound: u8) -> bool
     ensures { λ r. ⌜ Exactly r (CellFits bound used p v) ⌝ }
 {
@@ -25,6 +34,7 @@ fn cell_fits(v: u8, p: usize, used: usize, bound: u8) -> bool
 }
 
 fn cells_fit(a: &[u8], used: usize, bound: u8) -> bool
+    requires { ⌜ 0 < bound ⌝ }
     ensures { λ r. ⌜ Exactly r (CellsFit bound used (now (a .entry))) ⌝ }
 {
     let mut ok = true;
@@ -36,6 +46,7 @@ fn cells_fit(a: &[u8], used: usize, bound: u8) -> bool
     ok
 }
 
+// Word k of a code of n words.
 fn word_fits(w: Word, k: usize, n: usize) -> bool
     ensures { λ r. ⌜ Exactly r (WordFits limits n k w) ⌝ }
 {
@@ -48,6 +59,7 @@ fn word_fits(w: Word, k: usize, n: usize) -> bool
     }
 }
 
+// Row x of a code of n words.
 fn row_fits(row: Row, x: usize, n: usize) -> bool
     ensures { λ r. ⌜ Exactly r (RowFits limits n x row) ⌝ }
 {
@@ -85,17 +97,11 @@ fn rows_fit(code: Code) -> bool
     ok
 }
 
-// a - b, and 0 where b is greater.
-fn minus(a: usize, b: usize) -> usize
-    ensures { λ r. ⌜ r ≡ a - b ⌝ }
-{
-    if b <= a { a - b } else { 0 }
-}
-
+// The words together have at most as many symbols as a code may have. No sum is made, since it could pass the range of a number.
 fn total_fits(code: Code) -> bool
     ensures { λ r. ⌜ Exactly r (sum (table (lenOf code) 32) ≤ 128) ⌝ }
 {
-    // One more than the symbols that may still come.
+    // one more than the symbols that may still come
     let mut room = Code::SYMBOLS + 1;
     let mut k = 0;
     while k < Code::WORDS {
@@ -106,9 +112,9 @@ fn total_fits(code: Code) -> bool
     0 < room
 }
 
-// An accepted sheet gives this table: the answer to refusal 8.
+// Whether an accepted sheet gives this table: where not, refusal 8 holds.
 pub fn well_formed(code: Code) -> bool
-    ensures { λ r. ⌜ Exactly r (WellFormed limits code) ⌝ }
+    ensures { λ r. ⌜ Exactly r (FromSheet limits code) ⌝ }
 {
     let n = code.count;
     and(

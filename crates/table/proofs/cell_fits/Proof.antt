@@ -1,8 +1,7 @@
+-- `cell_fits` says exactly whether a cell fits: in each of the two cases the test is the only thing that is asked.
 use Rattle.table.specs.Cells.{cell-used, cell-unused}
 use Rattle.table.proofs.cell_fits.Statement.{statement}
 use Rattle.table.proofs.cell_fits.Tie as tie
-use Rattle.table.proofs.cell_fits.Reads as reads
-use Rattle.table.proofs.cell_fits.Lts as lts
 
 returns : tie.Need-returns
 returns c = cell-used _ _ _ _ (c .if1 .taken)

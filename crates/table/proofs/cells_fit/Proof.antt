@@ -1,16 +1,13 @@
+-- `cells_fit` says exactly whether all cells fit. The invariant: `ok` says so of the cells below p.
+use mathlib.Core.Path.{_≡_}
 use Prim.Native.Nat.{ℕ, _≤_, _<_, _-_}
 use native.Mathlib.Omega.{arith}
-use mathlib.Core.Path.{_≡_}
 use lib.ListN.{length}
 use borrow.Author.Needs.{needs}
-use Rattle.table.specs.Exactly.{Exactly, exactly-none, exactly-more}
-use Rattle.table.specs.Cells.{CellAt}
+use Rattle.table.specs.Exactly.{Exactly, exactly-iff, exactly-none, exactly-more}
+use Rattle.table.specs.Cells.{CellAt, cells-fit}
 use Rattle.table.proofs.cells_fit.Statement.{statement}
 use Rattle.table.proofs.cells_fit.Tie as tie
-use Rattle.table.proofs.cells_fit.Reads as reads
-use Rattle.table.proofs.cells_fit.Lts as lts
-use Rattle.table.proofs.and.Reads as and-reads
-use Rattle.table.proofs.cell_fits.Reads as cell-fits-reads
 
 abbrev Inv-loop : tie.InvT-loop
 Inv-loop a used bound ok₀ p₀ ok p = (p ≤ length a) × Exactly ok ((i : ℕ) → i < p → CellAt bound used a i)
@@ -44,9 +41,10 @@ loop-again c =
 
 returns : tie.Need-returns Inv-loop μ-loop
 returns c =
+    let s = c .before .before .before in
     let l = c .before .loop in
-    let end : l .p ≡ length (c .before .before .before .args .a .now) = omega arith in
-    rw end at (l .inv .1)
+    let end : l .p ≡ length (s .args .a .now) = omega arith in
+    exactly-iff (cells-fit (s .args .bound) (s .args .used) (s .pre) (s .args .a .now)) (rw end at (l .inv .1))
 
 pub cells-fit-spec : {M : Type 1} → statement M
 cells-fit-spec =

@@ -1,3 +1,4 @@
+-- `row_fits` says exactly whether a row fits: its cells are tested with as many in use as the row has columns, or none.
 use mathlib.Core.Path.{_≡_}
 use lib.ListN.{length}
 use borrow.Author.Needs.{needs}
@@ -5,34 +6,25 @@ use Rattle.code.specs.Definitions.Sheets.{limits}
 use Rattle.table.specs.Tested.{row-used, row-unused}
 use Rattle.table.proofs.row_fits.Statement.{statement}
 use Rattle.table.proofs.row_fits.Tie as tie
-use Rattle.table.proofs.row_fits.Reads as reads
-use Rattle.table.proofs.row_fits.Lts as lts
-use Rattle.table.proofs.cells_fit.Reads as cells-fit-reads
 
--- src/lib.rt:55:19
 slice-aggregate-cells-fit : tie.Need-slice-aggregate-cells-fit
 slice-aggregate-cells-fit c = search needs
 
--- src/lib.rt:55:9
 cells-fit-requires : tie.Need-cells-fit-requires
 cells-fit-requires c κs = search needs
 
--- src/lib.rt:57:19
 slice-aggregate-cells-fit-2 : tie.Need-slice-aggregate-cells-fit-2
 slice-aggregate-cells-fit-2 c = search needs
 
--- src/lib.rt:57:9
 cells-fit-requires-2 : tie.Need-cells-fit-requires-2
 cells-fit-requires-2 c κs = search needs
 
--- src/lib.rt:50:1
 returns : tie.Need-returns
 returns c =
     let args = c .before .before .before .before .args in
     let array : length (args .row .entries) ≡ 32 = search needs in
     row-used limits (args .n) (args .x) (args .row) array (c .before .before .if1 .taken) (c .cells-fit .ensures)
 
--- src/lib.rt:50:1
 returns-2 : tie.Need-returns-2
 returns-2 c =
     let args = c .before .before .before .before .args in

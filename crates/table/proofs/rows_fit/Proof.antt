@@ -1,3 +1,4 @@
+-- `rows_fit` says exactly whether all rows fit. The invariant: `ok` says so of the rows below x.
 use mathlib.Core.Path.{_≡_}
 use Prim.Native.Nat.{ℕ, _-_, _≤_, _<_}
 use native.Mathlib.Omega.{arith}
@@ -7,10 +8,6 @@ use Rattle.table.specs.Exactly.{Exactly, exactly-none, exactly-more}
 use Rattle.table.specs.WellFormed.{RowAt}
 use Rattle.table.proofs.rows_fit.Statement.{statement}
 use Rattle.table.proofs.rows_fit.Tie as tie
-use Rattle.table.proofs.rows_fit.Reads as reads
-use Rattle.table.proofs.rows_fit.Lts as lts
-use Rattle.table.proofs.and.Reads as and-reads
-use Rattle.table.proofs.row_fits.Reads as row-fits-reads
 
 abbrev Inv-loop : tie.InvT-loop
 Inv-loop code ok₀ x₀ ok x = (x ≤ 32) × Exactly ok ((j : ℕ) → j < x → RowAt limits code j)

@@ -1,3 +1,4 @@
+-- `word_fits` says exactly whether a word fits: the tests of its length and of its cells are joined, in the two cases that it is in use or not.
 use mathlib.Core.Path.{_≡_}
 use lib.ListN.{length}
 use borrow.Author.Needs.{needs}
@@ -5,32 +6,22 @@ use Rattle.code.specs.Definitions.Sheets.{limits}
 use Rattle.table.specs.Tested.{word-used, word-unused}
 use Rattle.table.proofs.word_fits.Statement.{statement}
 use Rattle.table.proofs.word_fits.Tie as tie
-use Rattle.table.proofs.word_fits.Reads as reads
-use Rattle.table.proofs.word_fits.Lts as lts
-use Rattle.table.proofs.and.Reads as and-reads
-use Rattle.table.proofs.cells_fit.Reads as cells-fit-reads
 
--- src/lib.rt:42:27
 slice-aggregate-cells-fit : tie.Need-slice-aggregate-cells-fit
 slice-aggregate-cells-fit c = search needs
 
--- src/lib.rt:42:9
 cells-fit-requires : tie.Need-cells-fit-requires
 cells-fit-requires c κs = search needs
 
--- src/lib.rt:44:13
 and-requires : tie.Need-and-requires
 and-requires c κs = search needs
 
--- src/lib.rt:44:9
 and-requires-2 : tie.Need-and-requires-2
 and-requires-2 c κs = search needs
 
--- src/lib.rt:46:9
 and-requires-3 : tie.Need-and-requires-3
 and-requires-3 c κs = search needs
 
--- src/lib.rt:38:1
 returns : tie.Need-returns
 returns c =
     let s = c .before .before .before .before .before .before .before .before in
@@ -39,7 +30,6 @@ returns c =
     rw (c .and2 .ensures, c .before .and .ensures)
     (word-used limits (s .args .n) (s .args .k) (s .args .w) array cells (c .before .before .before .before .if1 .taken))
 
--- src/lib.rt:38:1
 returns-2 : tie.Need-returns-2
 returns-2 c =
     let s = c .before .before .before .before .before .before in

@@ -1,3 +1,4 @@
+-- `words_fit` says exactly whether all words fit. The invariant: `ok` says so of the words below k.
 use mathlib.Core.Path.{_≡_}
 use Prim.Native.Nat.{ℕ, _-_, _≤_, _<_}
 use native.Mathlib.Omega.{arith}
@@ -7,10 +8,6 @@ use Rattle.table.specs.Exactly.{Exactly, exactly-none, exactly-more}
 use Rattle.table.specs.WellFormed.{WordAt}
 use Rattle.table.proofs.words_fit.Statement.{statement}
 use Rattle.table.proofs.words_fit.Tie as tie
-use Rattle.table.proofs.words_fit.Reads as reads
-use Rattle.table.proofs.words_fit.Lts as lts
-use Rattle.table.proofs.and.Reads as and-reads
-use Rattle.table.proofs.word_fits.Reads as word-fits-reads
 
 abbrev Inv-loop : tie.InvT-loop
 Inv-loop code ok₀ k₀ ok k = (k ≤ 32) × Exactly ok ((j : ℕ) → j < k → WordAt limits code j)
