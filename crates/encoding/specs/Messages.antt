@@ -1,14 +1,12 @@
--- The message of a sequence grows by one word with each entry, so the message of its first entries is a prefix of the whole. In the table of a code
--- the word that is added stands in the array.
+-- The message of a sequence grows by one word with each entry, so the message of its first entries is a prefix of the whole.
 use mathlib.Core.Path.{_≡_, refl, sym, ap, _∙_}
-use mathlib.Core.List.{List, [], _∷_, _++_, map, append-assoc, append-nil}
-use Prim.Native.Nat.{ℕ, suc, _+_, _≤_, _<_}
+use mathlib.Core.List.{List, [], _∷_, _++_, append-assoc, append-nil}
+use Prim.Native.Nat.{ℕ, _+_, _≤_, _<_}
 use native.Mathlib.Numerals.{add-one}
 use native.Mathlib.Omega.{arith}
-use lib.ListN.{length, take, drop, getD, length-append, length-take, length-map, take-append-drop, List·getD-map}
-use lib.Seq.{length-take-le, take-suc, take-all, getD-take}
-use Rattle.code.specs.declared.Code.{Code}
-use Rattle.code.specs.Definitions.Tables.{Table, size, word, message, symbolsOf, noWord, tableOf}
+use lib.ListN.{length, take, drop, getD, length-append, take-append-drop}
+use lib.Seq.{take-suc, take-all}
+use Rattle.code.specs.Definitions.Tables.{Table, word, message}
 
 module _ (t : Table) where
   -- The message of two sequences in a row is their messages in a row.
@@ -28,11 +26,3 @@ module _ (t : Table) where
   message-part s i =
       let parts : message t s ≡ message t (take i s) ++ message t (drop i s) = sym (ap (message t) (take-append-drop i s)) ∙ message-append (take i s) (drop i s) in
       omega (arith, simp length-append at (ap length parts))
-
--- The table of a code has as many words as the code counts.
-pub size-of : (c : Code) → c .count ≤ length (c .words) → size (tableOf c) ≡ c .count
-size-of c h = length-map (take (c .count) (c .words)) symbolsOf ∙ length-take-le (c .count) (c .words) h
-
--- and each is the one of that number in the array
-pub word-of : (c : Code) (x : ℕ) → x < c .count → word (tableOf c) x ≡ symbolsOf (getD (c .words) x noWord)
-word-of c x h = List·getD-map symbolsOf (take (c .count) (c .words)) x noWord ∙ ap symbolsOf (getD-take (c .count) (c .words) x noWord h)

@@ -1,21 +1,22 @@
 -- The passes of encoding over a sequence: each keeps what it knows of the entries passed, and one entry more is one lemma.
-use mathlib.Core.Path.{_≡_, refl, sym, ap, _∙_}
-use mathlib.Core.Bool.{true, false, false≢true}
-use mathlib.Core.List.{List, _++_, append-assoc}
+use mathlib.Core.Path.{_≡_, sym, ap, _∙_}
+use mathlib.Core.Bool.{true, false}
+use mathlib.Core.List.{List, _++_}
 use Prim.Native.Nat.{ℕ, _+_, _≤_, _<_, min}
 use native.Mathlib.Decide.{decLt}
 use native.Mathlib.Omega.{arith}
-use lib.ListN.{length, take, drop, getD, length-append}
+use lib.ListN.{length, take, getD, length-append}
 use lib.Seq.{length-take-le, take-append-seam, drop-append-add, drop-drop, paste}
-use borrow.Author.Tests.{eqb-false, eq-eqb, ne-eqb}
+use borrow.Author.Tests.{eqb-false, ne-eqb}
 use Rattle.code.specs.declared.Word.{Word}
 use Rattle.code.specs.declared.Code.{Code}
 use Rattle.code.specs.declared.Limits.{Limits}
-use Rattle.code.specs.Definitions.Tables.{size, word, message, symbolsOf, noWord, entryOf, tableOf}
+use Rattle.code.specs.Definitions.Tables.{message, symbolsOf, noWord, entryOf, tableOf}
 use Rattle.code.specs.Definitions.Operations.{HasUnknown, HasForbidden, written}
 use Rattle.table.specs.Exactly.{Exactly, exactly-true, exactly-false}
 use Rattle.table.specs.WellFormed.{WordFits, WellFormed}
-use Rattle.encoding.specs.Messages.{size-of, word-of, message-more, message-all, message-part}
+use Rattle.encoding.specs.Messages.{message-more, message-all, message-part}
+use Rattle.encoding.specs.Words.{size-count, word-symbols, word-length}
 
 -- Refusal 9: the entries passed are words.
 
@@ -24,14 +25,11 @@ abbrev pub WordsBelow : Code → List ℕ → ℕ → Type 0
 WordsBelow c s i = (k : ℕ) → k < i → getD s k 0 < c .count
 
 module _ {l : Limits} {c : Code} (well : WellFormed l c) where
-  count-size : size (tableOf c) ≡ c .count
-  count-size = size-of c (omega (arith, well .most, well .words))
-
   pub unknown-here : (s : List ℕ) (i : ℕ) → i < length s → c .count ≤ getD s i 0 → Exactly true (HasUnknown (tableOf c) s)
-  unknown-here s i h u = exactly-true (record { at = i; within = h; unknown = rw count-size u })
+  unknown-here s i h u = exactly-true (record { at = i; within = h; unknown = rw (size-count well) u })
 
   pub unknown-nowhere : (s : List ℕ) (i : ℕ) → length s ≤ i → WordsBelow c s i → Exactly false (HasUnknown (tableOf c) s)
-  unknown-nowhere s i h w = exactly-false (λ u. let x = w (u .at) (omega (arith, u .within)) in omega (arith, count-size, u .unknown))
+  unknown-nowhere s i h w = exactly-false (λ u. let x = w (u .at) (omega (arith, u .within)) in omega (arith, size-count well, u .unknown))
 
   -- A sequence without unknown entry consists of words.
   pub all-words : (s : List ℕ) → (HasUnknown (tableOf c) s → ⊥) → WordsBelow c s (length s)
@@ -39,7 +37,7 @@ module _ {l : Limits} {c : Code} (well : WellFormed l c) where
     where
       by-test : Dec (getD s i 0 < c .count) → getD s i 0 < c .count
       by-test (yes x) = x
-      by-test (no x) = absurd (none (record { at = i; within = h; unknown = omega (arith, count-size) }))
+      by-test (no x) = absurd (none (record { at = i; within = h; unknown = omega (arith, size-count well) }))
 
 -- A list pasted behind what is written lengthens it.
 written-more : (m b ws : List ℕ) (n : ℕ) → n ≤ length ws → paste (written m b) (length m) ws n ≡ written (m ++ take n ws) b
@@ -64,15 +62,15 @@ module _ (l : Limits) {c : Code} {s : List ℕ} (known : Known l c s) (i : ℕ) 
   pub known-short : wordAt c s i .len ≤ l .symbols
   known-short = known-fits .short
 
-  pub known-word : wordAt c s i .len ≤ length (wordAt c s i .symbols)
-  known-word = omega (arith, known-fits .short, known-fits .array)
+  known-room : wordAt c s i .len ≤ length (wordAt c s i .symbols)
+  known-room = omega (arith, known-short, known-fits .array)
 
-  -- One entry more adds its word to the message.
-  pub message-on : message (tableOf c) (take (i + 1) s) ≡ message (tableOf c) (take i s) ++ symbolsOf (wordAt c s i)
-  message-on = message-more (tableOf c) s i within ∙ rw (word-of c (getD s i 0) (known .known i within))
+  -- One entry more adds its word to the message, and its length to the length.
+  message-on : message (tableOf c) (take (i + 1) s) ≡ message (tableOf c) (take i s) ++ symbolsOf (wordAt c s i)
+  message-on = rw (message-more (tableOf c) s i within, word-symbols (known .well) (getD s i 0) (known .known i within))
 
-  pub length-on : length (message (tableOf c) (take (i + 1) s)) ≡ length (message (tableOf c) (take i s)) + wordAt c s i .len
-  length-on = rw (message-on, length-append, length-take-le (wordAt c s i .len) (wordAt c s i .symbols) known-word)
+  length-on : length (message (tableOf c) (take (i + 1) s)) ≡ length (message (tableOf c) (take i s)) + wordAt c s i .len
+  length-on = rw (message-more (tableOf c) s i within, length-append, word-length (known .well) (getD s i 0) (known .known i within))
 
 -- Refusal 10: the pairs passed are permitted.
 
@@ -110,7 +108,7 @@ module _ (l : Limits) {c : Code} {s : List ℕ} (known : Known l c s) where
   pub write-more : (i at : ℕ) (b m m′ : List ℕ) → i < length s → at ≡ length (message (tableOf c) (take i s)) → m ≡ written (message (tableOf c) (take i s)) b
       → m′ ≡ paste m at (wordAt c s i .symbols) (wordAt c s i .len) → m′ ≡ written (message (tableOf c) (take (i + 1) s)) b
   write-more i at b m m′ h e w p =
-      p ∙ rw (w, e, message-on l known i h) (written-more (message (tableOf c) (take i s)) b (wordAt c s i .symbols) (wordAt c s i .len) (known-word l known i h))
+      p ∙ rw (w, e, message-on l known i h) (written-more (message (tableOf c) (take i s)) b (wordAt c s i .symbols) (wordAt c s i .len) (known-room l known i h))
 
   pub write-whole : (i : ℕ) (b m : List ℕ) → length s ≤ i → m ≡ written (message (tableOf c) (take i s)) b → m ≡ written (message (tableOf c) s) b
   write-whole i b m h w = rw (← message-all (tableOf c) s i h) w

@@ -1,7 +1,7 @@
 -- Encoding and reading undo each other, as their definitions say. What is encoded is permitted and stands in the buffer as its message, so it is a
 -- reading of that message; and what reading finds is permitted and has the message that was read, so encoding takes it and gives that message back.
-use mathlib.Core.Path.{_≡_, refl, sym, ap, _∙_}
-use mathlib.Core.List.{List, [], _∷_, _++_, List-discrete}
+use mathlib.Core.Path.{_≡_, sym, ap}
+use mathlib.Core.List.{List, List-discrete}
 use mathlib.Core.Logic.{_⊎_, inl, inr}
 use Prim.Native.Nat.{ℕ, _≤_, _<_}
 use native.Mathlib.Decide.{ℕ-discrete}
@@ -16,9 +16,8 @@ use Rattle.code.specs.declared.Refusal.{Refusal}
 use Rattle.code.specs.declared.Refusal.the-variants.{ShortBuffer, NoReading as Unreadable}
 use Rattle.code.specs.declared.Encoding.{Encoding}
 use Rattle.code.specs.declared.Encoding.the-variants.{Encoded, Refused as Not-encoded}
-use Rattle.code.specs.declared.Reading.{Reading}
 use Rattle.code.specs.declared.Reading.the-variants.{One, Two, Refused}
-use Rattle.code.specs.Definitions.Tables.{Permitted, message, tableOf}
+use Rattle.code.specs.Definitions.Tables.{message, tableOf}
 use Rattle.code.specs.Definitions.Orders.{Lex}
 use Rattle.code.specs.Definitions.Readings.{Reads, OnlyReading, FirstTwo}
 use Rattle.code.specs.Definitions.Sheets.{FromSheet}
@@ -94,12 +93,19 @@ module _ (l : Limits) (c : Code) where
   none-refuses : (m s b : List ℕ) → Found m s → length m ≤ length b → NoneHolds (encodingConditions l c s b)
   none-refuses m s b d h =
       let joined = d .reads .joined in
-      let permitted = d .reads .permitted in
-      (d .from-sheet,
-      (permitted-known permitted,
-      (permitted-follows permitted,
-      ((λ x. d .within (rw joined at x)),
-      ((λ x. omega (arith, rw joined at x)), tt)))))
+      let permitted = d .reads .permitted in (
+        d .from-sheet,
+        (
+          permitted-known permitted,
+          (
+            permitted-follows permitted,
+            (
+              (λ x. d .within (rw joined at x)),
+              ((λ x. omega (arith, rw joined at x)), tt),
+            ),
+          ),
+        ),
+      )
 
 module _ {l : Limits} {c : Code} where
   module _ {m f g w f′ g′ w′ : List ℕ} where
@@ -111,9 +117,9 @@ module _ {l : Limits} {c : Code} where
     -- So are the first and the second of two.
     pub two-found : {j k : WordCount} → ReadsMessage l c m f g w f′ g′ w′ (Two j k) → Found l c m (take (j .0) f′) × Found l c m (take (k .0) g′)
     two-found {j} {k} (two {s = s} {u = u} h t d e p q z) = (
-        record { from-sheet = h .0; within = h .1 .0; reads = rw (take-written (j .0) s f f′ d p) (t .first) },
-        record { from-sheet = h .0; within = h .1 .0; reads = rw (take-written (k .0) u g g′ e q) (t .second) },
-      )
+      record { from-sheet = h .0; within = h .1 .0; reads = rw (take-written (j .0) s f f′ d p) (t .first) },
+      record { from-sheet = h .0; within = h .1 .0; reads = rw (take-written (k .0) u g g′ e q) (t .second) },
+    )
 
   module _ {m s : List ℕ} (found : Found l c m s) where
     -- Encoding what reading found, into a buffer as long as the message, gives the message back.

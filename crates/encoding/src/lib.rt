@@ -6,7 +6,6 @@ use code::Message;
 use code::Refusal;
 use code::SymbolCount;
 use code::Word;
-
 ghost use mathlib.Core.Path.{_≡_};
 ghost use Prim.Native.Nat.{_+_, _≤_, min};
 ghost use lib.ListN.{length};

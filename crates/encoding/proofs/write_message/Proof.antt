@@ -1,72 +1,63 @@
-use Rattle.code.specs.Definitions.Sheets.{limits}
+-- The loop keeps that the message of the entries passed is written, and that `at` is its length.
 use mathlib.Core.Path.{_≡_, _∙_}
-use Rattle.encoding.specs.Passes.{known-number, known-short, length-more, write-room, write-more, write-whole}
+use Prim.Native.Nat.{_≤_, _<_, _-_}
+use native.Mathlib.Omega.{arith}
+use lib.ListN.{length, take}
+use borrow.Author.Needs.{needs}
+use Rattle.code.specs.Definitions.Sheets.{limits}
 use Rattle.code.specs.Definitions.Operations.{written}
 use Rattle.code.specs.Definitions.Tables.{message as messageOf, tableOf}
-use borrow.Author.Count.{below-none, below-more}
-use lib.ListN.{length, take, getD}
-use native.Mathlib.Omega.{arith}
-use Prim.Native.Nat.{ℕ, _+_, _≤_, _<_, _-_}
-use borrow.Author.Needs.{needs}
+use Rattle.encoding.specs.Passes.{known-number, known-short, length-more, write-room, write-more, write-whole}
 use Rattle.encoding.proofs.write_message.Statement.{statement}
 use Rattle.encoding.proofs.write_message.Tie as tie
-use Rattle.encoding.proofs.write_message.Reads as reads
-use Rattle.encoding.proofs.write_message.Lts as lts
-use Rattle.encoding.proofs.write_word.Reads as write-word-reads
 
 abbrev Inv-loop : tie.InvT-loop
-Inv-loop words message₀ code at₀ i₀ message at i = (i ≤ length words) × (at ≡ length (messageOf (tableOf code) (take i words))) × (length message ≡ length message₀) × (message ≡ written (messageOf (tableOf code) (take i words)) message₀)
+Inv-loop words message₀ code at₀ i₀ message at i =
+    (i ≤ length words) × (at ≡ length (messageOf (tableOf code) (take i words))) × (length message ≡ length message₀)
+    × (message ≡ written (messageOf (tableOf code) (take i words)) message₀)
 
 abbrev μ-loop : tie.MeasureT-loop
 μ-loop words message₀ code at₀ i₀ message at i = length words - i
 
--- src/lib.rt:87:5
 loop-holds : tie.Need-loop-holds Inv-loop μ-loop
 loop-holds c = search needs
 
--- src/lib.rt:88:28
 shared-slice-read-w : tie.Need-shared-slice-read-w Inv-loop μ-loop
 shared-slice-read-w c = search needs
 
--- src/lib.rt:88:28
 cast-w : tie.Need-cast-w Inv-loop μ-loop
 cast-w c = omega (arith, c .shared-slice-known2 .given (c .before .before .loop .i))
 
--- src/lib.rt:88:17
 mul-w : tie.Need-mul-w Inv-loop μ-loop
 mul-w c = omega (arith, c .shared-slice-known2 .given (c .before .before .loop .i))
 
--- src/lib.rt:88:17
 element-copy-out-w : tie.Need-element-copy-out-w Inv-loop μ-loop
 element-copy-out-w c = search (known-number limits)
 
--- src/lib.rt:89:9
 write-word-requires : tie.Need-write-word-requires Inv-loop μ-loop
-write-word-requires c κs = let l = c .before .before .before .before .loop in
-    let p = c .before .before .before .before .before .before .before .pre in
-    (search (known-short limits), write-room limits (p .0) (l .i) (l .at) _ (search needs) (l .inv .1) (omega arith))
+write-word-requires c κs =
+    let l = c .before .before .before .before .loop in
+    let pre = c .before .before .before .before .before .before .before .pre in
+    (search (known-short limits), write-room limits (pre .0) (l .i) (l .at) _ (search needs) (l .inv .1) (omega arith))
 
--- src/lib.rt:90:9
 add-i : tie.Need-add-i Inv-loop μ-loop
 add-i c = search needs
 
--- src/lib.rt:87:5
 loop-less : tie.Need-loop-less Inv-loop μ-loop
 loop-less c = search needs
 
--- src/lib.rt:87:5
 loop-again : tie.Need-loop-again Inv-loop μ-loop
-loop-again c = let l = c .before .before .before .before .before .before .before .loop in
-    let p = c .before .before .before .before .before .before .before .before .before .before .pre in
+loop-again c =
+    let l = c .before .before .before .before .before .before .before .loop in
+    let pre = c .before .before .before .before .before .before .before .before .before .before .pre in
     let w = c .before .before .write-word in
     let within : l .i < length (c .before .before .before .before .before .before .before .before .before .before .args .words .now) = omega arith in
-    (omega arith, w .ensures .0 ∙ length-more limits (p .0) (l .i) (l .at) within (l .inv .1), omega arith, write-more limits (p .0) (l .i) (l .at) _ (l .message) _ within (l .inv .1) (l .inv .3) (w .ensures .1))
+    let length-next = w .ensures .0 ∙ length-more limits (pre .0) (l .i) (l .at) within (l .inv .1) in
+    (omega arith, length-next, omega arith, write-more limits (pre .0) (l .i) (l .at) _ (l .message) _ within (l .inv .1) (l .inv .3) (w .ensures .1))
 
--- src/lib.rt:81:1
 same-length : tie.Need-same-length Inv-loop μ-loop
 same-length c = search needs
 
--- src/lib.rt:81:1
 returns : tie.Need-returns Inv-loop μ-loop
 returns c = search (write-whole limits)
 
