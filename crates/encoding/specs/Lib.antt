@@ -2,6 +2,5 @@ pub mod Messages
 pub mod Words
 pub mod Passes
 pub mod Ways
-pub mod Sequences
-pub mod Conditions
+pub mod Permitted
 pub mod RoundTrip

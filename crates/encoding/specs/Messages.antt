@@ -6,7 +6,12 @@ use native.Mathlib.Numerals.{add-one}
 use native.Mathlib.Omega.{arith}
 use lib.ListN.{length, take, drop, getD, length-append, take-append-drop}
 use lib.Seq.{take-suc, take-all}
-use Rattle.code.specs.Definitions.Tables.{Table, word, message}
+use Rattle.code.specs.declared.Code.{Code}
+use Rattle.code.specs.Definitions.Tables.{Table, word, message, tableOf}
+
+-- the message of a sequence of a code's words
+abbrev pub messageOf : Code → List ℕ → List ℕ
+messageOf c s = message (tableOf c) s
 
 module _ (t : Table) where
   -- The message of two sequences in a row is their messages in a row.
@@ -18,6 +23,7 @@ module _ (t : Table) where
   pub message-more : (s : List ℕ) (i : ℕ) → i < length s → message t (take (i + 1) s) ≡ message t (take i s) ++ word t (getD s i 0)
   message-more s i h = rw (add-one, take-suc s i 0, message-append, append-nil)
 
+  -- All entries make the whole message.
   pub message-all : (s : List ℕ) (i : ℕ) → length s ≤ i → message t (take i s) ≡ message t s
   message-all s i h = rw (take-all i s h)
 

@@ -11,11 +11,11 @@ use borrow.Author.Tests.{eqb-false, ne-eqb}
 use Rattle.code.specs.declared.Word.{Word}
 use Rattle.code.specs.declared.Code.{Code}
 use Rattle.code.specs.declared.Limits.{Limits}
-use Rattle.code.specs.Definitions.Tables.{message, symbolsOf, noWord, entryOf, tableOf}
+use Rattle.code.specs.Definitions.Tables.{symbolsOf, noWord, entryOf, tableOf}
 use Rattle.code.specs.Definitions.Operations.{HasUnknown, HasForbidden, written}
 use Rattle.table.specs.Exactly.{Exactly, exactly-true, exactly-false}
 use Rattle.table.specs.WellFormed.{WordFits, WellFormed}
-use Rattle.encoding.specs.Messages.{message-more, message-all, message-part}
+use Rattle.encoding.specs.Messages.{messageOf, message-more, message-all, message-part}
 use Rattle.encoding.specs.Words.{size-count, word-symbols, word-length}
 
 -- Refusal 9: the entries passed are words.
@@ -39,11 +39,7 @@ module _ {l : Limits} {c : Code} (well : WellFormed l c) where
       by-test (yes x) = x
       by-test (no x) = absurd (none (record { at = i; within = h; unknown = omega (arith, size-count well) }))
 
--- A list pasted behind what is written lengthens it.
-written-more : (m b ws : List ℕ) (n : ℕ) → n ≤ length ws → paste (written m b) (length m) ws n ≡ written (m ++ take n ws) b
-written-more m b ws n h = rw (take-append-seam, drop-append-add, drop-drop, length-append, length-take-le n ws h)
-
--- A table that a sheet gives, and a sequence of its words.
+-- A well-formed code, and a sequence of its words.
 pub record Known (l : Limits) (c : Code) (s : List ℕ) : Type 0 where
   pub well : WellFormed l c
   pub known : WordsBelow c s (length s)
@@ -51,6 +47,10 @@ pub record Known (l : Limits) (c : Code) (s : List ℕ) : Type 0 where
 -- The word that entry i of s names.
 abbrev pub wordAt : Code → List ℕ → ℕ → Word
 wordAt c s i = getD (c .words) (getD s i 0) noWord
+
+-- The message of the first i entries of s.
+abbrev pub messageBelow : Code → List ℕ → ℕ → List ℕ
+messageBelow c s i = messageOf c (take i s)
 
 module _ (l : Limits) {c : Code} {s : List ℕ} (known : Known l c s) (i : ℕ) (within : i < length s) where
   pub known-number : getD s i 0 < l .words
@@ -66,10 +66,10 @@ module _ (l : Limits) {c : Code} {s : List ℕ} (known : Known l c s) (i : ℕ) 
   known-room = omega (arith, known-short, known-fits .array)
 
   -- One entry more adds its word to the message, and its length to the length.
-  message-on : message (tableOf c) (take (i + 1) s) ≡ message (tableOf c) (take i s) ++ symbolsOf (wordAt c s i)
+  message-on : messageBelow c s (i + 1) ≡ messageBelow c s i ++ symbolsOf (wordAt c s i)
   message-on = rw (message-more (tableOf c) s i within, word-symbols (known .well) (getD s i 0) (known .known i within))
 
-  length-on : length (message (tableOf c) (take (i + 1) s)) ≡ length (message (tableOf c) (take i s)) + wordAt c s i .len
+  length-on : length (messageBelow c s (i + 1)) ≡ length (messageBelow c s i) + wordAt c s i .len
   length-on = rw (message-more (tableOf c) s i within, length-append, word-length (known .well) (getD s i 0) (known .known i within))
 
 -- Refusal 10: the pairs passed are permitted.
@@ -81,6 +81,10 @@ FollowsAt c s k = entryOf c (getD s (k + 1) 0) (getD s k 0) ≡ 1
 abbrev pub FollowsBelow : Code → List ℕ → ℕ → Type 0
 FollowsBelow c s i = (k : ℕ) → k < i → FollowsAt c s k
 
+-- A list pasted behind what is written lengthens it.
+written-more : (m b w : List ℕ) (n : ℕ) → n ≤ length w → paste (written m b) (length m) w n ≡ written (m ++ take n w) b
+written-more m b w n h = rw (take-append-seam, drop-append-add, drop-drop, length-append, length-take-le n w h)
+
 module _ (l : Limits) {c : Code} {s : List ℕ} (known : Known l c s) where
   pub forbidden-here : (i : ℕ) → i + 1 < length s → (FollowsAt c s i → ⊥) → Exactly true (HasForbidden (tableOf c) s)
   forbidden-here i h f = exactly-true (record { at = i; within = h; forbidden = ne-eqb _ _ f })
@@ -90,25 +94,25 @@ module _ (l : Limits) {c : Code} {s : List ℕ} (known : Known l c s) where
 
   -- Refusal 11: the length of the message, as far as the limit.
 
-  pub length-more : (i n : ℕ) → i < length s → n ≡ length (message (tableOf c) (take i s)) → n + wordAt c s i .len ≡ length (message (tableOf c) (take (i + 1) s))
+  pub length-more : (i n : ℕ) → i < length s → n ≡ length (messageBelow c s i) → n + wordAt c s i .len ≡ length (messageBelow c s (i + 1))
   length-more i n h e = rw e (sym (length-on l known i h))
 
-  pub length-over : (i n : ℕ) → i < length s → n ≡ length (message (tableOf c) (take i s)) → l .message < n + wordAt c s i .len
-      → l .message + 1 ≡ min (length (message (tableOf c) s)) (l .message + 1)
+  pub length-over : (i n : ℕ) → i < length s → n ≡ length (messageBelow c s i) → l .message < n + wordAt c s i .len
+      → l .message + 1 ≡ min (length (messageOf c s)) (l .message + 1)
   length-over i n h e over = omega (arith, length-on l known i h, message-part (tableOf c) s (i + 1))
 
-  pub length-whole : (i n : ℕ) → length s ≤ i → n ≡ length (message (tableOf c) (take i s)) → n ≤ l .message → n ≡ min (length (message (tableOf c) s)) (l .message + 1)
+  pub length-whole : (i n : ℕ) → length s ≤ i → n ≡ length (messageBelow c s i) → n ≤ l .message → n ≡ min (length (messageOf c s)) (l .message + 1)
   length-whole i n h e within = omega (arith, ap length (message-all (tableOf c) s i h))
 
   -- Writing: the message of the entries passed stands at the start of the buffer.
 
-  pub write-room : (i at n : ℕ) → i < length s → at ≡ length (message (tableOf c) (take i s)) → length (message (tableOf c) s) ≤ n → at + wordAt c s i .len ≤ n
+  pub write-room : (i at n : ℕ) → i < length s → at ≡ length (messageBelow c s i) → length (messageOf c s) ≤ n → at + wordAt c s i .len ≤ n
   write-room i at n h e room = omega (arith, length-on l known i h, message-part (tableOf c) s (i + 1))
 
-  pub write-more : (i at : ℕ) (b m m′ : List ℕ) → i < length s → at ≡ length (message (tableOf c) (take i s)) → m ≡ written (message (tableOf c) (take i s)) b
-      → m′ ≡ paste m at (wordAt c s i .symbols) (wordAt c s i .len) → m′ ≡ written (message (tableOf c) (take (i + 1) s)) b
+  pub write-more : (i at : ℕ) (b m m′ : List ℕ) → i < length s → at ≡ length (messageBelow c s i) → m ≡ written (messageBelow c s i) b
+      → m′ ≡ paste m at (wordAt c s i .symbols) (wordAt c s i .len) → m′ ≡ written (messageBelow c s (i + 1)) b
   write-more i at b m m′ h e w p =
-      p ∙ rw (w, e, message-on l known i h) (written-more (message (tableOf c) (take i s)) b (wordAt c s i .symbols) (wordAt c s i .len) (known-room l known i h))
+      p ∙ rw (w, e, message-on l known i h) (written-more (messageBelow c s i) b (wordAt c s i .symbols) (wordAt c s i .len) (known-room l known i h))
 
-  pub write-whole : (i : ℕ) (b m : List ℕ) → length s ≤ i → m ≡ written (message (tableOf c) (take i s)) b → m ≡ written (message (tableOf c) s) b
+  pub write-whole : (i : ℕ) (b m : List ℕ) → length s ≤ i → m ≡ written (messageBelow c s i) b → m ≡ written (messageOf c s) b
   write-whole i b m h w = rw (← message-all (tableOf c) s i h) w

@@ -1,9 +1,9 @@
 -- Encoding and reading undo each other, as their definitions say. What is encoded is permitted and stands in the buffer as its message, so it is a
 -- reading of that message; and what reading finds is permitted and has the message that was read, so encoding takes it and gives that message back.
 use mathlib.Core.Path.{_≡_, sym, ap}
-use mathlib.Core.List.{List, List-discrete}
+use mathlib.Core.List.{List, [], _∷_, List-discrete}
 use mathlib.Core.Logic.{_⊎_, inl, inr}
-use Prim.Native.Nat.{ℕ, _≤_, _<_}
+use Prim.Native.Nat.{ℕ, _<_}
 use native.Mathlib.Decide.{ℕ-discrete}
 use native.Mathlib.Omega.{arith}
 use lib.ListN.{length, take}
@@ -14,7 +14,6 @@ use Rattle.code.specs.declared.SymbolCount.{SymbolCount}
 use Rattle.code.specs.declared.WordCount.{WordCount}
 use Rattle.code.specs.declared.Refusal.{Refusal}
 use Rattle.code.specs.declared.Refusal.the-variants.{ShortBuffer, NoReading as Unreadable}
-use Rattle.code.specs.declared.Encoding.{Encoding}
 use Rattle.code.specs.declared.Encoding.the-variants.{Encoded, Refused as Not-encoded}
 use Rattle.code.specs.declared.Reading.the-variants.{One, Two, Refused}
 use Rattle.code.specs.Definitions.Tables.{message, tableOf}
@@ -22,14 +21,29 @@ use Rattle.code.specs.Definitions.Orders.{Lex}
 use Rattle.code.specs.Definitions.Readings.{Reads, OnlyReading, FirstTwo}
 use Rattle.code.specs.Definitions.Sheets.{FromSheet}
 use Rattle.code.specs.Definitions.Answers.{refusalNumber}
-use Rattle.code.specs.Definitions.Operations.{NoneHolds, written, encodingConditions, Encodes, refused, encoded, readingConditions, ReadsMessage, unreadable, one, two}
+use Rattle.code.specs.Definitions.Operations.{Condition, Lowest, written, Encodes, refused, encoded, readingConditions, ReadsMessage, unreadable, one, two}
 use Rattle.code.specs.Laws.Orders.{lex-transitive}
-use Rattle.encoding.specs.Conditions.{lowest-holds, lowest-after, lowest-listed}
-use Rattle.encoding.specs.Sequences.{permitted, permitted-known, permitted-follows}
+use Rattle.encoding.specs.Permitted.{permitted, permitted-known, permitted-follows}
 
 -- A list that was written at the start of a buffer stands there.
 pub take-written : (n : ℕ) (m b b′ : List ℕ) → n ≡ length m → b′ ≡ written m b → take n b′ ≡ m
 take-written n m b b′ e w = rw (e, w, take-append-seam)
+
+-- A condition that does not hold is passed over. Here `Holds` is the condition, `First` that its refusal is the lowest, `Later` that a later one is.
+lowest-after : {Holds First Later : Type 0} → (Holds → ⊥) → (Holds × First) ⊎ ((Holds → ⊥) × Later) → Later
+lowest-after n (inl p) = absurd (n (p .0))
+lowest-after n (inr p) = p .1
+
+-- The refusal r is none of those listed.
+abbrev Unlisted : List Condition → Refusal → Type 0
+Unlisted [] r = Unit
+Unlisted (c ∷ cs) r = (refusalNumber r ≡ refusalNumber (c .refusal) → ⊥) × Unlisted cs r
+
+-- The lowest refusal that holds is one of those listed.
+lowest-listed : (cs : List Condition) (r : Refusal) → Lowest cs r → Unlisted cs r → ⊥
+lowest-listed [] r x n = x
+lowest-listed (c ∷ cs) r (inl p) n = n .0 (ap refusalNumber (p .1))
+lowest-listed (c ∷ cs) r (inr p) n = lowest-listed cs r (p .1) (n .1)
 
 module _ {l : Limits} {c : Code} where
   module _ {m f g w f′ g′ w′ : List ℕ} where
@@ -71,41 +85,21 @@ module _ {l : Limits} {c : Code} where
 
     -- Reading never answers that the encoded message has no reading.
     pub encoded-readable : ReadsMessage l c (take (n .0) b′) f g w f′ g′ w′ (Refused Unreadable) → ⊥
-    encoded-readable (refused h p q z) =
-        lowest-listed (readingConditions l c (take (n .0) b′) f g w) Unreadable h
-        ((λ e. omega (arith, ap refusalNumber e)), ((λ e. omega (arith, ap refusalNumber e)), ((λ e. omega (arith, ap refusalNumber e)), ((λ e. omega (arith, ap refusalNumber e)), tt))))
+    encoded-readable (refused h p q z) = lowest-listed (readingConditions l c (take (n .0) b′) f g w) Unreadable h (omega arith)
     encoded-readable (unreadable h x p q z) = x s (encoded-reads encodes)
 
 -- Reading, then encoding
 
--- What encoding gives for a reading of m: the message m.
-pub record Restored (m b b′ : List ℕ) (r : Encoding) : Type 0 where
-  pub answer : r ≡ Encoded (record { 0 = length m })
+-- Encoding gave the message m: its length, and m at the start of the buffer.
+pub record Restored (m b b′ : List ℕ) (n : SymbolCount) : Type 0 where
+  pub count : n .0 ≡ length m
   pub buffer : b′ ≡ written m b
 
-module _ (l : Limits) (c : Code) where
-  -- Reading the message m found the sequence s.
-  pub record Found (m s : List ℕ) : Type 0 where
-    pub from-sheet : (FromSheet l c → ⊥) → ⊥
-    pub within : l .message < length m → ⊥
-    pub reads : Reads (tableOf c) m s
-
-  none-refuses : (m s b : List ℕ) → Found m s → length m ≤ length b → NoneHolds (encodingConditions l c s b)
-  none-refuses m s b d h =
-      let joined = d .reads .joined in
-      let permitted = d .reads .permitted in (
-        d .from-sheet,
-        (
-          permitted-known permitted,
-          (
-            permitted-follows permitted,
-            (
-              (λ x. d .within (rw joined at x)),
-              ((λ x. omega (arith, rw joined at x)), tt),
-            ),
-          ),
-        ),
-      )
+-- Reading the message m found the sequence s.
+pub record Found (l : Limits) (c : Code) (m s : List ℕ) : Type 0 where
+  pub from-sheet : (FromSheet l c → ⊥) → ⊥
+  pub within : l .message < length m → ⊥
+  pub reads : Reads (tableOf c) m s
 
 module _ {l : Limits} {c : Code} where
   module _ {m f g w f′ g′ w′ : List ℕ} where
@@ -122,14 +116,11 @@ module _ {l : Limits} {c : Code} where
     )
 
   module _ {m s : List ℕ} (found : Found l c m s) where
-    -- Encoding what reading found, into a buffer as long as the message, gives the message back.
-    pub found-restored : {b b′ : List ℕ} {r : Encoding} → length m ≤ length b → Encodes l c s b b′ r → Restored m b b′ r
-    found-restored {b} n (refused {r = r} h p) = absurd (lowest-holds (encodingConditions l c s b) r h (none-refuses l c m s b found n))
-    found-restored {b} {b′} n (encoded {n = k} h e w) =
-        let joined : message (tableOf c) s ≡ m = found .reads .joined in
-        record { answer = ap (λ (i : ℕ). Encoded (record { 0 = i })) (rw joined at e); buffer = rw joined at w }
+    -- Encoding what reading found gives the message back.
+    pub found-restored : {b b′ : List ℕ} {n : SymbolCount} → Encodes l c s b b′ (Encoded n) → Restored m b b′ n
+    found-restored (encoded h e w) = record { count = rw (found .reads .joined) at e; buffer = rw (found .reads .joined) at w }
 
-    -- The only refusal that it can meet is 13, for a buffer shorter than the message.
+    -- It is refused only with 13, for a buffer shorter than the message.
     pub found-refused : {b b′ : List ℕ} {r : Refusal} → Encodes l c s b b′ (Not-encoded r) → (r ≡ ShortBuffer) × (length b < length m)
     found-refused {b} {b′} {r} (refused h p) =
         let reads = found .reads in

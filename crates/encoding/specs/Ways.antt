@@ -11,12 +11,13 @@ use Rattle.code.specs.declared.Code.{Code}
 use Rattle.code.specs.declared.Limits.{Limits}
 use Rattle.code.specs.declared.Refusal.the-variants.{NotFromSheet, UnknownWord, ForbiddenPair, MessageLength, ShortBuffer}
 use Rattle.code.specs.declared.Encoding.the-variants.{Encoded, Refused}
-use Rattle.code.specs.Definitions.Tables.{message, tableOf}
+use Rattle.code.specs.Definitions.Tables.{tableOf}
 use Rattle.code.specs.Definitions.Sheets.{FromSheet}
 use Rattle.code.specs.Definitions.Operations.{HasUnknown, HasForbidden, written, Encodes, refused, encoded}
 use Rattle.table.specs.Exactly.{Exactly}
 use Rattle.table.specs.WellFormed.{WellFormed}
 use Rattle.table.specs.Given.{well}
+use Rattle.encoding.specs.Messages.{messageOf}
 use Rattle.encoding.specs.Passes.{Known, all-words}
 
 module _ (l : Limits) {c : Code} {t : Bool} (sheet : Exactly t (FromSheet l c)) where
@@ -42,19 +43,19 @@ module _ (l : Limits) {c : Code} {t : Bool} (sheet : Exactly t (FromSheet l c)) 
           pub way-10 : {b : List ℕ} → f ≡ true → Encodes l c s b b (Refused ForbiddenPair)
           way-10 e = refused (inr (passed-8, inr (unknown .no none-unknown, inl (forbidden .yes e, refl)))) refl
 
-          module _ (none-forbidden : f ≡ false) {n : ℕ} (count : n ≡ min (length (message (tableOf c) s)) (l .message + 1)) where
+          module _ (none-forbidden : f ≡ false) {n : ℕ} (count : n ≡ min (length (messageOf c s)) (l .message + 1)) where
             pub way-11 : {b : List ℕ} → l .message < n → Encodes l c s b b (Refused MessageLength)
             way-11 over =
                 refused (inr (passed-8, inr (unknown .no none-unknown, inr (forbidden .no none-forbidden, inl (omega arith, refl))))) refl
 
             module _ (within : n ≤ l .message) where
-              pub message-count : n ≡ length (message (tableOf c) s)
+              pub message-count : n ≡ length (messageOf c s)
               message-count = omega arith
 
               pub way-13 : {b : List ℕ} → length b < n → Encodes l c s b b (Refused ShortBuffer)
               way-13 short =
                   refused (inr (passed-8, inr (unknown .no none-unknown, inr (forbidden .no none-forbidden, inr ((λ h. omega arith), inl (omega arith, refl)))))) refl
 
-              pub way-encoded : {b b′ : List ℕ} → n ≤ length b → b′ ≡ written (message (tableOf c) s) b → Encodes l c s b b′ (Encoded (record { 0 = n }))
+              pub way-encoded : {b b′ : List ℕ} → n ≤ length b → b′ ≡ written (messageOf c s) b → Encodes l c s b b′ (Encoded (record { 0 = n }))
               way-encoded room w =
                   encoded (passed-8, (unknown .no none-unknown, (forbidden .no none-forbidden, ((λ h. omega arith), ((λ h. omega arith), tt))))) message-count w

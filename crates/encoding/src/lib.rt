@@ -12,9 +12,10 @@ ghost use lib.ListN.{length};
 ghost use lib.Seq.{paste};
 ghost use Rattle.code.specs.Definitions.Operations.{HasUnknown, HasForbidden, written, Encodes};
 ghost use Rattle.code.specs.Definitions.Sheets.{limits};
-ghost use Rattle.code.specs.Definitions.Tables.{tableOf, message as messageOf};
+ghost use Rattle.code.specs.Definitions.Tables.{tableOf};
 ghost use Rattle.table.specs.Exactly.{Exactly};
 ghost use Rattle.table.specs.WellFormed.{WellFormed};
+ghost use Rattle.encoding.specs.Messages.{messageOf};
 ghost use Rattle.encoding.specs.Passes.{Known};
 
 // Refusal 9: some entry is no word's number.
@@ -51,7 +52,7 @@ fn has_forbidden(code: Code, words: &[u8]) -> bool
 // The length of the message, and one more than the limit for a longer one: adding stops there.
 fn message_len(code: Code, words: &[u8]) -> usize
     requires { ⌜ Known limits code (now words) ⌝ }
-    ensures { λ r. ⌜ r ≡ min (length (messageOf (tableOf code) (now (words .entry)))) (limits .message + 1) ⌝ }
+    ensures { λ r. ⌜ r ≡ min (length (messageOf code (now (words .entry)))) (limits .message + 1) ⌝ }
 {
     let mut n: usize = 0;
     let mut i: usize = 0;
@@ -81,8 +82,8 @@ fn write_word(w: Word, message: &mut [u8], at: usize) -> usize
 
 // Writes the message at the start of the buffer.
 fn write_message(code: Code, words: &[u8], message: &mut [u8])
-    requires { ⌜ Known limits code (now words) × (length (messageOf (tableOf code) (now words)) ≤ length (now message)) ⌝ }
-    ensures { λ _. ⌜ now (message .exit) ≡ written (messageOf (tableOf code) (now (words .entry))) (now (message .entry)) ⌝ }
+    requires { ⌜ Known limits code (now words) × (length (messageOf code (now words)) ≤ length (now message)) ⌝ }
+    ensures { λ _. ⌜ now (message .exit) ≡ written (messageOf code (now (words .entry))) (now (message .entry)) ⌝ }
 {
     let mut at: usize = 0;
     let mut i: usize = 0;

@@ -2,16 +2,15 @@
 use mathlib.Core.Path.{_≡_}
 use Prim.Native.Nat.{_≤_, _-_}
 use native.Mathlib.Omega.{arith}
-use lib.ListN.{length, take}
+use lib.ListN.{length}
 use borrow.Author.Needs.{needs}
 use Rattle.code.specs.Definitions.Sheets.{limits}
-use Rattle.code.specs.Definitions.Tables.{message, tableOf}
-use Rattle.encoding.specs.Passes.{known-number, known-short, length-more, length-over, length-whole}
+use Rattle.encoding.specs.Passes.{messageBelow, known-number, known-short, length-more, length-over, length-whole}
 use Rattle.encoding.proofs.message_len.Statement.{statement}
 use Rattle.encoding.proofs.message_len.Tie as tie
 
 abbrev Inv-loop : tie.InvT-loop
-Inv-loop words code n₀ i₀ n i = (i ≤ length words) × (n ≡ length (message (tableOf code) (take i words))) × (n ≤ limits .message)
+Inv-loop words code n₀ i₀ n i = (i ≤ length words) × (n ≡ length (messageBelow code words i)) × (n ≤ limits .message)
 
 abbrev μ-loop : tie.MeasureT-loop
 μ-loop words code n₀ i₀ n i = length words - i

@@ -2,19 +2,18 @@
 use mathlib.Core.Path.{_≡_, _∙_}
 use Prim.Native.Nat.{_≤_, _<_, _-_}
 use native.Mathlib.Omega.{arith}
-use lib.ListN.{length, take}
+use lib.ListN.{length}
 use borrow.Author.Needs.{needs}
 use Rattle.code.specs.Definitions.Sheets.{limits}
 use Rattle.code.specs.Definitions.Operations.{written}
-use Rattle.code.specs.Definitions.Tables.{message as messageOf, tableOf}
-use Rattle.encoding.specs.Passes.{known-number, known-short, length-more, write-room, write-more, write-whole}
+use Rattle.encoding.specs.Passes.{messageBelow, known-number, known-short, length-more, write-room, write-more, write-whole}
 use Rattle.encoding.proofs.write_message.Statement.{statement}
 use Rattle.encoding.proofs.write_message.Tie as tie
 
 abbrev Inv-loop : tie.InvT-loop
 Inv-loop words message₀ code at₀ i₀ message at i =
-    (i ≤ length words) × (at ≡ length (messageOf (tableOf code) (take i words))) × (length message ≡ length message₀)
-    × (message ≡ written (messageOf (tableOf code) (take i words)) message₀)
+    (i ≤ length words) × (at ≡ length (messageBelow code words i)) × (length message ≡ length message₀)
+    × (message ≡ written (messageBelow code words i) message₀)
 
 abbrev μ-loop : tie.MeasureT-loop
 μ-loop words message₀ code at₀ i₀ message at i = length words - i
