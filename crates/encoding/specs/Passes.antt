@@ -86,6 +86,10 @@ written-more : (m b w : List ℕ) (n : ℕ) → n ≤ length w → paste (writte
 written-more m b w n h = rw (take-append-seam, drop-append-add, drop-drop, length-append, length-take-le n w h)
 
 module _ (l : Limits) {c : Code} {s : List ℕ} (known : Known l c s) where
+  -- Both words of a pair stand within the array.
+  pub known-pair : (i : ℕ) → i + 1 < length s → (getD s i 0 < l .words) × (getD s (i + 1) 0 < l .words)
+  known-pair i h = (known-number l known i (omega arith), known-number l known (i + 1) h)
+
   pub forbidden-here : (i : ℕ) → i + 1 < length s → (FollowsAt c s i → ⊥) → Exactly true (HasForbidden (tableOf c) s)
   forbidden-here i h f = exactly-true (record { at = i; within = h; forbidden = ne-eqb _ _ f })
 

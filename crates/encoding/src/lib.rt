@@ -33,15 +33,17 @@ fn has_unknown(code: Code, words: &[u8]) -> bool
     false
 }
 
-// Refusal 10: some word may not come immediately after the one before it.
+// Refusal 10: some word x may not come immediately after the word y before it.
 fn has_forbidden(code: Code, words: &[u8]) -> bool
     requires { ⌜ Known limits code (now words) ⌝ }
     ensures { λ r. ⌜ Exactly r (HasForbidden (tableOf code) (now (words .entry))) ⌝ }
 {
     let mut i: usize = 0;
     while i + 1 < words.len() {
-        let row = code.rows[words[i + 1] as usize];
-        if row.entries[words[i] as usize] != 1 {
+        let y = words[i] as usize;
+        let x = words[i + 1] as usize;
+        let row = code.rows[x];
+        if row.entries[y] != 1 {
             return true;
         }
         i += 1;
@@ -54,17 +56,17 @@ fn message_len(code: Code, words: &[u8]) -> usize
     requires { ⌜ Known limits code (now words) ⌝ }
     ensures { λ r. ⌜ r ≡ min (length (messageOf code (now (words .entry)))) (limits .message + 1) ⌝ }
 {
-    let mut n: usize = 0;
+    let mut sum: usize = 0;
     let mut i: usize = 0;
     while i < words.len() {
         let w = code.words[words[i] as usize];
-        n += w.len;
-        if Message::SYMBOLS < n {
+        sum += w.len;
+        if Message::SYMBOLS < sum {
             return Message::SYMBOLS + 1;
         }
         i += 1;
     }
-    n
+    sum
 }
 
 // Writes the symbols of a word from `at` on, and gives the place after them.

@@ -1,11 +1,11 @@
 -- The loop keeps that each entry passed may be followed by the next.
-use Prim.Native.Nat.{_+_, _≤_, _-_}
+use Prim.Native.Nat.{_≤_, _-_}
 use native.Mathlib.Omega.{arith}
 use lib.ListN.{length}
-use borrow.Author.Count.{below-none, below-more}
 use borrow.Author.Needs.{needs}
+use borrow.Author.Count.{below-none, below-more}
 use Rattle.code.specs.Definitions.Sheets.{limits}
-use Rattle.encoding.specs.Passes.{FollowsBelow, known-number, forbidden-here, forbidden-nowhere}
+use Rattle.encoding.specs.Passes.{FollowsBelow, known-pair, forbidden-here, forbidden-nowhere}
 use Rattle.encoding.proofs.has_forbidden.Statement.{statement}
 use Rattle.encoding.proofs.has_forbidden.Tie as tie
 
@@ -21,29 +21,39 @@ loop-holds c = (omega arith, below-none _)
 add-loop : tie.Need-add-loop Inv-loop μ-loop
 add-loop c = search needs
 
-add-row : tie.Need-add-row Inv-loop μ-loop
-add-row c = search needs
+shared-slice-read-y : tie.Need-shared-slice-read-y Inv-loop μ-loop
+shared-slice-read-y c = search needs
 
-shared-slice-read-row : tie.Need-shared-slice-read-row Inv-loop μ-loop
-shared-slice-read-row c = search needs
+cast-y : tie.Need-cast-y Inv-loop μ-loop
+cast-y c =
+    let pair = known-pair limits (c .before .before .before .pre) (c .before .before .loop .i) (omega arith) in
+    omega arith
 
-cast-row : tie.Need-cast-row Inv-loop μ-loop
-cast-row c = omega (arith, c .shared-slice-known .given (c .before .before .loop .i + 1))
+add-x : tie.Need-add-x Inv-loop μ-loop
+add-x c = search needs
+
+shared-slice-read-x : tie.Need-shared-slice-read-x Inv-loop μ-loop
+shared-slice-read-x c = search needs
+
+cast-x : tie.Need-cast-x Inv-loop μ-loop
+cast-x c =
+    let pair = known-pair limits (c .before .before .before .before .pre) (c .before .before .before .loop .i) (omega arith) in
+    omega arith
 
 mul-row : tie.Need-mul-row Inv-loop μ-loop
-mul-row c = omega (arith, c .shared-slice-known .given (c .before .before .loop .i + 1))
+mul-row c =
+    let pair = known-pair limits (c .before .before .before .before .pre) (c .before .before .before .loop .i) (omega arith) in
+    omega arith
 
 element-copy-out-row : tie.Need-element-copy-out-row Inv-loop μ-loop
-element-copy-out-row c = search (known-number limits)
-
-shared-slice-read-if1 : tie.Need-shared-slice-read-if1 Inv-loop μ-loop
-shared-slice-read-if1 c = search needs
-
-cast-if1 : tie.Need-cast-if1 Inv-loop μ-loop
-cast-if1 c = omega (arith, c .shared-slice-known2 .given (c .before .before .before .before .loop .i))
+element-copy-out-row c =
+    let pair = known-pair limits (c .before .before .before .before .pre) (c .before .before .before .loop .i) (omega arith) in
+    omega arith
 
 element-copy-out-if1 : tie.Need-element-copy-out-if1 Inv-loop μ-loop
-element-copy-out-if1 c = known-number limits (c .before .before .before .before .before .pre) (c .before .before .before .before .loop .i) (omega arith)
+element-copy-out-if1 c =
+    let pair = known-pair limits (c .before .before .before .before .before .pre) (c .before .before .before .before .loop .i) (omega arith) in
+    omega arith
 
 returns : tie.Need-returns Inv-loop μ-loop
 returns c = search (forbidden-here limits)
@@ -68,13 +78,13 @@ has-forbidden-spec =
     μ-loop
     loop-holds
     add-loop
-    add-row
-    shared-slice-read-row
-    cast-row
+    shared-slice-read-y
+    cast-y
+    add-x
+    shared-slice-read-x
+    cast-x
     mul-row
     element-copy-out-row
-    shared-slice-read-if1
-    cast-if1
     element-copy-out-if1
     returns
     add-i

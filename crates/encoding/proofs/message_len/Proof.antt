@@ -10,10 +10,10 @@ use Rattle.encoding.proofs.message_len.Statement.{statement}
 use Rattle.encoding.proofs.message_len.Tie as tie
 
 abbrev Inv-loop : tie.InvT-loop
-Inv-loop words code n₀ i₀ n i = (i ≤ length words) × (n ≡ length (messageBelow code words i)) × (n ≤ limits .message)
+Inv-loop words code sum₀ i₀ sum i = (i ≤ length words) × (sum ≡ length (messageBelow code words i)) × (sum ≤ limits .message)
 
 abbrev μ-loop : tie.MeasureT-loop
-μ-loop words code n₀ i₀ n i = length words - i
+μ-loop words code sum₀ i₀ sum i = length words - i
 
 loop-holds : tie.Need-loop-holds Inv-loop μ-loop
 loop-holds c = search needs
@@ -30,8 +30,8 @@ mul-w c = omega (arith, c .shared-slice-known .given (c .before .before .loop .i
 element-copy-out-w : tie.Need-element-copy-out-w Inv-loop μ-loop
 element-copy-out-w c = search (known-number limits)
 
-add-n : tie.Need-add-n Inv-loop μ-loop
-add-n c = omega (arith, known-short limits (c .before .before .before .before .before .pre) (c .before .before .before .before .loop .i) (search needs))
+add-sum : tie.Need-add-sum Inv-loop μ-loop
+add-sum c = omega (arith, known-short limits (c .before .before .before .before .before .pre) (c .before .before .before .before .loop .i) (search needs))
 
 add-result : tie.Need-add-result Inv-loop μ-loop
 add-result c = search needs
@@ -62,7 +62,7 @@ message-len-spec =
     cast-w
     mul-w
     element-copy-out-w
-    add-n
+    add-sum
     add-result
     returns
     add-i
