@@ -1,4 +1,3 @@
--- The loop keeps that each entry passed may be followed by the next.
 use Prim.Native.Nat.{_≤_, _-_}
 use native.Mathlib.Omega.{arith}
 use lib.ListN.{length}
@@ -8,6 +7,8 @@ use Rattle.code.specs.Definitions.Sheets.{limits}
 use Rattle.encoding.specs.Passes.{FollowsBelow, known-pair, forbidden-here, forbidden-nowhere}
 use Rattle.encoding.proofs.has_forbidden.Statement.{statement}
 use Rattle.encoding.proofs.has_forbidden.Tie as tie
+
+-- The loop keeps that each entry passed may be followed by the next.
 
 abbrev Inv-loop : tie.InvT-loop
 Inv-loop words code i₀ i = (i ≤ length words) × FollowsBelow code words i
@@ -56,7 +57,9 @@ element-copy-out-if1 c =
     omega arith
 
 returns : tie.Need-returns Inv-loop μ-loop
-returns c = search (forbidden-here limits)
+returns c =
+    let loop = c .before .before .before .before .before .before .loop in
+    forbidden-here limits (c .before .before .before .before .before .before .before .pre) (loop .i) (omega arith) (c .if1 .taken)
 
 add-i : tie.Need-add-i Inv-loop μ-loop
 add-i c = search needs

@@ -1,4 +1,3 @@
--- The loop keeps that the entries passed are words of the code.
 use Prim.Native.Nat.{_≤_, _-_}
 use native.Mathlib.Omega.{arith}
 use lib.ListN.{length}
@@ -7,6 +6,8 @@ use borrow.Author.Needs.{needs}
 use Rattle.encoding.specs.Passes.{WordsBelow, unknown-here, unknown-nowhere}
 use Rattle.encoding.proofs.has_unknown.Statement.{statement}
 use Rattle.encoding.proofs.has_unknown.Tie as tie
+
+-- The loop keeps that the entries passed are words of the code.
 
 abbrev Inv-loop : tie.InvT-loop
 Inv-loop code words i₀ i = (i ≤ length words) × WordsBelow code words i
@@ -24,7 +25,9 @@ cast-if1 : tie.Need-cast-if1 Inv-loop μ-loop
 cast-if1 c = omega (arith, c .shared-slice-known .given (c .before .before .loop .i))
 
 returns : tie.Need-returns Inv-loop μ-loop
-returns c = search unknown-here
+returns c =
+    let start = c .before .before .before .before .before in
+    unknown-here (start .pre) (start .args .words .now) (c .before .before .before .before .loop .i) (omega arith) (omega arith)
 
 add-i : tie.Need-add-i Inv-loop μ-loop
 add-i c = search needs
