@@ -12,7 +12,7 @@ use Rattle.code.specs.declared.Limits.{Limits}
 use Rattle.code.specs.Definitions.Lists.{table, sum}
 use Rattle.code.specs.Laws.Lists.{sum-more}
 use Rattle.table.specs.Exactly.{Exactly, exactly-iff, exactly-and, exactly-lt, exactly-le, exactly-eq}
-use Rattle.table.specs.WellFormed.{lenOf, CellsFit, WordFits, RowFits, WordAt, RowAt, WellFormed}
+use Rattle.table.specs.WellFormed.{lenOf, CellsFit, WordFits, RowFits, RecordAt, WellFormed}
 
 module _ (l : Limits) (n : ℕ) where
   module _ (k : ℕ) (w : Word) (array : length (w .symbols) ≡ l .symbols) {t : Bool} (symbols : Exactly t (CellsFit 16 (w .len) (w .symbols))) where
@@ -55,12 +55,20 @@ module _ (c : Code) (limit k room : ℕ) (left : room ≡ limit + 1 - sum (table
   pub room-left : Exactly (ltb 0 room) (sum (table (lenOf c) k) ≤ limit)
   room-left = exactly-iff ((λ h. omega arith), (λ h. omega arith)) (exactly-lt 0 room)
 
-module _ (l : Limits) (c : Code) (words : length (c .words) ≡ l .words) (rows : length (c .rows) ≡ l .words) {t u v : Bool} where
-  pub table-tested : Exactly t ((k : ℕ) → k < l .words → WordAt l c k) → Exactly u ((x : ℕ) → x < l .words → RowAt l c x)
-      → Exactly v (sum (table (lenOf c) (l .words)) ≤ l .total) → Exactly (leb 1 (c .count) && leb (c .count) (l .words) && (t && u && v)) (WellFormed l c)
-  table-tested word row total =
+module _ (l : Limits) (c : Code) (words : length (c .words) ≡ l .words) (rows : length (c .rows) ≡ l .words) {t u : Bool} where
+  pub table-tested : Exactly t ((k : ℕ) → k < l .words → RecordAt l c k) → Exactly u (sum (table (lenOf c) (l .words)) ≤ l .total)
+      → Exactly (leb 1 (c .count) && leb (c .count) (l .words) && (t && u)) (WellFormed l c)
+  table-tested records total =
       exactly-iff (
-        (λ p. record { one = p .0 .0; most = p .0 .1; words = words; rows = rows; word = p .1 .0 .0; row = p .1 .0 .1; total = p .1 .1 }),
-        (λ w. ((w .one, w .most), ((w .word, w .row), w .total))),
+        (λ p. record {
+          one = p .0 .0;
+          most = p .0 .1;
+          words = words;
+          rows = rows;
+          word = λ k h. p .1 .0 k h .0;
+          row = λ x h. p .1 .0 x h .1;
+          total = p .1 .1;
+        }),
+        (λ w. ((w .one, w .most), ((λ k h. (w .word k h, w .row k h)), w .total))),
       )
-      (exactly-and (exactly-and (exactly-le 1 (c .count)) (exactly-le (c .count) (l .words))) (exactly-and (exactly-and word row) total))
+      (exactly-and (exactly-and (exactly-le 1 (c .count)) (exactly-le (c .count) (l .words))) (exactly-and records total))

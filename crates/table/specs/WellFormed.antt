@@ -33,18 +33,15 @@ module _ (l : Limits) where
     pub entries : CellsFit 2 n (r .entries)
     pub unused : n ≤ x → (y : ℕ) → getD (r .entries) y 0 ≡ 0
 
-  module _ (c : Code) where
-    abbrev pub WordAt : ℕ → Type 0
-    WordAt k = WordFits (c .count) k (getD (c .words) k noWord)
-
-    abbrev pub RowAt : ℕ → Type 0
-    RowAt x = RowFits (c .count) x (getD (c .rows) x noRow)
+  -- Word k and row k of a code.
+  abbrev pub RecordAt : Code → ℕ → Type 0
+  RecordAt c k = WordFits (c .count) k (getD (c .words) k noWord) × RowFits (c .count) k (getD (c .rows) k noRow)
 
   pub record WellFormed (c : Code) : Type 0 where
     pub one : 1 ≤ c .count
     pub most : c .count ≤ l .words
     pub words : length (c .words) ≡ l .words
     pub rows : length (c .rows) ≡ l .words
-    pub word : (k : ℕ) → k < l .words → WordAt c k
-    pub row : (x : ℕ) → x < l .words → RowAt c x
+    pub word : (k : ℕ) → k < l .words → WordFits (c .count) k (getD (c .words) k noWord)
+    pub row : (x : ℕ) → x < l .words → RowFits (c .count) x (getD (c .rows) x noRow)
     pub total : sum (table (lenOf c) (l .words)) ≤ l .total

@@ -11,7 +11,7 @@ ghost use Rattle.code.specs.Definitions.Lists.{table, sum};
 ghost use Rattle.code.specs.Definitions.Sheets.{limits, FromSheet};
 ghost use Rattle.table.specs.Exactly.{Exactly};
 ghost use Rattle.table.specs.Cells.{CellFits};
-ghost use Rattle.table.specs.WellFormed.{lenOf, CellsFit, WordFits, RowFits, WordAt, RowAt};
+ghost use Rattle.table.specs.WellFormed.{lenOf, CellsFit, WordFits, RowFits, RecordAt};
 
 fn and(a: bool, b: bool) -> bool
     ensures { λ r. ⌜ r ≡ (a && b) ⌝ }
@@ -33,6 +33,7 @@ fn cell_fits(v: u8, p: usize, used: usize, bound: u8) -> bool
     if p < used { v < bound } else { v == 0 }
 }
 
+// All cells of such an array.
 fn cells_fit(a: &[u8], used: usize, bound: u8) -> bool
     requires { ⌜ 0 < bound ⌝ }
     ensures { λ r. ⌜ Exactly r (CellsFit bound used (now (a .entry))) ⌝ }
@@ -71,35 +72,25 @@ fn row_fits(row: Row, x: usize, n: usize) -> bool
     }
 }
 
-fn words_fit(code: Code) -> bool
-    ensures { λ r. ⌜ Exactly r ((k : ℕ) → k < 32 → WordAt limits code k) ⌝ }
+// All words and rows, also those past the count.
+fn records_fit(code: Code) -> bool
+    ensures { λ r. ⌜ Exactly r ((k : ℕ) → k < limits .words → RecordAt limits code k) ⌝ }
 {
     let mut ok = true;
     let mut k = 0;
     while k < Code::WORDS {
         let w = code.words[k];
-        ok = and(word_fits(w, k, code.count), ok);
+        let row = code.rows[k];
+        let fits = and(word_fits(w, k, code.count), row_fits(row, k, code.count));
+        ok = and(fits, ok);
         k += 1;
-    }
-    ok
-}
-
-fn rows_fit(code: Code) -> bool
-    ensures { λ r. ⌜ Exactly r ((x : ℕ) → x < 32 → RowAt limits code x) ⌝ }
-{
-    let mut ok = true;
-    let mut x = 0;
-    while x < Code::WORDS {
-        let row = code.rows[x];
-        ok = and(row_fits(row, x, code.count), ok);
-        x += 1;
     }
     ok
 }
 
 // The words together have at most as many symbols as a code may have. No sum is made, since it could pass the range of a number.
 fn total_fits(code: Code) -> bool
-    ensures { λ r. ⌜ Exactly r (sum (table (lenOf code) 32) ≤ 128) ⌝ }
+    ensures { λ r. ⌜ Exactly r (sum (table (lenOf code) (limits .words)) ≤ limits .total) ⌝ }
 {
     // one more than the symbols that may still come
     let mut room = Code::SYMBOLS + 1;
@@ -119,6 +110,6 @@ pub fn well_formed(code: Code) -> bool
     let n = code.count;
     and(
         and(1 <= n, n <= Code::WORDS),
-        and(and(words_fit(code), rows_fit(code)), total_fits(code)),
+        and(records_fit(code), total_fits(code)),
     )
 }

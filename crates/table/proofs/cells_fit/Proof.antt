@@ -18,21 +18,6 @@ abbrev μ-loop : tie.MeasureT-loop
 loop-holds : tie.Need-loop-holds Inv-loop μ-loop
 loop-holds c = (omega arith, exactly-none (CellAt (c .before .args .bound) (c .before .args .used) (c .before .args .a .now)))
 
-shared-slice-read-cell-fits : tie.Need-shared-slice-read-cell-fits Inv-loop μ-loop
-shared-slice-read-cell-fits c = omega arith
-
-cell-fits-requires : tie.Need-cell-fits-requires Inv-loop μ-loop
-cell-fits-requires c κs = search needs
-
-and-requires : tie.Need-and-requires Inv-loop μ-loop
-and-requires c κs = search needs
-
-add-p : tie.Need-add-p Inv-loop μ-loop
-add-p c = omega arith
-
-loop-less : tie.Need-loop-less Inv-loop μ-loop
-loop-less c = omega arith
-
 loop-again : tie.Need-loop-again Inv-loop μ-loop
 loop-again c =
     let l = c .before .before .before .before .loop in
@@ -53,10 +38,10 @@ cells-fit-spec =
     Inv-loop
     μ-loop
     loop-holds
-    shared-slice-read-cell-fits
-    cell-fits-requires
-    and-requires
-    add-p
-    loop-less
+    (λ c. omega arith)
+    (λ c κs. search needs)
+    (λ c κs. search needs)
+    (λ c. omega arith)
+    (λ c. omega arith)
     loop-again
     returns)

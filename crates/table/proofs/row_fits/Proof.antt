@@ -7,18 +7,6 @@ use Rattle.table.specs.Tested.{row-used, row-unused}
 use Rattle.table.proofs.row_fits.Statement.{statement}
 use Rattle.table.proofs.row_fits.Tie as tie
 
-slice-aggregate-cells-fit : tie.Need-slice-aggregate-cells-fit
-slice-aggregate-cells-fit c = search needs
-
-cells-fit-requires : tie.Need-cells-fit-requires
-cells-fit-requires c κs = search needs
-
-slice-aggregate-cells-fit-2 : tie.Need-slice-aggregate-cells-fit-2
-slice-aggregate-cells-fit-2 c = search needs
-
-cells-fit-requires-2 : tie.Need-cells-fit-requires-2
-cells-fit-requires-2 c κs = search needs
-
 returns : tie.Need-returns
 returns c =
     let args = c .before .before .before .before .args in
@@ -35,9 +23,9 @@ pub row-fits-spec : {M : Type 1} → statement M
 row-fits-spec =
     tie.close
     (tie.spec
-    slice-aggregate-cells-fit
-    cells-fit-requires
-    slice-aggregate-cells-fit-2
-    cells-fit-requires-2
+    (λ c. search needs)
+    (λ c κs. search needs)
+    (λ c. search needs)
+    (λ c κs. search needs)
     returns
     returns-2)

@@ -16,27 +16,9 @@ Inv-loop code room₀ k₀ room k = (k ≤ 32) × (room ≡ 129 - sum (table (le
 abbrev μ-loop : tie.MeasureT-loop
 μ-loop code room₀ k₀ room k = 32 - k
 
-add-room : tie.Need-add-room Inv-loop μ-loop
-add-room c = search needs
-
 loop-holds : tie.Need-loop-holds Inv-loop μ-loop
 unfolding table sum
 loop-holds c = (omega arith, refl)
-
-mul-w : tie.Need-mul-w Inv-loop μ-loop
-mul-w c = search needs
-
-element-copy-out-w : tie.Need-element-copy-out-w Inv-loop μ-loop
-element-copy-out-w c = search needs
-
-minus-requires : tie.Need-minus-requires Inv-loop μ-loop
-minus-requires c κs = search needs
-
-add-k : tie.Need-add-k Inv-loop μ-loop
-add-k c = omega arith
-
-loop-less : tie.Need-loop-less Inv-loop μ-loop
-loop-less c = omega arith
 
 loop-again : tie.Need-loop-again Inv-loop μ-loop
 loop-again c =
@@ -56,12 +38,12 @@ total-fits-spec =
     (tie.spec
     Inv-loop
     μ-loop
-    add-room
+    (λ c. search needs)
     loop-holds
-    mul-w
-    element-copy-out-w
-    minus-requires
-    add-k
-    loop-less
+    (λ c. search needs)
+    (λ c. search needs)
+    (λ c κs. search needs)
+    (λ c. omega arith)
+    (λ c. omega arith)
     loop-again
     returns)

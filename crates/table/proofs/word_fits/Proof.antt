@@ -7,21 +7,6 @@ use Rattle.table.specs.Tested.{word-used, word-unused}
 use Rattle.table.proofs.word_fits.Statement.{statement}
 use Rattle.table.proofs.word_fits.Tie as tie
 
-slice-aggregate-cells-fit : tie.Need-slice-aggregate-cells-fit
-slice-aggregate-cells-fit c = search needs
-
-cells-fit-requires : tie.Need-cells-fit-requires
-cells-fit-requires c κs = search needs
-
-and-requires : tie.Need-and-requires
-and-requires c κs = search needs
-
-and-requires-2 : tie.Need-and-requires-2
-and-requires-2 c κs = search needs
-
-and-requires-3 : tie.Need-and-requires-3
-and-requires-3 c κs = search needs
-
 returns : tie.Need-returns
 returns c =
     let s = c .before .before .before .before .before .before .before .before in
@@ -41,10 +26,10 @@ pub word-fits-spec : {M : Type 1} → statement M
 word-fits-spec =
     tie.close
     (tie.spec
-    slice-aggregate-cells-fit
-    cells-fit-requires
-    and-requires
-    and-requires-2
-    and-requires-3
+    (λ c. search needs)
+    (λ c κs. search needs)
+    (λ c κs. search needs)
+    (λ c κs. search needs)
+    (λ c κs. search needs)
     returns
     returns-2)
