@@ -10,6 +10,7 @@
 pub mod brute;
 pub mod code;
 pub mod encode;
+pub mod largest;
 pub mod pairs;
 pub mod print;
 pub mod random;

@@ -102,7 +102,7 @@ fn sequences() {
 #[test]
 fn messages() {
     let code = Code::free(&["0", "11"]);
-    assert_eq!(read(&code, &[1; 16_384]).is_ok(), true);
+    assert!(read(&code, &[1; 16_384]).is_ok());
     assert_eq!(read(&code, &[1; 16_383]), Err(Refusal::NoReading));
     assert_eq!(read(&code, &[16; 16_385]), Err(Refusal::MessageTooLong));
     assert_eq!(read(&code, &[1, 16]), Err(Refusal::MessageSymbol));
