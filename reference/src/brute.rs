@@ -35,9 +35,7 @@ pub fn sequences(code: &Code, length: usize) -> Vec<Vec<u8>> {
         for word in 0..code.words.len() {
             let mut longer: Vec<u8> = all[at].clone();
             longer.push(word as u8);
-            let permitted = all[at]
-                .last()
-                .is_none_or(|&last| code.may_follow(word, last as usize));
+            let permitted = all[at].last().is_none_or(|&last| code.may_follow(word, last as usize));
             if permitted && joined(code, &longer).len() <= length {
                 all.push(longer);
             }
@@ -61,23 +59,12 @@ pub fn by_sequences(code: &Code) -> Verdict {
     let most = pairs_of_notes(code);
     let mut by_message: HashMap<Vec<u8>, Vec<Vec<u8>>> = HashMap::new();
     for sequence in sequences(code, most) {
-        by_message
-            .entry(joined(code, &sequence))
-            .or_default()
-            .push(sequence);
+        by_message.entry(joined(code, &sequence)).or_default().push(sequence);
     }
-    let several = by_message
-        .into_iter()
-        .filter(|(_, readings)| readings.len() > 1);
-    if let Some((message, mut readings)) =
-        several.min_by_key(|(message, _)| (message.len(), message.clone()))
-    {
+    let several = by_message.into_iter().filter(|(_, readings)| readings.len() > 1);
+    if let Some((message, mut readings)) = several.min_by_key(|(message, _)| (message.len(), message.clone())) {
         readings.sort();
-        return Verdict::Ambiguous {
-            message,
-            first: readings[0].clone(),
-            second: readings[1].clone(),
-        };
+        return Verdict::Ambiguous { message, first: readings[0].clone(), second: readings[1].clone() };
     }
     match (0..=most + 1).find(|&n| suffices(code, n)) {
         Some(delay) => Verdict::Delay(delay),
@@ -91,14 +78,11 @@ pub fn by_sequences(code: &Code) -> Verdict {
 fn suffices(code: &Code, n: usize) -> bool {
     let longest = code.words.iter().map(Vec::len).max().unwrap_or(0);
     let mut first_word: HashMap<Vec<u8>, u8> = HashMap::new();
-    sequences(code, n + longest)
-        .into_iter()
-        .filter(|sequence| !sequence.is_empty())
-        .all(|sequence| {
-            let mut message = joined(code, &sequence);
-            message.truncate(n);
-            *first_word.entry(message).or_insert(sequence[0]) == sequence[0]
-        })
+    sequences(code, n + longest).into_iter().filter(|sequence| !sequence.is_empty()).all(|sequence| {
+        let mut message = joined(code, &sequence);
+        message.truncate(n);
+        *first_word.entry(message).or_insert(sequence[0]) == sequence[0]
+    })
 }
 
 /// A sequence whose last word is read up to `read` symbols.
@@ -121,19 +105,13 @@ impl Begun {
     fn carried_on(&self, code: &Code, symbol: u8) -> Vec<Begun> {
         if !self.at_end(code) {
             let fits = code.words[self.last()][self.read] == symbol;
-            let next = Begun {
-                sequence: self.sequence.clone(),
-                read: self.read + 1,
-            };
+            let next = Begun { sequence: self.sequence.clone(), read: self.read + 1 };
             return if fits { vec![next] } else { Vec::new() };
         }
         let followers = (0..code.words.len()).filter(|&x| code.may_follow(x, self.last()));
         followers
             .filter(|&x| code.words[x][0] == symbol)
-            .map(|x| Begun {
-                sequence: [&self.sequence[..], &[x as u8]].concat(),
-                read: 1,
-            })
+            .map(|x| Begun { sequence: [&self.sequence[..], &[x as u8]].concat(), read: 1 })
             .collect()
     }
 }
@@ -146,18 +124,12 @@ struct Beginning {
 
 impl Beginning {
     fn first_word_open(&self) -> bool {
-        self.begun
-            .iter()
-            .any(|begun| begun.sequence[0] != self.begun[0].sequence[0])
+        self.begun.iter().any(|begun| begun.sequence[0] != self.begun[0].sequence[0])
     }
 
     fn whole_sequences(&self, code: &Code) -> Vec<Vec<u8>> {
-        let mut whole: Vec<Vec<u8>> = self
-            .begun
-            .iter()
-            .filter(|begun| begun.at_end(code))
-            .map(|begun| begun.sequence.clone())
-            .collect();
+        let mut whole: Vec<Vec<u8>> =
+            self.begun.iter().filter(|begun| begun.at_end(code)).map(|begun| begun.sequence.clone()).collect();
         whole.sort();
         whole
     }
@@ -184,18 +156,10 @@ pub fn by_prefixes(code: &Code, most: usize) -> Option<Verdict> {
             let whole = beginning.whole_sequences(code);
             if let [first, second, ..] = &whole[..] {
                 let message = beginning.message.clone();
-                return Some(Verdict::Ambiguous {
-                    message,
-                    first: first.clone(),
-                    second: second.clone(),
-                });
+                return Some(Verdict::Ambiguous { message, first: first.clone(), second: second.clone() });
             }
         }
-        let longer = |beginning: &Beginning| {
-            (0..16)
-                .map(|symbol| grown(code, beginning, symbol))
-                .collect::<Vec<_>>()
-        };
+        let longer = |beginning: &Beginning| (0..16).map(|symbol| grown(code, beginning, symbol)).collect::<Vec<_>>();
         kept = kept.iter().flat_map(longer).collect();
     }
     Some(Verdict::Unbounded)
@@ -203,26 +167,11 @@ pub fn by_prefixes(code: &Code, most: usize) -> Option<Verdict> {
 
 fn first_symbol(code: &Code, symbol: u8) -> Beginning {
     let words = (0..code.words.len()).filter(|&word| code.words[word][0] == symbol);
-    let begun = words
-        .map(|word| Begun {
-            sequence: vec![word as u8],
-            read: 1,
-        })
-        .collect();
-    Beginning {
-        message: vec![symbol],
-        begun,
-    }
+    let begun = words.map(|word| Begun { sequence: vec![word as u8], read: 1 }).collect();
+    Beginning { message: vec![symbol], begun }
 }
 
 fn grown(code: &Code, beginning: &Beginning, symbol: u8) -> Beginning {
-    let begun = beginning
-        .begun
-        .iter()
-        .flat_map(|begun| begun.carried_on(code, symbol))
-        .collect();
-    Beginning {
-        message: [&beginning.message[..], &[symbol]].concat(),
-        begun,
-    }
+    let begun = beginning.begun.iter().flat_map(|begun| begun.carried_on(code, symbol)).collect();
+    Beginning { message: [&beginning.message[..], &[symbol]].concat(), begun }
 }

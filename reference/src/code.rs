@@ -21,14 +21,8 @@ impl Code {
     pub fn of(words: &[&str], rows: &[&str]) -> Code {
         let digit = |c: char| c.to_digit(16).expect("a hexadecimal digit") as u8;
         Code {
-            words: words
-                .iter()
-                .map(|w| w.chars().map(digit).collect())
-                .collect(),
-            rows: rows
-                .iter()
-                .map(|r| r.chars().map(|c| c == '1').collect())
-                .collect(),
+            words: words.iter().map(|w| w.chars().map(digit).collect()).collect(),
+            rows: rows.iter().map(|r| r.chars().map(|c| c == '1').collect()).collect(),
         }
     }
 

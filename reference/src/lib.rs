@@ -6,14 +6,21 @@
 //! nothing but the code itself: [`brute`] lists sequences and messages as the
 //! definitions name them and suits tiny codes; [`pairs`] walks pairs of places
 //! and suits every code.
+//!
+//! [`generate`] makes random and damaged inputs, and [`compare`] holds another
+//! program's [`operations`] against the reference on them.
 
 pub mod brute;
 pub mod code;
+pub mod compare;
 pub mod encode;
+pub mod generate;
 pub mod largest;
+pub mod operations;
 pub mod pairs;
 pub mod print;
 pub mod random;
 pub mod read;
 pub mod sheet;
+pub mod table;
 pub mod verdict;

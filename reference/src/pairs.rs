@@ -19,12 +19,7 @@ pub struct Places {
 
 impl Places {
     pub fn new(code: &Code) -> Places {
-        let mut places = Places {
-            first: Vec::new(),
-            is_end: Vec::new(),
-            begin: vec![0],
-            leads: Vec::new(),
-        };
+        let mut places = Places { first: Vec::new(), is_end: Vec::new(), begin: vec![0], leads: Vec::new() };
         let mut next = 0;
         for word in &code.words {
             places.first.push(next as u8);
@@ -37,9 +32,7 @@ impl Places {
                     places.leads.push((word[read], first + read as u8));
                 } else {
                     let followers = (0..code.words.len()).filter(|&x| code.may_follow(x, y));
-                    places
-                        .leads
-                        .extend(followers.map(|x| (code.words[x][0], places.first[x])));
+                    places.leads.extend(followers.map(|x| (code.words[x][0], places.first[x])));
                 }
                 places.is_end.push(read == word.len());
                 places.begin.push(places.leads.len() as u16);
@@ -207,9 +200,7 @@ impl Graph {
             targets[fill[from as usize] as usize] = to;
             fill[from as usize] += 1;
         }
-        let mut queue: Vec<u32> = (0..count as u32)
-            .filter(|&i| waits[i as usize] == 0)
-            .collect();
+        let mut queue: Vec<u32> = (0..count as u32).filter(|&i| waits[i as usize] == 0).collect();
         let mut length = vec![1usize; count];
         let mut taken = 0;
         while taken < queue.len() {

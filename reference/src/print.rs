@@ -21,20 +21,9 @@ pub fn printed(verdict: &Verdict) -> Vec<u8> {
     match verdict {
         Verdict::Delay(delay) => format!("decipherable,{delay}\r\n"),
         Verdict::Unbounded => "decipherable,unbounded\r\n".to_string(),
-        Verdict::Ambiguous {
-            message,
-            first,
-            second,
-        } => {
-            let digits: String = message
-                .iter()
-                .map(|&symbol| digit(symbol) as char)
-                .collect();
-            format!(
-                "ambiguous,{digits}\r\n{}\r\n{}\r\n",
-                numbers(first),
-                numbers(second)
-            )
+        Verdict::Ambiguous { message, first, second } => {
+            let digits: String = message.iter().map(|&symbol| digit(symbol) as char).collect();
+            format!("ambiguous,{digits}\r\n{}\r\n{}\r\n", numbers(first), numbers(second))
         }
     }
     .into_bytes()

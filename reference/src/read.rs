@@ -41,11 +41,7 @@ struct Reader<'a> {
 impl<'a> Reader<'a> {
     fn new(code: &'a Code, message: &[u8]) -> Reader<'a> {
         let n = code.words.len();
-        let mask_of = |y: usize| {
-            (0..n)
-                .filter(|&x| code.may_follow(x, y))
-                .fold(0, |mask, x| mask | 1 << x)
-        };
+        let mask_of = |y: usize| (0..n).filter(|&x| code.may_follow(x, y)).fold(0, |mask, x| mask | 1 << x);
         let followers: Vec<u32> = (0..n).map(mask_of).collect();
         let mut next = vec![0u32; message.len()];
         for at in (0..message.len()).rev() {
@@ -59,19 +55,12 @@ impl<'a> Reader<'a> {
                 }
             }
         }
-        Reader {
-            code,
-            next,
-            followers,
-            length: message.len(),
-        }
+        Reader { code, next, followers, length: message.len() }
     }
 
     /// The words that may come after this reading of the first `at` symbols.
     fn choices(&self, reading: &[u8], at: usize) -> u32 {
-        let allowed = reading
-            .last()
-            .map_or(u32::MAX, |&y| self.followers[y as usize]);
+        let allowed = reading.last().map_or(u32::MAX, |&y| self.followers[y as usize]);
         self.next[at] & allowed
     }
 

@@ -27,21 +27,12 @@ pub fn take_in(sheet: &[u8]) -> Result<Code, Refusal> {
         return Err(Refusal::FieldCount);
     }
     let entry_fits = |entry: &&[u8]| **entry == *b"0" || **entry == *b"1";
-    if !records
-        .iter()
-        .all(|record| record[1..].iter().all(entry_fits))
-    {
+    if !records.iter().all(|record| record[1..].iter().all(entry_fits)) {
         return Err(Refusal::RowEntry);
     }
     Ok(Code {
-        words: records
-            .iter()
-            .map(|record| record[0].iter().map(|&b| symbol(b)).collect())
-            .collect(),
-        rows: records
-            .iter()
-            .map(|record| record[1..].iter().map(|entry| *entry == b"1").collect())
-            .collect(),
+        words: records.iter().map(|record| record[0].iter().map(|&b| symbol(b)).collect()).collect(),
+        rows: records.iter().map(|record| record[1..].iter().map(|entry| *entry == b"1").collect()).collect(),
     })
 }
 

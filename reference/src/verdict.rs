@@ -8,11 +8,7 @@ use crate::read::{first_two, Readings};
 pub enum Verdict {
     /// The shortest ambiguous message, earliest in symbol order among equals,
     /// with its first two readings in word order.
-    Ambiguous {
-        message: Vec<u8>,
-        first: Vec<u8>,
-        second: Vec<u8>,
-    },
+    Ambiguous { message: Vec<u8>, first: Vec<u8>, second: Vec<u8> },
     /// Decipherable with this delay, in symbols.
     Delay(usize),
     /// Decipherable without bound on the delay.
@@ -34,11 +30,7 @@ pub fn verdict(code: &Code) -> Verdict {
 
 fn ambiguous(code: &Code, message: Vec<u8>) -> Verdict {
     match first_two(code, &message) {
-        Some(Readings::Two(first, second)) => Verdict::Ambiguous {
-            message,
-            first,
-            second,
-        },
+        Some(Readings::Two(first, second)) => Verdict::Ambiguous { message, first, second },
         _ => unreachable!("a pair of two ends gives two readings"),
     }
 }

@@ -30,13 +30,7 @@ fn word_lists(count: usize, symbols: usize) -> Vec<Vec<Vec<u8>>> {
 }
 
 fn rows_of_bits(count: usize, bits: u32) -> Vec<Vec<bool>> {
-    (0..count)
-        .map(|x| {
-            (0..count)
-                .map(|y| bits >> (x * count + y) & 1 == 1)
-                .collect()
-        })
-        .collect()
+    (0..count).map(|x| (0..count).map(|y| bits >> (x * count + y) & 1 == 1).collect()).collect()
 }
 
 #[test]
@@ -45,10 +39,7 @@ fn every_binary_code_of_three_words_and_four_symbols() {
     for count in 1..=3 {
         for words in word_lists(count, 4) {
             for bits in 0..1u32 << (count * count) {
-                let code = Code {
-                    words: words.clone(),
-                    rows: rows_of_bits(count, bits),
-                };
+                let code = Code { words: words.clone(), rows: rows_of_bits(count, bits) };
                 let answer = verdict(&code);
                 assert_eq!(answer, by_sequences(&code), "{code:?}");
                 assert_eq!(Some(&answer), by_prefixes(&code, MOST).as_ref(), "{code:?}");
@@ -70,10 +61,7 @@ fn small_code(random: &mut Random, symbols: usize) -> Code {
         left -= length;
     }
     let bans = random.between(2, 6);
-    let rows = words
-        .iter()
-        .map(|_: &Vec<u8>| words.iter().map(|_| !random.one_in(bans)).collect())
-        .collect();
+    let rows = words.iter().map(|_: &Vec<u8>| words.iter().map(|_| !random.one_in(bans)).collect()).collect();
     Code { words, rows }
 }
 
@@ -94,9 +82,7 @@ fn random_codes_of_ten_symbols() {
             Verdict::Unbounded => unbounded += 1,
         }
     }
-    println!(
-        "{ambiguous} ambiguous, {delayed} delayed, {unbounded} unbounded, {given_up} given up"
-    );
+    println!("{ambiguous} ambiguous, {delayed} delayed, {unbounded} unbounded, {given_up} given up");
     assert!(ambiguous > 1_000 && delayed > 1_000 && unbounded > 300 && given_up < 30);
 }
 
@@ -143,9 +129,7 @@ fn what_is_encoded_is_read_again() {
     for _ in 0..5_000 {
         let code = small_code(&mut random, 12);
         let length = random.below(12);
-        let sequence: Vec<u8> = (0..length)
-            .map(|_| random.below(code.words.len()) as u8)
-            .collect();
+        let sequence: Vec<u8> = (0..length).map(|_| random.below(code.words.len()) as u8).collect();
         if !permitted(&code, &sequence) {
             assert_eq!(encode(&code, &sequence), Err(Refusal::PairNotPermitted));
             continue;

@@ -15,11 +15,7 @@ fn code_u() -> Code {
 }
 
 fn ambiguous(message: &[u8], first: &[u8], second: &[u8]) -> Verdict {
-    Verdict::Ambiguous {
-        message: message.to_vec(),
-        first: first.to_vec(),
-        second: second.to_vec(),
-    }
+    Verdict::Ambiguous { message: message.to_vec(), first: first.to_vec(), second: second.to_vec() }
 }
 
 #[test]
@@ -49,10 +45,7 @@ fn case_5_without_bound() {
 
 #[test]
 fn case_6_equal_words() {
-    assert_eq!(
-        verdict(&Code::of(&["0", "0"], &["00", "00"])),
-        ambiguous(&[0], &[0], &[1])
-    );
+    assert_eq!(verdict(&Code::of(&["0", "0"], &["00", "00"])), ambiguous(&[0], &[0], &[1]));
 }
 
 #[test]
@@ -69,18 +62,12 @@ fn case_8_code_u() {
 
 #[test]
 fn case_9_code_u_reads_1010() {
-    assert_eq!(
-        read(&code_u(), &[1, 0, 1, 0]),
-        Ok(Readings::One(vec![1, 1]))
-    );
+    assert_eq!(read(&code_u(), &[1, 0, 1, 0]), Ok(Readings::One(vec![1, 1])));
 }
 
 #[test]
 fn case_10_code_u_reads_01101() {
-    assert_eq!(
-        read(&code_u(), &[0, 1, 1, 0, 1]),
-        Ok(Readings::One(vec![2, 3]))
-    );
+    assert_eq!(read(&code_u(), &[0, 1, 1, 0, 1]), Ok(Readings::One(vec![2, 3])));
 }
 
 #[test]
@@ -92,9 +79,7 @@ fn case_11_six_turkish_types() {
 
 #[test]
 fn case_12_twelve_turkish_types() {
-    let words = [
-        "0", "10", "01", "101", "011", "1011", "110", "1101", "1110", "11101", "11011", "10111",
-    ];
+    let words = ["0", "10", "01", "101", "011", "1011", "110", "1101", "1110", "11101", "11011", "10111"];
     let vowel_first = "110000101000";
     let any = "111111111111";
     let cluster_first = "001111010111";
@@ -112,20 +97,12 @@ fn case_12_twelve_turkish_types() {
         cluster_first,
         any,
     ];
-    assert_eq!(
-        verdict(&Code::of(&words, &rows)),
-        ambiguous(&[0, 1, 1, 1, 0], &[2, 6], &[4, 1])
-    );
+    assert_eq!(verdict(&Code::of(&words, &rows)), ambiguous(&[0, 1, 1, 1, 0], &[2, 6], &[4, 1]));
 }
 
 #[test]
 fn case_13_the_empty_message() {
-    for code in [
-        code_t(),
-        code_u(),
-        Code::free(&["0"]),
-        Code::of(&["0", "0"], &["00", "00"]),
-    ] {
+    for code in [code_t(), code_u(), Code::free(&["0"]), Code::of(&["0", "0"], &["00", "00"])] {
         assert_eq!(read(&code, &[]), Ok(Readings::One(vec![])));
     }
 }
@@ -133,11 +110,7 @@ fn case_13_the_empty_message() {
 /// A sheet of these words with all entries 1.
 fn sheet_of(words: &[String]) -> Vec<u8> {
     let row = ",1".repeat(words.len());
-    words
-        .iter()
-        .map(|word| format!("{word}{row}\r\n"))
-        .collect::<String>()
-        .into_bytes()
+    words.iter().map(|word| format!("{word}{row}\r\n")).collect::<String>().into_bytes()
 }
 
 #[test]
@@ -145,10 +118,7 @@ fn case_14_the_limits() {
     let refused = |sheet: &[u8]| take_in(sheet).err();
     let words = |count: usize, length: usize| vec!["0".repeat(length); count];
     assert_eq!(refused(&sheet_of(&words(32, 1))), None);
-    assert_eq!(
-        refused(&sheet_of(&words(33, 1))),
-        Some(Refusal::TooManyRecords)
-    );
+    assert_eq!(refused(&sheet_of(&words(33, 1))), Some(Refusal::TooManyRecords));
     assert_eq!(refused(&sheet_of(&words(32, 4))), None);
     assert_eq!(refused(&sheet_of(&words(8, 16))), None);
     let mut longer = words(31, 4);

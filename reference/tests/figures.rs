@@ -16,10 +16,7 @@ fn figure_2_ambiguous_messages_of_code_t() {
         (&[1, 0, 1, 0, 1], [b, d], [d, c]),
     ];
     for (message, first, second) in rows {
-        assert_eq!(
-            read(&code, message),
-            Ok(Readings::Two(first.to_vec(), second.to_vec()))
-        );
+        assert_eq!(read(&code, message), Ok(Readings::Two(first.to_vec(), second.to_vec())));
         assert_eq!(encode(&code, &first).as_deref(), Ok(message));
         assert_eq!(encode(&code, &second).as_deref(), Ok(message));
     }
@@ -27,11 +24,7 @@ fn figure_2_ambiguous_messages_of_code_t() {
 
 /// The name a place has in the figure: QA for the end of A, C1 inside C.
 fn name(code: &Code, places: &Places, place: u8) -> String {
-    let word = places
-        .first
-        .iter()
-        .rposition(|&first| first <= place)
-        .unwrap();
+    let word = places.first.iter().rposition(|&first| first <= place).unwrap();
     let letter = (b'A' + word as u8) as char;
     let read = place - places.first[word] + 1;
     if read as usize == code.words[word].len() {
@@ -58,25 +51,10 @@ fn figure_3_testing_table_of_code_u() {
     };
     let mut pairs: Vec<String> = (0..graph.pairs.len() as u32).map(named).collect();
     pairs.sort();
-    assert_eq!(
-        pairs,
-        ["B1 D1", "QA C1", "QB D2", "QC B1", "QC D1", "QD B1", "QD D1"]
-    );
-    let mut table: Vec<String> = graph
-        .steps
-        .iter()
-        .map(|&(from, symbol, to)| format!("{} -{symbol}- {}", named(from), named(to)))
-        .collect();
+    assert_eq!(pairs, ["B1 D1", "QA C1", "QB D2", "QC B1", "QC D1", "QD B1", "QD D1"]);
+    let mut table: Vec<String> =
+        graph.steps.iter().map(|&(from, symbol, to)| format!("{} -{symbol}- {}", named(from), named(to))).collect();
     table.sort();
-    assert_eq!(
-        table,
-        [
-            "B1 D1 -0- QB D2",
-            "QA C1 -1- QC B1",
-            "QA C1 -1- QC D1",
-            "QB D2 -1- QD B1",
-            "QB D2 -1- QD D1"
-        ]
-    );
+    assert_eq!(table, ["B1 D1 -0- QB D2", "QA C1 -1- QC B1", "QA C1 -1- QC D1", "QB D2 -1- QD B1", "QB D2 -1- QD D1"]);
     assert_eq!(graph.longest_path(), Some(3));
 }

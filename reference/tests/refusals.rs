@@ -33,15 +33,7 @@ fn a_blank_line_is_a_record() {
 
 #[test]
 fn bytes() {
-    for sheet in [
-        "a,1",
-        "G,1",
-        "0;1",
-        "0, 1",
-        "\"0\",1",
-        "\u{feff}0,1",
-        "0,1\0",
-    ] {
+    for sheet in ["a,1", "G,1", "0;1", "0, 1", "\"0\",1", "\u{feff}0,1", "0,1\0"] {
         assert_eq!(refused(sheet), 2, "{sheet:?}");
     }
     assert_eq!(refused("0123456789ABCDEF,1"), 0);
@@ -67,13 +59,7 @@ fn the_lowest_is_returned() {
     assert_eq!(refused(&"\r\n".repeat(33)), 3);
     assert_eq!(refused(&"\r\n".repeat(32)), 4);
     assert_eq!(refused(&format!("0,7,7,7\r\n{long_word},7")), 4);
-    assert_eq!(
-        refused(&format!(
-            "{}0,7",
-            format!("{},7\r\n", "0".repeat(16)).repeat(8)
-        )),
-        5
-    );
+    assert_eq!(refused(&format!("{}0,7", format!("{},7\r\n", "0".repeat(16)).repeat(8))), 5);
     assert_eq!(refused("0,7,1\r\n1,1"), 6);
 }
 
@@ -93,10 +79,7 @@ fn sequences() {
     assert_eq!(encode(&code, &[1; 1024]), Ok(vec![1; 16_384]));
     assert_eq!(encode(&code, &[1; 1025]), Err(Refusal::MessageTooLong));
     let long_and_banned = [vec![1; 1025], vec![0, 1]].concat();
-    assert_eq!(
-        encode(&code, &long_and_banned),
-        Err(Refusal::PairNotPermitted)
-    );
+    assert_eq!(encode(&code, &long_and_banned), Err(Refusal::PairNotPermitted));
 }
 
 #[test]
