@@ -1,8 +1,8 @@
 //! A second program for codes with forbidden successors.
 //!
-//! It was written from the two papers alone, to be held against the verified
-//! program: the definitions of words, bans, messages, delay and refusals, and
-//! the pair procedure of Gönenç. The verdict is found in two ways that share
+//! It was written from the papers, to be held against the verified program:
+//! the definitions of words, bans, messages, delay and refusals, and the pair
+//! procedure of Gönenç. Only [`table`] takes its shape from that program. The verdict is found in two ways that share
 //! nothing but the code itself: [`brute`] lists sequences and messages as the
 //! definitions name them and suits tiny codes; [`pairs`] walks pairs of places
 //! and suits every code.
