@@ -1,0 +1,2 @@
+// stub
+pub fn one() -> usize { 1 }
