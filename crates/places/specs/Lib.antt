@@ -1,1 +1,3 @@
 pub mod Flat
+pub mod Onward
+pub mod Steps
