@@ -27,6 +27,26 @@ pub record Stack (g : Graph) (r : ℕ) (xs sk : List ℕ) (d : ℕ) : Type 0 whe
   pub found : (v : ℕ) → OnStack g (getD xs v 0) → At sk d v
   pub room : d ≤ total (stacked g) xs
 
+-- The root alone is put on an empty stack.
+pub stack-start : {g : Graph} (xs sk : List ℕ) (r : ℕ) → r < length xs → getD xs r 0 ≡ 0 → 0 < length sk → ((v : ℕ) → OnStack g (getD xs v 0) → ⊥)
+    → Stack g r (set xs r 1) (set sk 0 r) 1
+stack-start {g} xs sk r l white room none =
+    record {
+      bottom = λ _. getD-set-same sk 0 r 0 room;
+      met = rw (getD-set-same xs r 1 0 l) (omega arith);
+      link = λ i h. absurd (omega arith);
+      on = λ i h. let e : i ≡ 0 = omega arith in rw (e, getD-set-same sk 0 r 0 room, getD-set-same xs r 1 0 l) one-on;
+      apart = λ i j hi hj e. omega arith;
+      found =
+          on-set xs r 1 l (λ v x. OnStack g x → At (set sk 0 r) 1 v)
+          (λ _. record { place = 0; below = omega arith; is = getD-set-same sk 0 r 0 room })
+          (λ v ne o. absurd (none v o));
+      room = omega (arith, total-set (stacked g) xs r 1 l, stacked-zero g white, stacked-one g one-on);
+    }
+  where
+    one-on : OnStack g 1
+    one-on = omega arith
+
 -- A node on the stack gets another mark of a node on the stack.
 pub stack-pass : {g : Graph} {r : ℕ} {xs sk : List ℕ} {d : ℕ} → Stack g r xs sk d → (u y : ℕ) → u < length xs → OnStack g (getD xs u 0) → OnStack g y
     → Stack g r (set xs u y) sk d

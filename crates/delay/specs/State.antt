@@ -1,0 +1,147 @@
+-- The state of a depth-first search from one root, and its transitions: each raises a mark, so the search ends.
+use mathlib.Core.Path.{_≡_, refl}
+use mathlib.Core.Bool.{true}
+use mathlib.Core.List.{List}
+use Prim.Native.Nat.{ℕ, _+_, _-_, _≤_, _<_}
+use native.Mathlib.Decide.{decLt}
+use native.Mathlib.Omega.{arith}
+use lib.ListN.{length, getD, set, length-set}
+use lib.Seq.{getD-set-same}
+use Rattle.graph.specs.Graph.{Graph, Edge, Endless}
+use Rattle.graph.specs.Cells.{on-set, inside, total, total-set, total-le}
+use Rattle.graph.specs.Paths.{walk-of-path}
+use Rattle.graph.specs.Heights.{Height}
+use Rattle.delay.specs.Marks.{OnStack, Finished, finished, stacked, left, left-falls, stacked-le, stacked-zero, stacked-one, Marks, marks-set}
+use Rattle.delay.specs.Stack.{Stack, At, stack-start, stack-pass, stack-push, stack-pop, round}
+
+-- No search is under way: the marks are right, and none is that of a node on the stack.
+pub record Idle (g : Graph) (xs : List ℕ) : Type 0 where
+  pub marks : Marks g xs
+  pub none : (v : ℕ) → OnStack g (getD xs v 0) → ⊥
+
+-- A search from the root r is under way, with d entries on the stack.
+pub record State (g : Graph) (r : ℕ) (xs sk : List ℕ) (d : ℕ) : Type 0 where
+  pub root : g .root r ≡ true
+  pub wide : g .nodes ≤ length sk
+  pub marks : Marks g xs
+  pub stack : Stack g r xs sk d
+
+-- One transition: what is left for the marks to rise by has fallen.
+pub record Stepped (g : Graph) (r : ℕ) (xs xs′ sk′ : List ℕ) (d′ : ℕ) : Type 0 where
+  pub state : State g r xs′ sk′ d′
+  pub less : total (left g) xs′ < total (left g) xs
+
+-- the node on top of a stack of d entries
+abbrev pub top : List ℕ → ℕ → ℕ
+top sk d = getD sk (d - 1) 0
+
+-- the node to which the next slot of the node v leads
+abbrev pub next : Graph → List ℕ → ℕ → ℕ
+next g xs v = g .arc v (getD xs v 0 - 1)
+
+-- A store of a greater mark to a node that is not finished.
+falls : (g : Graph) (xs : List ℕ) (u y : ℕ) → u < length xs → getD xs u 0 ≤ g .slots + 1 → getD xs u 0 < y → total (left g) (set xs u y) < total (left g) xs
+falls g xs u y l o h = omega (arith, total-set (left g) xs u y l, left-falls g o h)
+
+-- There is room on the stack while some node is not met.
+pub has-room : {g : Graph} {r : ℕ} {xs sk : List ℕ} {d : ℕ} → State g r xs sk d → (w : ℕ) → w < g .nodes → getD xs w 0 ≡ 0 → d < length sk
+has-room {g} {xs = xs} s w n e =
+    let l : w < length xs = omega (arith, s .marks .size) in
+    omega (arith,
+    s .wide,
+    s .marks .size,
+    s .stack .room,
+    total-set (stacked g) xs w 1 l,
+    stacked-zero g e,
+    stacked-one g {x = 1} (omega arith),
+    total-le (stacked g) (set xs w 1) (stacked-le g),
+    length-set xs w 1)
+
+module _ {g : Graph} {r : ℕ} {xs sk : List ℕ} {d : ℕ} (s : State g r xs sk d) (some : 1 ≤ d) where
+  pub top-on : OnStack g (getD xs (top sk d) 0)
+  top-on = s .stack .on (d - 1) (omega arith)
+
+  pub top-inside : top sk d < length xs
+  top-inside = inside xs (top sk d) (top-on .0)
+
+  -- The next slot of the top leads nowhere or to a finished node: it is passed.
+  pub pass : getD xs (top sk d) 0 ≤ g .slots → (next g xs (top sk d) < g .nodes → Finished g (getD xs (next g xs (top sk d)) 0))
+      → Stepped g r xs (set xs (top sk d) (getD xs (top sk d) 0 + 1)) sk d
+  pass h done =
+      record {
+        state = record {
+          root = s .root;
+          wide = s .wide;
+          marks = marks-set (s .marks) (top sk d) (getD xs (top sk d) 0 + 1) top-inside (top-on .1) slots (λ f. absurd (omega arith)) (λ f. absurd (omega arith));
+          stack = stack-pass (s .stack) (top sk d) (getD xs (top sk d) 0 + 1) top-inside top-on (omega arith, omega arith);
+        };
+        less = falls g xs (top sk d) (getD xs (top sk d) 0 + 1) top-inside (top-on .1) (omega arith);
+      }
+    where
+      slots : (i : ℕ) → getD xs (top sk d) 0 + 1 ≤ g .slots + 1 → i + 1 < getD xs (top sk d) 0 + 1 → g .arc (top sk d) i < g .nodes → Finished g (getD xs (g .arc (top sk d) i) 0)
+      slots i l m n = go (decLt (i + 1) (getD xs (top sk d) 0))
+        where
+          go : Dec (i + 1 < getD xs (top sk d) 0) → Finished g (getD xs (g .arc (top sk d) i) 0)
+          go (yes b) = s .marks .passed (top sk d) i (omega arith) b n
+          go (no b) = let e : i ≡ getD xs (top sk d) 0 - 1 = omega arith in rw e (done (rw e at n))
+
+  -- The next slot leads to a node not met before: that node is pushed.
+  pub push : (w : ℕ) → Edge g (top sk d) w → getD xs w 0 ≡ 0 → Stepped g r xs (set xs w 1) (set sk d w) (d + 1)
+  push w e white =
+      let l : w < length xs = omega (arith, s .marks .size, e .node) in
+      record {
+        state = record {
+          root = s .root;
+          wide = simp length-set (s .wide);
+          marks = marks-set (s .marks) w 1 l (omega arith) (λ i p q. absurd (omega arith)) (λ f. absurd (omega arith)) (λ f. absurd (omega arith));
+          stack = stack-push (s .stack) w l white some (has-room s w (e .node) white) e;
+        };
+        less = falls g xs w 1 l (omega arith) (omega arith);
+      }
+
+  -- The height of the top is found: it is finished and popped.
+  pub pop : (h : ℕ) → Height g (top sk d) h → h ≤ total (finished g) xs → Stepped g r xs (set xs (top sk d) (h + (g .slots + 2))) sk (d - 1)
+  pop h height low =
+      let e : h + (g .slots + 2) - (g .slots + 2) ≡ h = omega arith in
+      record {
+        state = record {
+          root = s .root;
+          wide = s .wide;
+          marks = marks-set (s .marks) (top sk d) (h + (g .slots + 2)) top-inside (top-on .1) (λ i p. absurd (omega arith)) (λ f. rw e height) (λ f. omega arith);
+          stack = stack-pop (s .stack) (h + (g .slots + 2)) top-inside some (omega arith);
+        };
+        less = falls g xs (top sk d) (h + (g .slots + 2)) top-inside (top-on .1) (omega (arith, top-on .1));
+      }
+
+  -- The next slot leads to a node on the stack: the walks have no bound.
+  pub cycle : (w : ℕ) → Edge g (top sk d) w → OnStack g (getD xs w 0) → Endless g
+  cycle w e o k =
+      walk-of-path
+      record {
+        node = getD sk 0 0;
+        inside = omega (arith, inside xs (getD sk 0 0) (s .stack .on 0 some .0), s .marks .size);
+        root = rw (s .stack .bottom some) (s .root);
+        path = round (s .stack) e (s .stack .found w o) k 0 some;
+      }
+
+-- A search begins: the root is the only node on the stack.
+pub seed : {g : Graph} {xs : List ℕ} → Idle g xs → (sk : List ℕ) (r : ℕ) → g .nodes ≤ length sk → r < g .nodes → g .root r ≡ true → getD xs r 0 ≡ 0 → State g r (set xs r 1) (set sk 0 r) 1
+seed {g} {xs} i sk r wide n root white =
+    let l : r < length xs = omega (arith, i .marks .size) in
+    record {
+      root = root;
+      wide = simp length-set wide;
+      marks = marks-set (i .marks) r 1 l (omega arith) (λ k p q. absurd (omega arith)) (λ f. absurd (omega arith)) (λ f. absurd (omega arith));
+      stack = stack-start xs sk r l white (omega arith) (i .none);
+    }
+
+-- A search has ended: no node is on the stack, and the root's mark has its height.
+pub ended : {g : Graph} {r : ℕ} {xs sk : List ℕ} {d : ℕ} → State g r xs sk d → d ≡ 0 → Idle g xs
+ended s e = record { marks = s .marks; none = λ v o. let p = s .stack .found v o in omega (arith, p .below) }
+
+pub root-finished : {g : Graph} {r : ℕ} {xs sk : List ℕ} {d : ℕ} → State g r xs sk d → d ≡ 0 → Finished g (getD xs r 0)
+root-finished {g} {r} {xs} s e = go (decLt (getD xs r 0) (g .slots + 2))
+  where
+    go : Dec (getD xs r 0 < g .slots + 2) → Finished g (getD xs r 0)
+    go (yes h) = let p = s .stack .found r (s .stack .met, omega arith) in absurd (omega (arith, p .below))
+    go (no n) = omega arith
