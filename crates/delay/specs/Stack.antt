@@ -1,7 +1,8 @@
--- The stack of a depth-first search: a path from a root through exactly the nodes whose marks say so; kept by passing a slot, pushing and popping.
+-- The stack of a depth-first search: a path from a root through the nodes whose marks say so, kept by passing a slot, pushing and popping.
 use mathlib.Core.Path.{_≡_, refl, ap, sym, _∙_}
+use mathlib.Core.Bool.{true}
 use mathlib.Core.List.{List}
-use Prim.Native.Nat.{ℕ, zero, suc, _+_, _-_, _≤_, _<_}
+use Prim.Native.Nat.{ℕ, zero, suc, _+_, _-_, _≤_, _<_, zero-le}
 use native.Mathlib.Decide.{decLt}
 use native.Mathlib.Omega.{arith}
 use lib.ListN.{length, getD, set}
@@ -17,23 +18,33 @@ pub record At (sk : List ℕ) (d v : ℕ) : Type 0 where
   pub below : place < d
   pub is : getD sk place 0 ≡ v
 
--- The first d entries of sk, from the root r.
-pub record Stack (g : Graph) (r : ℕ) (xs sk : List ℕ) (d : ℕ) : Type 0 where
-  pub bottom : 1 ≤ d → getD sk 0 0 ≡ r
-  pub met : 1 ≤ getD xs r 0
+-- The first d entries of sk are the stack: a path from a root, its nodes apart, and exactly those whose marks say that they are on it.
+pub record Stack (g : Graph) (xs sk : List ℕ) (d : ℕ) : Type 0 where
+  pub bottom : 1 ≤ d → g .root (getD sk 0 0) ≡ true
   pub link : (i : ℕ) → i + 1 < d → Edge g (getD sk i 0) (getD sk (i + 1) 0)
   pub on : (i : ℕ) → i < d → OnStack g (getD xs (getD sk i 0) 0)
   pub apart : (i j : ℕ) → i < d → j < d → getD sk i 0 ≡ getD sk j 0 → i ≡ j
   pub found : (v : ℕ) → OnStack g (getD xs v 0) → At sk d v
   pub room : d ≤ total (stacked g) xs
 
--- The root alone is put on an empty stack.
-pub stack-start : {g : Graph} (xs sk : List ℕ) (r : ℕ) → r < length xs → getD xs r 0 ≡ 0 → 0 < length sk → ((v : ℕ) → OnStack g (getD xs v 0) → ⊥)
-    → Stack g r (set xs r 1) (set sk 0 r) 1
-stack-start {g} xs sk r l white room none =
+-- The stack is empty when no mark says otherwise.
+pub stack-empty : {g : Graph} (xs sk : List ℕ) → ((v : ℕ) → OnStack g (getD xs v 0) → ⊥) → Stack g xs sk 0
+stack-empty xs sk none =
     record {
-      bottom = λ _. getD-set-same sk 0 r 0 room;
-      met = rw (getD-set-same xs r 1 0 l) (omega arith);
+      bottom = λ h. absurd (omega arith);
+      link = λ i h. absurd (omega arith);
+      on = λ i h. absurd (omega arith);
+      apart = λ i j hi. absurd (omega arith);
+      found = λ v o. absurd (none v o);
+      room = zero-le;
+    }
+
+-- A root alone is put on an empty stack.
+pub stack-start : {g : Graph} (xs sk : List ℕ) (r : ℕ) → r < length xs → getD xs r 0 ≡ 0 → 0 < length sk → g .root r ≡ true → ((v : ℕ) → OnStack g (getD xs v 0) → ⊥)
+    → Stack g (set xs r 1) (set sk 0 r) 1
+stack-start {g} xs sk r l white room root none =
+    record {
+      bottom = λ _. rw (getD-set-same sk 0 r 0 room) root;
       link = λ i h. absurd (omega arith);
       on = λ i h. let e : i ≡ 0 = omega arith in rw (e, getD-set-same sk 0 r 0 room, getD-set-same xs r 1 0 l) one-on;
       apart = λ i j hi hj e. omega arith;
@@ -48,12 +59,11 @@ stack-start {g} xs sk r l white room none =
     one-on = omega arith
 
 -- A node on the stack gets another mark of a node on the stack.
-pub stack-pass : {g : Graph} {r : ℕ} {xs sk : List ℕ} {d : ℕ} → Stack g r xs sk d → (u y : ℕ) → u < length xs → OnStack g (getD xs u 0) → OnStack g y
-    → Stack g r (set xs u y) sk d
-stack-pass {g} {r} {xs} {sk} {d} s u y l old new =
+pub stack-pass : {g : Graph} {xs sk : List ℕ} {d : ℕ} → Stack g xs sk d → (u y : ℕ) → u < length xs → OnStack g (getD xs u 0) → OnStack g y
+    → Stack g (set xs u y) sk d
+stack-pass {g} {xs} {sk} {d} s u y l old new =
     record {
       bottom = s .bottom;
-      met = on-set xs u y l (λ v x. 1 ≤ getD xs v 0 → 1 ≤ x) (λ _. new .0) (λ v ne h. h) r (s .met);
       link = s .link;
       on = λ i h. on-set xs u y l (λ v x. OnStack g (getD xs v 0) → OnStack g x) (λ _. new) (λ v ne p. p) (getD sk i 0) (s .on i h);
       apart = s .apart;
@@ -66,12 +76,11 @@ on-push : (sk : List ℕ) (d w : ℕ) → d < length sk → (P : ℕ → ℕ →
 on-push sk d w h P new old = on-set sk d w h (λ i x. i < d + 1 → P i x) (λ _. new) (λ i ne l. old i (omega arith))
 
 -- A node not met before is put on top, after a node with an edge to it.
-pub stack-push : {g : Graph} {r : ℕ} {xs sk : List ℕ} {d : ℕ} → Stack g r xs sk d → (w : ℕ) → w < length xs → getD xs w 0 ≡ 0 → 1 ≤ d → d < length sk
-    → Edge g (getD sk (d - 1) 0) w → Stack g r (set xs w 1) (set sk d w) (d + 1)
-stack-push {g} {r} {xs} {sk} {d} s w l white some room edge =
+pub stack-push : {g : Graph} {xs sk : List ℕ} {d : ℕ} → Stack g xs sk d → (w : ℕ) → w < length xs → getD xs w 0 ≡ 0 → 1 ≤ d → d < length sk
+    → Edge g (getD sk (d - 1) 0) w → Stack g (set xs w 1) (set sk d w) (d + 1)
+stack-push {g} {xs} {sk} {d} s w l white some room edge =
     record {
       bottom = λ _. rw (getD-set-other sk d 0 w 0 (omega arith)) (s .bottom some);
-      met = on-set xs w 1 l (λ v x. 1 ≤ getD xs v 0 → 1 ≤ x) (λ _. omega arith) (λ v ne h. h) r (s .met);
       link = λ i h. on-push sk d w room (λ j x. i + 1 ≡ j → Edge g (getD (set sk d w) i 0) x) (λ e. top i e) (λ j k e. below i j k e) (i + 1) h refl;
       on = on-push sk d w room (λ i v. OnStack g (getD (set xs w 1) v 0)) (rw (getD-set-same xs w 1 0 l) (omega arith)) (λ i h. kept (getD sk i 0) (s .on i h));
       apart =
@@ -102,12 +111,11 @@ stack-push {g} {r} {xs} {sk} {d} s w l white some room edge =
     at-old v a = record { place = a .place; below = omega (arith, a .below); is = getD-set-other sk d (a .place) w 0 (omega (arith, a .below)) ∙ a .is }
 
 -- The node on top is finished and taken off.
-pub stack-pop : {g : Graph} {r : ℕ} {xs sk : List ℕ} {d : ℕ} → Stack g r xs sk d → (y : ℕ) → getD sk (d - 1) 0 < length xs → 1 ≤ d → Finished g y
-    → Stack g r (set xs (getD sk (d - 1) 0) y) sk (d - 1)
-stack-pop {g} {r} {xs} {sk} {d} s y l some done =
+pub stack-pop : {g : Graph} {xs sk : List ℕ} {d : ℕ} → Stack g xs sk d → (y : ℕ) → getD sk (d - 1) 0 < length xs → 1 ≤ d → Finished g y
+    → Stack g (set xs (getD sk (d - 1) 0) y) sk (d - 1)
+stack-pop {g} {xs} {sk} {d} s y l some done =
     record {
       bottom = λ h. s .bottom some;
-      met = on-set xs u y l (λ v x. 1 ≤ getD xs v 0 → 1 ≤ x) (λ _. omega arith) (λ v ne h. h) r (s .met);
       link = λ i h. s .link i (omega arith);
       on = λ i h. rw (getD-set-other xs u (getD sk i 0) y 0 (λ e. omega (arith, s .apart i (d - 1) (omega arith) (omega arith) e))) (s .on i (omega arith));
       apart = λ i j hi hj. s .apart i j (omega arith) (omega arith);
@@ -125,7 +133,7 @@ stack-pop {g} {r} {xs} {sk} {d} s y l some done =
         go (no n) = let e : a .place ≡ d - 1 = omega (arith, a .below) in absurd (ne (sym (a .is) ∙ ap (λ (i : ℕ). getD sk i 0) e))
 
 -- An edge from the top to a node on the stack closes a cycle: every node on the stack has paths of every length.
-pub round : {g : Graph} {r : ℕ} {xs sk : List ℕ} {d w : ℕ} → Stack g r xs sk d → Edge g (getD sk (d - 1) 0) w → At sk d w → (k i : ℕ) → i < d → PathFrom g k (getD sk i 0)
+pub round : {g : Graph} {xs sk : List ℕ} {d w : ℕ} → Stack g xs sk d → Edge g (getD sk (d - 1) 0) w → At sk d w → (k i : ℕ) → i < d → PathFrom g k (getD sk i 0)
 round s e a zero i h = here
 round {g} {sk = sk} {d = d} {w = w} s e a (suc k) i h = go (round s e a k) (decLt (i + 1) d)
   where

@@ -1,4 +1,4 @@
--- The state of a depth-first search from one root, and its transitions: each raises a mark, so the search ends.
+-- The state of a depth-first search, and its transitions: each raises a mark, so the search ends.
 use mathlib.Core.Path.{_≡_, refl}
 use mathlib.Core.Bool.{true}
 use mathlib.Core.List.{List}
@@ -12,23 +12,23 @@ use Rattle.graph.specs.Cells.{on-set, inside, total, total-set, total-le}
 use Rattle.graph.specs.Paths.{walk-of-path}
 use Rattle.graph.specs.Heights.{Height}
 use Rattle.delay.specs.Marks.{OnStack, Finished, finished, stacked, left, left-falls, stacked-le, stacked-zero, stacked-one, Marks, marks-set}
-use Rattle.delay.specs.Stack.{Stack, At, stack-start, stack-pass, stack-push, stack-pop, round}
+use Rattle.delay.specs.Stack.{Stack, At, stack-empty, stack-start, stack-pass, stack-push, stack-pop, round}
 
 -- No search is under way: the marks are right, and none is that of a node on the stack.
 pub record Idle (g : Graph) (xs : List ℕ) : Type 0 where
   pub marks : Marks g xs
   pub none : (v : ℕ) → OnStack g (getD xs v 0) → ⊥
 
--- A search from the root r is under way, with d entries on the stack.
-pub record State (g : Graph) (r : ℕ) (xs sk : List ℕ) (d : ℕ) : Type 0 where
-  pub root : g .root r ≡ true
+-- A search is under way, with d entries on the stack.
+pub record State (g : Graph) (xs sk : List ℕ) (d : ℕ) : Type 0 where
   pub wide : g .nodes ≤ length sk
   pub marks : Marks g xs
-  pub stack : Stack g r xs sk d
+  pub stack : Stack g xs sk d
 
--- One transition: what is left for the marks to rise by has fallen.
-pub record Stepped (g : Graph) (r : ℕ) (xs xs′ sk′ : List ℕ) (d′ : ℕ) : Type 0 where
-  pub state : State g r xs′ sk′ d′
+-- One transition: every node met stays so, and what is left for the marks to rise by has fallen.
+pub record Stepped (g : Graph) (xs xs′ sk′ : List ℕ) (d′ : ℕ) : Type 0 where
+  pub state : State g xs′ sk′ d′
+  pub met : (v : ℕ) → 1 ≤ getD xs v 0 → 1 ≤ getD xs′ v 0
   pub less : total (left g) xs′ < total (left g) xs
 
 -- the node on top of a stack of d entries
@@ -43,8 +43,11 @@ next g xs v = g .arc v (getD xs v 0 - 1)
 falls : (g : Graph) (xs : List ℕ) (u y : ℕ) → u < length xs → getD xs u 0 ≤ g .slots + 1 → getD xs u 0 < y → total (left g) (set xs u y) < total (left g) xs
 falls g xs u y l o h = omega (arith, total-set (left g) xs u y l, left-falls g o h)
 
+still-met : (xs : List ℕ) (u y : ℕ) → u < length xs → 1 ≤ y → (v : ℕ) → 1 ≤ getD xs v 0 → 1 ≤ getD (set xs u y) v 0
+still-met xs u y l h = on-set xs u y l (λ v x. 1 ≤ getD xs v 0 → 1 ≤ x) (λ _. h) (λ v ne o. o)
+
 -- There is room on the stack while some node is not met.
-pub has-room : {g : Graph} {r : ℕ} {xs sk : List ℕ} {d : ℕ} → State g r xs sk d → (w : ℕ) → w < g .nodes → getD xs w 0 ≡ 0 → d < length sk
+pub has-room : {g : Graph} {xs sk : List ℕ} {d : ℕ} → State g xs sk d → (w : ℕ) → w < g .nodes → getD xs w 0 ≡ 0 → d < length sk
 has-room {g} {xs = xs} s w n e =
     let l : w < length xs = omega (arith, s .marks .size) in
     omega (arith,
@@ -57,7 +60,7 @@ has-room {g} {xs = xs} s w n e =
     total-le (stacked g) (set xs w 1) (stacked-le g),
     length-set xs w 1)
 
-module _ {g : Graph} {r : ℕ} {xs sk : List ℕ} {d : ℕ} (s : State g r xs sk d) (some : 1 ≤ d) where
+module _ {g : Graph} {xs sk : List ℕ} {d : ℕ} (s : State g xs sk d) (some : 1 ≤ d) where
   pub top-on : OnStack g (getD xs (top sk d) 0)
   top-on = s .stack .on (d - 1) (omega arith)
 
@@ -66,15 +69,15 @@ module _ {g : Graph} {r : ℕ} {xs sk : List ℕ} {d : ℕ} (s : State g r xs sk
 
   -- The next slot of the top leads nowhere or to a finished node: it is passed.
   pub pass : getD xs (top sk d) 0 ≤ g .slots → (next g xs (top sk d) < g .nodes → Finished g (getD xs (next g xs (top sk d)) 0))
-      → Stepped g r xs (set xs (top sk d) (getD xs (top sk d) 0 + 1)) sk d
+      → Stepped g xs (set xs (top sk d) (getD xs (top sk d) 0 + 1)) sk d
   pass h done =
       record {
         state = record {
-          root = s .root;
           wide = s .wide;
           marks = marks-set (s .marks) (top sk d) (getD xs (top sk d) 0 + 1) top-inside (top-on .1) slots (λ f. absurd (omega arith)) (λ f. absurd (omega arith));
           stack = stack-pass (s .stack) (top sk d) (getD xs (top sk d) 0 + 1) top-inside top-on (omega arith, omega arith);
         };
+        met = still-met xs (top sk d) (getD xs (top sk d) 0 + 1) top-inside (omega arith);
         less = falls g xs (top sk d) (getD xs (top sk d) 0 + 1) top-inside (top-on .1) (omega arith);
       }
     where
@@ -86,30 +89,30 @@ module _ {g : Graph} {r : ℕ} {xs sk : List ℕ} {d : ℕ} (s : State g r xs sk
           go (no b) = let e : i ≡ getD xs (top sk d) 0 - 1 = omega arith in rw e (done (rw e at n))
 
   -- The next slot leads to a node not met before: that node is pushed.
-  pub push : (w : ℕ) → Edge g (top sk d) w → getD xs w 0 ≡ 0 → Stepped g r xs (set xs w 1) (set sk d w) (d + 1)
+  pub push : (w : ℕ) → Edge g (top sk d) w → getD xs w 0 ≡ 0 → Stepped g xs (set xs w 1) (set sk d w) (d + 1)
   push w e white =
       let l : w < length xs = omega (arith, s .marks .size, e .node) in
       record {
         state = record {
-          root = s .root;
           wide = simp length-set (s .wide);
           marks = marks-set (s .marks) w 1 l (omega arith) (λ i p q. absurd (omega arith)) (λ f. absurd (omega arith)) (λ f. absurd (omega arith));
           stack = stack-push (s .stack) w l white some (has-room s w (e .node) white) e;
         };
+        met = still-met xs w 1 l (omega arith);
         less = falls g xs w 1 l (omega arith) (omega arith);
       }
 
   -- The height of the top is found: it is finished and popped.
-  pub pop : (h : ℕ) → Height g (top sk d) h → h ≤ total (finished g) xs → Stepped g r xs (set xs (top sk d) (h + (g .slots + 2))) sk (d - 1)
+  pub pop : (h : ℕ) → Height g (top sk d) h → h ≤ total (finished g) xs → Stepped g xs (set xs (top sk d) (h + (g .slots + 2))) sk (d - 1)
   pop h height low =
       let e : h + (g .slots + 2) - (g .slots + 2) ≡ h = omega arith in
       record {
         state = record {
-          root = s .root;
           wide = s .wide;
           marks = marks-set (s .marks) (top sk d) (h + (g .slots + 2)) top-inside (top-on .1) (λ i p. absurd (omega arith)) (λ f. rw e height) (λ f. omega arith);
           stack = stack-pop (s .stack) (h + (g .slots + 2)) top-inside some (omega arith);
         };
+        met = still-met xs (top sk d) (h + (g .slots + 2)) top-inside (omega arith);
         less = falls g xs (top sk d) (h + (g .slots + 2)) top-inside (top-on .1) (omega (arith, top-on .1));
       }
 
@@ -120,28 +123,31 @@ module _ {g : Graph} {r : ℕ} {xs sk : List ℕ} {d : ℕ} (s : State g r xs sk
       record {
         node = getD sk 0 0;
         inside = omega (arith, inside xs (getD sk 0 0) (s .stack .on 0 some .0), s .marks .size);
-        root = rw (s .stack .bottom some) (s .root);
+        root = s .stack .bottom some;
         path = round (s .stack) e (s .stack .found w o) k 0 some;
       }
 
 -- A search begins: the root is the only node on the stack.
-pub seed : {g : Graph} {xs : List ℕ} → Idle g xs → (sk : List ℕ) (r : ℕ) → g .nodes ≤ length sk → r < g .nodes → g .root r ≡ true → getD xs r 0 ≡ 0 → State g r (set xs r 1) (set sk 0 r) 1
-seed {g} {xs} i sk r wide n root white =
+pub begun : {g : Graph} {xs : List ℕ} → Idle g xs → (sk : List ℕ) (r : ℕ) → g .nodes ≤ length sk → r < g .nodes → g .root r ≡ true → getD xs r 0 ≡ 0 → State g (set xs r 1) (set sk 0 r) 1
+begun {g} {xs} i sk r wide n root white =
     let l : r < length xs = omega (arith, i .marks .size) in
     record {
-      root = root;
       wide = simp length-set wide;
       marks = marks-set (i .marks) r 1 l (omega arith) (λ k p q. absurd (omega arith)) (λ f. absurd (omega arith)) (λ f. absurd (omega arith));
-      stack = stack-start xs sk r l white (omega arith) (i .none);
+      stack = stack-start xs sk r l white (omega arith) root (i .none);
     }
 
--- A search has ended: no node is on the stack, and the root's mark has its height.
-pub ended : {g : Graph} {r : ℕ} {xs sk : List ℕ} {d : ℕ} → State g r xs sk d → d ≡ 0 → Idle g xs
-ended s e = record { marks = s .marks; none = λ v o. let p = s .stack .found v o in omega (arith, p .below) }
+-- Where no search is needed, the stack is empty.
+pub resting : {g : Graph} {xs : List ℕ} → Idle g xs → (sk : List ℕ) → g .nodes ≤ length sk → State g xs sk 0
+resting {xs = xs} i sk wide = record { wide = wide; marks = i .marks; stack = stack-empty xs sk (i .none) }
 
-pub root-finished : {g : Graph} {r : ℕ} {xs sk : List ℕ} {d : ℕ} → State g r xs sk d → d ≡ 0 → Finished g (getD xs r 0)
-root-finished {g} {r} {xs} s e = go (decLt (getD xs r 0) (g .slots + 2))
+-- A search has ended: no node is on the stack, so those met are finished.
+pub ended : {g : Graph} {xs sk : List ℕ} → State g xs sk 0 → Idle g xs
+ended s = record { marks = s .marks; none = λ v o. let p = s .stack .found v o in omega (arith, p .below) }
+
+pub all-finished : {g : Graph} {xs : List ℕ} → Idle g xs → (v : ℕ) → 1 ≤ getD xs v 0 → Finished g (getD xs v 0)
+all-finished {g} {xs} i v m = go (decLt (getD xs v 0) (g .slots + 2))
   where
-    go : Dec (getD xs r 0 < g .slots + 2) → Finished g (getD xs r 0)
-    go (yes h) = let p = s .stack .found r (s .stack .met, omega arith) in absurd (omega (arith, p .below))
+    go : Dec (getD xs v 0 < g .slots + 2) → Finished g (getD xs v 0)
+    go (yes h) = absurd (i .none v (m, omega arith))
     go (no n) = omega arith
