@@ -1,3 +1,6 @@
 pub mod Marks
 pub mod Stack
 pub mod State
+pub mod Pairs
+pub mod Rise
+pub mod Advance

@@ -2,6 +2,7 @@
 use mathlib.Core.Path.{_≡_, refl, ap}
 use mathlib.Core.List.{List}
 use Prim.Native.Nat.{ℕ, zero, suc, _+_, _-_, _≤_, _<_, min}
+use native.Mathlib.Decide.{decLt}
 use native.Mathlib.Omega.{arith}
 use lib.ListN.{length, getD, set, length-set}
 use lib.Seq.{getD-set-other}
@@ -68,6 +69,14 @@ pub record Marks (g : Graph) (xs : List ℕ) : Type 0 where
   pub height : (v : ℕ) → Finished g (getD xs v 0) → Height g v (getD xs v 0 - (g .slots + 2))
   -- and the height is below the number of finished nodes
   pub low : (v : ℕ) → Finished g (getD xs v 0) → getD xs v 0 < g .slots + 2 + total (finished g) xs
+
+-- A mark is less than what the finished nodes could bring it to.
+pub mark-low : {g : Graph} {xs : List ℕ} → Marks g xs → (v : ℕ) → getD xs v 0 < g .slots + 2 + g .nodes
+mark-low {g} {xs} m v = go (decLt (getD xs v 0) (g .slots + 2))
+  where
+    go : Dec (getD xs v 0 < g .slots + 2) → getD xs v 0 < g .slots + 2 + g .nodes
+    go (yes h) = omega arith
+    go (no n) = omega (arith, m .low v (omega arith), total-le (finished g) xs (finished-le g), m .size)
 
 -- A store to a node that is not finished, of a mark that is right for the node.
 pub marks-set : {g : Graph} {xs : List ℕ} → Marks g xs → (u y : ℕ) → u < length xs → getD xs u 0 ≤ g .slots + 1

@@ -1,2 +1,116 @@
-// stub
-pub fn one() -> usize { 1 }
+// The longest walk over the pairs of a code, by a depth-first search with heights.
+
+use places::Layout;
+use places::Pair;
+ghost use mathlib.Core.Path.{_≡_};
+ghost use Prim.Native.Nat.{_+_, _*_, _-_, _≤_, _<_};
+ghost use lib.ListN.{length, getD};
+ghost use Rattle.places.specs.Flat.{Laid, pairGraph, arcFrom, slotsOf};
+ghost use Rattle.delay.specs.Pairs.{IsPair, nodeOf};
+ghost use Rattle.delay.specs.State.{State};
+ghost use Rattle.delay.specs.Rise.{Passed, Rising, Tall};
+ghost use Rattle.delay.specs.Advance.{Searching, Advanced};
+
+// How many symbols the longest walk reads, or that there is no longest.
+pub enum Extent {
+    Finite(usize),
+    Unbounded,
+}
+
+// After one transition: how many entries the stack has, or that a cycle is closed.
+enum Progress {
+    Depth(usize),
+    Cycle,
+}
+
+pub struct Mark {}
+
+impl Mark {
+    // The mark of a finished pair is this and its height.
+    pub const FINISHED: u16 = 34;
+}
+
+// The number of a pair: its entry on the stack, and the index of its mark.
+fn pack(pair: Pair) -> usize
+    requires { ⌜ IsPair pair ⌝ }
+    ensures { λ r. ⌜ r ≡ nodeOf pair ⌝ }
+{
+    (pair.low << 7) + pair.high
+}
+
+// The pair of a number.
+fn unpack(node: usize) -> Pair
+    requires { ⌜ node < 16384 ⌝ }
+    ensures { λ r. ⌜ IsPair r × (nodeOf r ≡ node) ⌝ }
+{
+    let low = node >> 7;
+    Pair {
+        low: low,
+        high: node - (low << 7),
+    }
+}
+
+// The greater of `best` and one more than the height of the pair where `slot` leads.
+fn rise(places: &[u8], marks: &[u16], pair: Pair, slot: usize, best: usize) -> usize
+    requires { ⌜ Laid (now places) × IsPair pair × Passed (now places) (now marks) pair × (slot < slotsOf (now places) (pair .low) (pair .high)) × Rising (now places) (now marks) pair slot best ⌝ }
+    ensures { λ r. ⌜ Rising (now (places .entry)) (now (marks .entry)) pair (slot + 1) r ⌝ }
+{
+    let next = places::successor(places, pair.low, pair.high, slot);
+    if Layout::PLACES <= next.low {
+        return best;
+    }
+    let node = pack(next);
+    let height = marks[node] as usize - 34;
+    if best <= height {
+        return height + 1;
+    }
+    best
+}
+
+// The height of a pair whose successors are all finished.
+fn height(places: &[u8], marks: &[u16], pair: Pair) -> usize
+    requires { ⌜ Laid (now places) × IsPair pair × Passed (now places) (now marks) pair ⌝ }
+    ensures { λ r. ⌜ Tall (now (places .entry)) (now (marks .entry)) pair r ⌝ }
+{
+    let count = places::slots(places, pair.low, pair.high);
+    let mut best: usize = 0;
+    let mut slot: usize = 0;
+    while slot < count {
+        best = rise(places, marks, pair, slot, best);
+        slot += 1;
+    }
+    best
+}
+
+// One transition: the next slot of the pair on top is passed, or leads to a pair that is pushed; or, with no slot left, the pair is
+// finished and popped.
+fn advance(places: &[u8], marks: &mut [u16], stack: &mut [u64], depth: usize) -> Progress
+    requires { ⌜ Searching (now places) (now marks) (now stack) depth ⌝ }
+    ensures { λ r. ⌜ Advanced (now (places .entry)) (now (marks .entry)) (now (marks .exit)) (now (stack .exit)) r ⌝ }
+{
+    let node = stack[depth - 1] as usize;
+    let pair = unpack(node);
+    let mark = marks[node];
+    let slot = mark as usize - 1;
+    if places::slots(places, pair.low, pair.high) <= slot {
+        let tall = height(places, marks, pair);
+        marks[node] = (tall + 34) as u16;
+        return Progress::Depth(depth - 1);
+    }
+    let next = places::successor(places, pair.low, pair.high, slot);
+    if Layout::PLACES <= next.low {
+        marks[node] = mark + 1;
+        return Progress::Depth(depth);
+    }
+    let target = pack(next);
+    if marks[target] == 0 {
+        marks[target] = 1;
+        stack[depth] = target as u64;
+        return Progress::Depth(depth + 1);
+    }
+    if marks[target] < Mark::FINISHED {
+        return Progress::Cycle;
+    }
+    marks[node] = mark + 1;
+    Progress::Depth(depth)
+}
