@@ -66,8 +66,8 @@ pub record Tall (f xs : List ℕ) (p : Pair) (h : ℕ) : Type 0 where
 pub rising-start : (f xs : List ℕ) (p : Pair) → Rising f xs p 0 0
 rising-start f xs p = record { tallest = tallest-start (nodeOf p); low = zero-le }
 
-pub risen : {f xs : List ℕ} {p : Pair} {j b : ℕ} → IsPair p → Passed f xs p → slotsOf f (p .low) (p .high) ≤ j → Rising f xs p j b → Tall f xs p b
-risen {f} {xs} {p} {j} i d s r =
+pub risen : {f xs : List ℕ} {p : Pair} {n j b : ℕ} → IsPair p → Passed f xs p → n ≡ slotsOf f (p .low) (p .high) → n ≤ j → Rising f xs p j b → Tall f xs p b
+risen {f} {xs} {p} {j = j} i d e s r =
     record {
       height = height (r .tallest) (λ k h. omega (arith, arc-of f p i k, arc-past f (p .low) (p .high) k (omega arith)));
       low = r .low;
