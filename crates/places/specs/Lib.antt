@@ -1,3 +1,8 @@
 pub mod Flat
+pub mod Nodes
 pub mod Onward
 pub mod Steps
+pub mod Roots
+pub mod Lays
+pub mod Words
+pub mod Writes

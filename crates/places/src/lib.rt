@@ -1,11 +1,15 @@
 // The places of a code laid out flat, and the successors of a pair of places.
 
 use code::Code;
+use code::Row;
+use code::Word;
 ghost use mathlib.Core.Path.{_≡_};
 ghost use Prim.Native.Nat.{_+_, _*_, _≤_, _<_};
 ghost use lib.ListN.{length, getD};
 ghost use Rattle.places.specs.Flat.{Laid, symbolAt, ownerAt, endAt, firstAt, mayFollow, wordCount, onward, pairNode, slotsOf, arcFrom};
 ghost use Rattle.places.specs.Steps.{Arrives, startNode};
+ghost use Rattle.places.specs.Writes.{Written, elements, always};
+ghost use Rattle.places.specs.Words.{Room, WordLaid};
 
 // Where each part of the flat list starts: for each place its symbol, its word, and 1 if it is the end of its word; for each word its
 // first place; the follow matrix row by row; the number of words.
@@ -158,4 +162,48 @@ pub fn first_pair(places: &[u8], x: usize, y: usize) -> Pair
     ensures { λ r. ⌜ Arrives (startNode (now (places .entry)) x y) r ⌝ }
 {
     pair_of(places, first_place(places, x), first_place(places, y))
+}
+
+// Writes the first `n` entries of `from` into the list from `at` on.
+fn put(places: &mut [u8], at: usize, from: &[u8], n: usize)
+    requires { ⌜ (at + n ≤ length (now places)) × (n ≤ length (now from)) ⌝ }
+    ensures { λ _. ⌜ Written (now (places .entry)) at n (elements (now (from .entry))) (now (places .exit)) ⌝ }
+{
+    let mut k: usize = 0;
+    while k < n {
+        places[at + k] = from[k];
+        k += 1;
+    }
+}
+
+// Writes `n` entries `v` into the list from `at` on.
+fn fill(places: &mut [u8], at: usize, n: usize, v: u8)
+    requires { ⌜ at + n ≤ length (now places) ⌝ }
+    ensures { λ _. ⌜ Written (now (places .entry)) at n (always v) (now (places .exit)) ⌝ }
+{
+    let mut k: usize = 0;
+    while k < n {
+        places[at + k] = v;
+        k += 1;
+    }
+}
+
+// Lays out word `x`, whose places start at number `at`, and its row of the follow matrix.
+fn lay_word(places: &mut [u8], at: usize, x: usize, word: Word, row: Row)
+    requires { ⌜ Room at x word row (now places) ⌝ }
+    ensures { λ _. ⌜ WordLaid at x word row (now (places .entry)) (now (places .exit)) ⌝ }
+{
+    let len = word.len;
+    let symbols = word.symbols;
+    let entries = row.entries;
+    put(places, at, &symbols, len);
+    fill(places, Layout::OWNER + at, len, x as u8);
+    places[Layout::END + (at + len - 1)] = 1;
+    places[Layout::FIRST + x] = at as u8;
+    put(
+        places,
+        Layout::FOLLOW + x * Code::WORDS,
+        &entries,
+        Code::WORDS,
+    );
 }
