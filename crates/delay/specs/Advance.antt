@@ -6,12 +6,13 @@ use native.Mathlib.Omega.{arith}
 use lib.ListN.{length, getD, set}
 use Rattle.places.specs.declared.Pair.{Pair}
 use Rattle.places.specs.Flat.{Laid, slotsOf, arcFrom, pairGraph}
+use Rattle.places.specs.Nodes.{slots-few}
 use Rattle.places.specs.Steps.{Arrives}
 use Rattle.graph.specs.Cells.{total, total-le}
 use Rattle.graph.specs.Graph.{Edge, Endless}
 use Rattle.delay.specs.declared.Progress.{Progress}
 use Rattle.delay.specs.declared.Progress.the-variants.{Depth, Cycle}
-use Rattle.delay.specs.Pairs.{IsPair, nodeOf, arc-of, leads, slots-le}
+use Rattle.delay.specs.Pairs.{TwoPlaces, nodeOf, arc-of, leads}
 use Rattle.delay.specs.Marks.{Finished, stacked, stacked-le}
 use Rattle.delay.specs.State.{State, Stepped, top, top-on, top-inside, has-room, pass, push, pop, cycle}
 use Rattle.delay.specs.Rise.{Passed, Tall}
@@ -45,7 +46,7 @@ pub data Advanced (f xs xs′ sk′ : List ℕ) : Progress → Type 0 where
   moved : {d : ℕ} → Stepped (pairGraph f) xs xs′ sk′ d → Advanced f xs xs′ sk′ (Depth d)
   closed : Endless (pairGraph f) → Advanced f xs xs′ sk′ Cycle
 
-module _ {f xs sk : List ℕ} {d n : ℕ} {p : Pair} (s : Searching f xs sk d) (i : IsPair p) (e : nodeOf p ≡ getD sk (d - 1) 0) (c : n ≡ slotsOf f (p .low) (p .high)) where
+module _ {f xs sk : List ℕ} {d n : ℕ} {p : Pair} (s : Searching f xs sk d) (i : TwoPlaces p) (e : nodeOf p ≡ getD sk (d - 1) 0) (c : n ≡ slotsOf f (p .low) (p .high)) where
   -- No slot is left: the height of the pair can be worked out, and the pair is finished.
   pub all-passed : n ≤ getD xs (getD sk (d - 1) 0) 0 - 1 → Passed f xs p
   all-passed h =
@@ -60,7 +61,7 @@ module _ {f xs sk : List ℕ} {d n : ℕ} {p : Pair} (s : Searching f xs sk d) (
 
   module _ {next : Pair} (l : getD xs (getD sk (d - 1) 0) 0 - 1 < n) (a : Arrives (arcFrom f (p .low) (p .high) (getD xs (getD sk (d - 1) 0) 0 - 1)) next) where
     slot-within : getD xs (getD sk (d - 1) 0) 0 ≤ 32
-    slot-within = omega (arith, slots-le f (s .laid) (p .low) (p .high), s .met)
+    slot-within = omega (arith, slots-few (s .laid) (p .low) (p .high), s .met)
 
     target : nodeOf next ≡ pairGraph f .arc (getD sk (d - 1) 0) (getD xs (getD sk (d - 1) 0) 0 - 1)
     target = rw e at (leads f (getD xs (getD sk (d - 1) 0) 0 - 1) i a)

@@ -1,16 +1,14 @@
 -- The graph of pairs by a pair's two places.
 use mathlib.Core.Path.{_≡_, refl}
-use mathlib.Core.Bool.{Bool, true, false, _&&_, _||_}
 use mathlib.Core.List.{List}
 use Prim.Native.Nat.{ℕ, _+_, _*_, _/_, _%_, _≤_, _<_}
 use native.Mathlib.Omega.{arith}
-use Rattle.code.specs.Definitions.Lists.{if_then_else_}
 use Rattle.places.specs.declared.Pair.{Pair}
-use Rattle.places.specs.Flat.{Laid, endAt, wordCount, slotsOf, arcFrom, pairGraph}
+use Rattle.places.specs.Flat.{arcFrom, pairGraph}
 use Rattle.places.specs.Steps.{Arrives}
 
 -- Two places, as numbers below 128.
-pub record IsPair (p : Pair) : Type 0 where
+pub record TwoPlaces (p : Pair) : Type 0 where
   pub low : p .low < 128
   pub high : p .high < 128
 
@@ -20,22 +18,12 @@ nodeOf p = p .low * 128 + p .high
 
 module _ (f : List ℕ) where
   -- The slots of a pair's node are those of its two places.
-  pub arc-of : (p : Pair) → IsPair p → (j : ℕ) → pairGraph f .arc (nodeOf p) j ≡ arcFrom f (p .low) (p .high) j
+  pub arc-of : (p : Pair) → TwoPlaces p → (j : ℕ) → pairGraph f .arc (nodeOf p) j ≡ arcFrom f (p .low) (p .high) j
   arc-of p i j =
       let a : nodeOf p / 128 ≡ p .low = omega (arith, i .high) in
       let b : nodeOf p % 128 ≡ p .high = omega (arith, i .high) in
       rw (a, b)
 
-  -- A pair has at most 32 slots.
-  pub slots-le : Laid f → (p q : ℕ) → slotsOf f p q ≤ 32
-  slots-le l p q = go (endAt f p) (endAt f q)
-    where
-      go : (a b : Bool) → (if a && b then 0 else if a || b then wordCount f else 1) ≤ 32
-      go true true = omega arith
-      go true false = l .words
-      go false true = l .words
-      go false false = omega arith
-
   -- The pair where a slot of two places leads is the node where it leads from theirs.
-  pub leads : {p next : Pair} (j : ℕ) → IsPair p → Arrives (arcFrom f (p .low) (p .high) j) next → nodeOf next ≡ pairGraph f .arc (nodeOf p) j
+  pub leads : {p next : Pair} (j : ℕ) → TwoPlaces p → Arrives (arcFrom f (p .low) (p .high) j) next → nodeOf next ≡ pairGraph f .arc (nodeOf p) j
   leads {p} j i a = rw (arc-of p i j) (a .node)

@@ -10,10 +10,11 @@ use lib.ListN.{length, getD, set}
 use Rattle.places.specs.declared.Pair.{Pair}
 use Rattle.places.specs.Flat.{Laid, slotsOf, arcFrom, pairGraph}
 use Rattle.places.specs.Onward.{arc-past}
+use Rattle.places.specs.Nodes.{slots-few}
 use Rattle.places.specs.Steps.{Arrives}
 use Rattle.graph.specs.Cells.{total, total-le}
 use Rattle.graph.specs.Heights.{Height, Tallest, tallest-start, tallest-nowhere, tallest-lower, tallest-higher, height}
-use Rattle.delay.specs.Pairs.{IsPair, nodeOf, arc-of, leads, slots-le}
+use Rattle.delay.specs.Pairs.{TwoPlaces, nodeOf, arc-of, leads}
 use Rattle.delay.specs.Marks.{Finished, finished, finished-le, Marks, mark-low}
 
 -- The marks are right, and every slot of the pair leads nowhere or to a finished pair.
@@ -34,7 +35,7 @@ rise-fits d v = record { fits = omega (arith, mark-low (d .marks) v) }
 pub rise-fits-more : {f xs : List ℕ} {p : Pair} → Passed f xs p → (v : ℕ) → Fits w64 (getD xs v 0 - 34 + 1)
 rise-fits-more d v = record { fits = omega (arith, mark-low (d .marks) v) }
 
-module _ {f xs : List ℕ} {p next : Pair} {j : ℕ} (i : IsPair p) (a : Arrives (arcFrom f (p .low) (p .high) j) next) where
+module _ {f xs : List ℕ} {p next : Pair} {j : ℕ} (i : TwoPlaces p) (a : Arrives (arcFrom f (p .low) (p .high) j) next) where
   pub rise-nowhere : {b : ℕ} → Rising f xs p j b → 128 ≤ next .low → Rising f xs p (j + 1) b
   rise-nowhere r h = record { tallest = tallest-nowhere (r .tallest) (omega (arith, leads f j i a)); low = r .low }
 
@@ -49,7 +50,7 @@ module _ {f xs : List ℕ} {p next : Pair} {j : ℕ} (i : IsPair p) (a : Arrives
   rise-higher {n = n} l d s r h e b =
       record {
         tallest =
-            rw (add-one (getD xs n 0 - 34)) (tallest-higher (getD xs n 0 - 34) (r .tallest) (omega (arith, slots-le f l (p .low) (p .high))) (omega (arith, leads f j i a, a .high)) (rise-height n d s h e) b);
+            rw (add-one (getD xs n 0 - 34)) (tallest-higher (getD xs n 0 - 34) (r .tallest) (omega (arith, slots-few l (p .low) (p .high))) (omega (arith, leads f j i a, a .high)) (rise-height n d s h e) b);
         low = omega (arith, d .marks .low n (rise-mark n d s h e), rise-mark n d s h e);
       }
 
@@ -66,7 +67,7 @@ pub record Tall (f xs : List ℕ) (p : Pair) (h : ℕ) : Type 0 where
 pub rising-start : (f xs : List ℕ) (p : Pair) → Rising f xs p 0 0
 rising-start f xs p = record { tallest = tallest-start (nodeOf p); low = zero-le }
 
-pub risen : {f xs : List ℕ} {p : Pair} {n j b : ℕ} → IsPair p → Passed f xs p → n ≡ slotsOf f (p .low) (p .high) → n ≤ j → Rising f xs p j b → Tall f xs p b
+pub risen : {f xs : List ℕ} {p : Pair} {n j b : ℕ} → TwoPlaces p → Passed f xs p → n ≡ slotsOf f (p .low) (p .high) → n ≤ j → Rising f xs p j b → Tall f xs p b
 risen {f} {xs} {p} {j = j} i d e s r =
     record {
       height = height (r .tallest) (λ k h. omega (arith, arc-of f p i k, arc-past f (p .low) (p .high) k (omega arith)));

@@ -6,7 +6,7 @@ ghost use mathlib.Core.Path.{_≡_};
 ghost use Prim.Native.Nat.{_+_, _*_, _-_, _≤_, _<_};
 ghost use lib.ListN.{length, getD};
 ghost use Rattle.places.specs.Flat.{Laid, pairGraph, arcFrom, slotsOf};
-ghost use Rattle.delay.specs.Pairs.{IsPair, nodeOf};
+ghost use Rattle.delay.specs.Pairs.{TwoPlaces, nodeOf};
 ghost use Rattle.delay.specs.State.{State};
 ghost use Rattle.delay.specs.Rise.{Passed, Rising, Tall};
 ghost use Rattle.delay.specs.Advance.{Searching, Advanced};
@@ -32,7 +32,7 @@ impl Mark {
 
 // The number of a pair: its entry on the stack, and the index of its mark.
 fn pack(pair: Pair) -> usize
-    requires { ⌜ IsPair pair ⌝ }
+    requires { ⌜ TwoPlaces pair ⌝ }
     ensures { λ r. ⌜ r ≡ nodeOf pair ⌝ }
 {
     (pair.low << 7) + pair.high
@@ -41,7 +41,7 @@ fn pack(pair: Pair) -> usize
 // The pair of a number.
 fn unpack(node: usize) -> Pair
     requires { ⌜ node < 16384 ⌝ }
-    ensures { λ r. ⌜ IsPair r × (nodeOf r ≡ node) ⌝ }
+    ensures { λ r. ⌜ TwoPlaces r × (nodeOf r ≡ node) ⌝ }
 {
     let low = node >> 7;
     Pair {
@@ -52,7 +52,7 @@ fn unpack(node: usize) -> Pair
 
 // The greater of `best` and one more than the height of the pair where `slot` leads.
 fn rise(places: &[u8], marks: &[u16], pair: Pair, slot: usize, best: usize) -> usize
-    requires { ⌜ Laid (now places) × IsPair pair × Passed (now places) (now marks) pair × (slot < slotsOf (now places) (pair .low) (pair .high)) × Rising (now places) (now marks) pair slot best ⌝ }
+    requires { ⌜ Laid (now places) × TwoPlaces pair × Passed (now places) (now marks) pair × (slot < slotsOf (now places) (pair .low) (pair .high)) × Rising (now places) (now marks) pair slot best ⌝ }
     ensures { λ r. ⌜ Rising (now (places .entry)) (now (marks .entry)) pair (slot + 1) r ⌝ }
 {
     let next = places::successor(places, pair.low, pair.high, slot);
@@ -69,7 +69,7 @@ fn rise(places: &[u8], marks: &[u16], pair: Pair, slot: usize, best: usize) -> u
 
 // The height of a pair whose successors are all finished.
 fn height(places: &[u8], marks: &[u16], pair: Pair) -> usize
-    requires { ⌜ Laid (now places) × IsPair pair × Passed (now places) (now marks) pair ⌝ }
+    requires { ⌜ Laid (now places) × TwoPlaces pair × Passed (now places) (now marks) pair ⌝ }
     ensures { λ r. ⌜ Tall (now (places .entry)) (now (marks .entry)) pair r ⌝ }
 {
     let count = places::slots(places, pair.low, pair.high);
