@@ -8,6 +8,7 @@ use lib.ListN.{length, getD, set, length-set}
 use lib.Seq.{getD-set-other}
 use Rattle.graph.specs.Graph.{Graph}
 use Rattle.graph.specs.Cells.{on-set, total, total-set, total-le}
+use Rattle.graph.specs.Paths.{Reached}
 use Rattle.graph.specs.Heights.{Height}
 
 -- The mark of a node is 0 before the node is met, 1 + j while it is on the stack and j is its next slot, and slots + 2 + h once it is
@@ -63,6 +64,8 @@ module _ (g : Graph) where
 
 pub record Marks (g : Graph) (xs : List ℕ) : Type 0 where
   pub size : length xs ≡ g .nodes
+  -- only nodes that a walk reaches are met
+  pub reached : (v : ℕ) → 1 ≤ getD xs v 0 → Reached g v
   -- the slots before the next one lead to finished nodes
   pub passed : (v i : ℕ) → getD xs v 0 ≤ g .slots + 1 → i + 1 < getD xs v 0 → g .arc v i < g .nodes → Finished g (getD xs (g .arc v i) 0)
   -- a finished node has the height that its mark says
@@ -79,12 +82,13 @@ mark-low {g} {xs} m v = go (decLt (getD xs v 0) (g .slots + 2))
     go (no n) = omega (arith, m .low v (omega arith), total-le (finished g) xs (finished-le g), m .size)
 
 -- A store to a node that is not finished, of a mark that is right for the node.
-pub marks-set : {g : Graph} {xs : List ℕ} → Marks g xs → (u y : ℕ) → u < length xs → getD xs u 0 ≤ g .slots + 1
+pub marks-set : {g : Graph} {xs : List ℕ} → Marks g xs → (u y : ℕ) → u < length xs → Reached g u → getD xs u 0 ≤ g .slots + 1
     → ((i : ℕ) → y ≤ g .slots + 1 → i + 1 < y → g .arc u i < g .nodes → Finished g (getD xs (g .arc u i) 0))
     → (Finished g y → Height g u (y - (g .slots + 2))) → (Finished g y → y ≤ g .slots + 2 + total (finished g) xs) → Marks g (set xs u y)
-marks-set {g} {xs} m u y l o next high low =
+marks-set {g} {xs} m u y l r o next high low =
     record {
       size = simp length-set (m .size);
+      reached = on-set xs u y l (λ v x. 1 ≤ x → Reached g v) (λ _. r) (λ v ne. m .reached v);
       passed =
           λ v i. on-set xs u y l (λ w x. x ≤ g .slots + 1 → i + 1 < x → g .arc w i < g .nodes → Finished g (getD (set xs u y) (g .arc w i) 0))
           (λ p q n. stays (g .arc u i) (next i p q n))

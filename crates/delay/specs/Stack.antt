@@ -1,6 +1,5 @@
--- The stack of a depth-first search: a path from a root through the nodes whose marks say so, kept by passing a slot, pushing and popping.
+-- The stack of a depth-first search: a path through the nodes whose marks say so, kept by passing a slot, pushing and popping.
 use mathlib.Core.Path.{_≡_, refl, ap, sym, _∙_}
-use mathlib.Core.Bool.{true}
 use mathlib.Core.List.{List}
 use Prim.Native.Nat.{ℕ, zero, suc, _+_, _-_, _≤_, _<_, zero-le}
 use native.Mathlib.Decide.{decLt}
@@ -18,9 +17,8 @@ pub record At (sk : List ℕ) (d v : ℕ) : Type 0 where
   pub below : place < d
   pub is : getD sk place 0 ≡ v
 
--- The first d entries of sk are the stack: a path from a root, its nodes apart, and exactly those whose marks say that they are on it.
+-- The first d entries of sk are the stack: a path, its nodes apart, and exactly those whose marks say that they are on it.
 pub record Stack (g : Graph) (xs sk : List ℕ) (d : ℕ) : Type 0 where
-  pub bottom : 1 ≤ d → g .root (getD sk 0 0) ≡ true
   pub link : (i : ℕ) → i + 1 < d → Edge g (getD sk i 0) (getD sk (i + 1) 0)
   pub on : (i : ℕ) → i < d → OnStack g (getD xs (getD sk i 0) 0)
   pub apart : (i j : ℕ) → i < d → j < d → getD sk i 0 ≡ getD sk j 0 → i ≡ j
@@ -31,7 +29,6 @@ pub record Stack (g : Graph) (xs sk : List ℕ) (d : ℕ) : Type 0 where
 pub stack-empty : {g : Graph} (xs sk : List ℕ) → ((v : ℕ) → OnStack g (getD xs v 0) → ⊥) → Stack g xs sk 0
 stack-empty xs sk none =
     record {
-      bottom = λ h. absurd (omega arith);
       link = λ i h. absurd (omega arith);
       on = λ i h. absurd (omega arith);
       apart = λ i j hi. absurd (omega arith);
@@ -39,12 +36,11 @@ stack-empty xs sk none =
       room = zero-le;
     }
 
--- A root alone is put on an empty stack.
-pub stack-start : {g : Graph} (xs sk : List ℕ) (r : ℕ) → r < length xs → getD xs r 0 ≡ 0 → 0 < length sk → g .root r ≡ true → ((v : ℕ) → OnStack g (getD xs v 0) → ⊥)
+-- A node alone is put on an empty stack.
+pub stack-start : {g : Graph} (xs sk : List ℕ) (r : ℕ) → r < length xs → getD xs r 0 ≡ 0 → 0 < length sk → ((v : ℕ) → OnStack g (getD xs v 0) → ⊥)
     → Stack g (set xs r 1) (set sk 0 r) 1
-stack-start {g} xs sk r l white room root none =
+stack-start {g} xs sk r l white room none =
     record {
-      bottom = λ _. rw (getD-set-same sk 0 r 0 room) root;
       link = λ i h. absurd (omega arith);
       on = λ i h. let e : i ≡ 0 = omega arith in rw (e, getD-set-same sk 0 r 0 room, getD-set-same xs r 1 0 l) one-on;
       apart = λ i j hi hj e. omega arith;
@@ -63,7 +59,6 @@ pub stack-pass : {g : Graph} {xs sk : List ℕ} {d : ℕ} → Stack g xs sk d �
     → Stack g (set xs u y) sk d
 stack-pass {g} {xs} {sk} {d} s u y l old new =
     record {
-      bottom = s .bottom;
       link = s .link;
       on = λ i h. on-set xs u y l (λ v x. OnStack g (getD xs v 0) → OnStack g x) (λ _. new) (λ v ne p. p) (getD sk i 0) (s .on i h);
       apart = s .apart;
@@ -80,7 +75,6 @@ pub stack-push : {g : Graph} {xs sk : List ℕ} {d : ℕ} → Stack g xs sk d �
     → Edge g (getD sk (d - 1) 0) w → Stack g (set xs w 1) (set sk d w) (d + 1)
 stack-push {g} {xs} {sk} {d} s w l white some room edge =
     record {
-      bottom = λ _. rw (getD-set-other sk d 0 w 0 (omega arith)) (s .bottom some);
       link = λ i h. on-push sk d w room (λ j x. i + 1 ≡ j → Edge g (getD (set sk d w) i 0) x) (λ e. top i e) (λ j k e. below i j k e) (i + 1) h refl;
       on = on-push sk d w room (λ i v. OnStack g (getD (set xs w 1) v 0)) (rw (getD-set-same xs w 1 0 l) (omega arith)) (λ i h. kept (getD sk i 0) (s .on i h));
       apart =
@@ -115,7 +109,6 @@ pub stack-pop : {g : Graph} {xs sk : List ℕ} {d : ℕ} → Stack g xs sk d →
     → Stack g (set xs (getD sk (d - 1) 0) y) sk (d - 1)
 stack-pop {g} {xs} {sk} {d} s y l some done =
     record {
-      bottom = λ h. s .bottom some;
       link = λ i h. s .link i (omega arith);
       on = λ i h. rw (getD-set-other xs u (getD sk i 0) y 0 (λ e. omega (arith, s .apart i (d - 1) (omega arith) (omega arith) e))) (s .on i (omega arith));
       apart = λ i j hi hj. s .apart i j (omega arith) (omega arith);

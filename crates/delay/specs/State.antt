@@ -9,7 +9,7 @@ use lib.ListN.{length, getD, set, length-set}
 use lib.Seq.{getD-set-same}
 use Rattle.graph.specs.Graph.{Graph, Edge, Endless}
 use Rattle.graph.specs.Cells.{on-set, inside, total, total-set, total-le}
-use Rattle.graph.specs.Paths.{walk-of-path}
+use Rattle.graph.specs.Paths.{Reached, reached-root, reached-edge, endless}
 use Rattle.graph.specs.Heights.{Height}
 use Rattle.delay.specs.Marks.{OnStack, Finished, finished, stacked, left, left-falls, stacked-le, stacked-zero, stacked-one, Marks, marks-set}
 use Rattle.delay.specs.Stack.{Stack, At, stack-empty, stack-start, stack-pass, stack-push, stack-pop, round}
@@ -67,6 +67,9 @@ module _ {g : Graph} {xs sk : List ℕ} {d : ℕ} (s : State g xs sk d) (some : 
   pub top-inside : top sk d < length xs
   top-inside = inside xs (top sk d) (top-on .0)
 
+  top-reached : Reached g (top sk d)
+  top-reached = s .marks .reached (top sk d) (top-on .0)
+
   -- The next slot of the top leads nowhere or to a finished node: it is passed.
   pub pass : getD xs (top sk d) 0 ≤ g .slots → (next g xs (top sk d) < g .nodes → Finished g (getD xs (next g xs (top sk d)) 0))
       → Stepped g xs (set xs (top sk d) (getD xs (top sk d) 0 + 1)) sk d
@@ -74,7 +77,7 @@ module _ {g : Graph} {xs sk : List ℕ} {d : ℕ} (s : State g xs sk d) (some : 
       record {
         state = record {
           wide = s .wide;
-          marks = marks-set (s .marks) (top sk d) (getD xs (top sk d) 0 + 1) top-inside (top-on .1) slots (λ f. absurd (omega arith)) (λ f. absurd (omega arith));
+          marks = marks-set (s .marks) (top sk d) (getD xs (top sk d) 0 + 1) top-inside top-reached (top-on .1) slots (λ f. absurd (omega arith)) (λ f. absurd (omega arith));
           stack = stack-pass (s .stack) (top sk d) (getD xs (top sk d) 0 + 1) top-inside top-on (omega arith, omega arith);
         };
         met = still-met xs (top sk d) (getD xs (top sk d) 0 + 1) top-inside (omega arith);
@@ -95,7 +98,7 @@ module _ {g : Graph} {xs sk : List ℕ} {d : ℕ} (s : State g xs sk d) (some : 
       record {
         state = record {
           wide = simp length-set (s .wide);
-          marks = marks-set (s .marks) w 1 l (omega arith) (λ i p q. absurd (omega arith)) (λ f. absurd (omega arith)) (λ f. absurd (omega arith));
+          marks = marks-set (s .marks) w 1 l (reached-edge top-reached e) (omega arith) (λ i p q. absurd (omega arith)) (λ f. absurd (omega arith)) (λ f. absurd (omega arith));
           stack = stack-push (s .stack) w l white some (has-room s w (e .node) white) e;
         };
         met = still-met xs w 1 l (omega arith);
@@ -109,7 +112,7 @@ module _ {g : Graph} {xs sk : List ℕ} {d : ℕ} (s : State g xs sk d) (some : 
       record {
         state = record {
           wide = s .wide;
-          marks = marks-set (s .marks) (top sk d) (h + (g .slots + 2)) top-inside (top-on .1) (λ i p. absurd (omega arith)) (λ f. rw e height) (λ f. omega arith);
+          marks = marks-set (s .marks) (top sk d) (h + (g .slots + 2)) top-inside top-reached (top-on .1) (λ i p. absurd (omega arith)) (λ f. rw e height) (λ f. omega arith);
           stack = stack-pop (s .stack) (h + (g .slots + 2)) top-inside some (omega arith);
         };
         met = still-met xs (top sk d) (h + (g .slots + 2)) top-inside (omega arith);
@@ -118,14 +121,7 @@ module _ {g : Graph} {xs sk : List ℕ} {d : ℕ} (s : State g xs sk d) (some : 
 
   -- The next slot leads to a node on the stack: the walks have no bound.
   pub cycle : (w : ℕ) → Edge g (top sk d) w → OnStack g (getD xs w 0) → Endless g
-  cycle w e o k =
-      walk-of-path
-      record {
-        node = getD sk 0 0;
-        inside = omega (arith, inside xs (getD sk 0 0) (s .stack .on 0 some .0), s .marks .size);
-        root = s .stack .bottom some;
-        path = round (s .stack) e (s .stack .found w o) k 0 some;
-      }
+  cycle w e o = endless top-reached (λ k. round (s .stack) e (s .stack .found w o) k (d - 1) (omega arith))
 
 -- A search begins: the root is the only node on the stack.
 pub begun : {g : Graph} {xs : List ℕ} → Idle g xs → (sk : List ℕ) (r : ℕ) → g .nodes ≤ length sk → r < g .nodes → g .root r ≡ true → getD xs r 0 ≡ 0 → State g (set xs r 1) (set sk 0 r) 1
@@ -133,8 +129,8 @@ begun {g} {xs} i sk r wide n root white =
     let l : r < length xs = omega (arith, i .marks .size) in
     record {
       wide = simp length-set wide;
-      marks = marks-set (i .marks) r 1 l (omega arith) (λ k p q. absurd (omega arith)) (λ f. absurd (omega arith)) (λ f. absurd (omega arith));
-      stack = stack-start xs sk r l white (omega arith) root (i .none);
+      marks = marks-set (i .marks) r 1 l (reached-root n root) (omega arith) (λ k p q. absurd (omega arith)) (λ f. absurd (omega arith)) (λ f. absurd (omega arith));
+      stack = stack-start xs sk r l white (omega arith) (i .none);
     }
 
 -- Where no search is needed, the stack is empty.
