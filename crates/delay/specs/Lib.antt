@@ -4,3 +4,4 @@ pub mod State
 pub mod Pairs
 pub mod Rise
 pub mod Advance
+pub mod Explore

@@ -4,12 +4,13 @@ use places::Layout;
 use places::Pair;
 ghost use mathlib.Core.Path.{_≡_};
 ghost use Prim.Native.Nat.{_+_, _*_, _-_, _≤_, _<_};
-ghost use lib.ListN.{length, getD};
+ghost use lib.ListN.{length, getD, set};
 ghost use Rattle.places.specs.Flat.{Laid, pairGraph, arcFrom, slotsOf};
 ghost use Rattle.delay.specs.Pairs.{TwoPlaces, nodeOf};
 ghost use Rattle.delay.specs.State.{State};
 ghost use Rattle.delay.specs.Rise.{Passed, Rising, Tall};
 ghost use Rattle.delay.specs.Advance.{Searching, Advanced};
+ghost use Rattle.delay.specs.Explore.{AtRoot, Running, Explored};
 
 // How many symbols the longest walk reads, or that there is no longest.
 pub enum Extent {
@@ -50,6 +51,14 @@ fn unpack(node: usize) -> Pair
     }
 }
 
+// The height in the mark of a finished pair.
+fn height_at(marks: &[u16], node: usize) -> usize
+    requires { ⌜ (node < length (now marks)) × (34 ≤ getD (now marks) node 0) ⌝ }
+    ensures { λ r. ⌜ (r ≡ getD (now (marks .entry)) node 0 - 34) × (r < 65536) ⌝ }
+{
+    (marks[node] - Mark::FINISHED) as usize
+}
+
 // The greater of `best` and one more than the height of the pair where `slot` leads.
 fn rise(places: &[u8], marks: &[u16], pair: Pair, slot: usize, best: usize) -> usize
     requires { ⌜ Laid (now places) × TwoPlaces pair × Passed (now places) (now marks) pair × (slot < slotsOf (now places) (pair .low) (pair .high)) × Rising (now places) (now marks) pair slot best ⌝ }
@@ -59,10 +68,9 @@ fn rise(places: &[u8], marks: &[u16], pair: Pair, slot: usize, best: usize) -> u
     if Layout::PLACES <= next.low {
         return best;
     }
-    let node = pack(next);
-    let height = marks[node] as usize - 34;
-    if best <= height {
-        return height + 1;
+    let tall = height_at(marks, pack(next));
+    if best <= tall {
+        return tall + 1;
     }
     best
 }
@@ -94,7 +102,7 @@ fn advance(places: &[u8], marks: &mut [u16], stack: &mut [u64], depth: usize) ->
     let slot = mark as usize - 1;
     if places::slots(places, pair.low, pair.high) <= slot {
         let tall = height(places, marks, pair);
-        marks[node] = (tall + 34) as u16;
+        marks[node] = tall as u16 + Mark::FINISHED;
         return Progress::Depth(depth - 1);
     }
     let next = places::successor(places, pair.low, pair.high, slot);
@@ -113,4 +121,44 @@ fn advance(places: &[u8], marks: &mut [u16], stack: &mut [u64], depth: usize) ->
     }
     marks[node] = mark + 1;
     Progress::Depth(depth)
+}
+
+// Puts a pair on the empty stack.
+fn start(marks: &mut [u16], stack: &mut [u64], node: usize)
+    requires { ⌜ (node < length (now marks)) × (0 < length (now stack)) ⌝ }
+    ensures { λ _. ⌜ (now (marks .exit) ≡ set (now (marks .entry)) node 1) × (now (stack .exit) ≡ set (now (stack .entry)) 0 node) ⌝ }
+{
+    marks[node] = 1;
+    stack[0] = node as u64;
+}
+
+// Searches until the stack, on which the root alone is, is empty.
+fn run(places: &[u8], marks: &mut [u16], stack: &mut [u64], root: usize) -> Extent
+    requires { ⌜ Running (now places) (now marks) (now stack) root 1 ⌝ }
+    ensures { λ r. ⌜ Explored (now (places .entry)) root (now (marks .exit)) r ⌝ }
+{
+    let mut depth: usize = 1;
+    while 0 < depth {
+        match advance(places, marks, stack, depth) {
+            Progress::Depth(next) => {
+                depth = next;
+            }
+            Progress::Cycle => {
+                return Extent::Unbounded;
+            }
+        }
+    }
+    Extent::Finite(height_at(marks, root) + 1)
+}
+
+// How many symbols the longest walk from a root reads.
+fn explore(places: &[u8], marks: &mut [u16], stack: &mut [u64], root: usize) -> Extent
+    requires { ⌜ AtRoot (now places) (now marks) (now stack) root ⌝ }
+    ensures { λ r. ⌜ Explored (now (places .entry)) root (now (marks .exit)) r ⌝ }
+{
+    if marks[root] == 0 {
+        start(marks, stack, root);
+        return run(places, marks, stack, root);
+    }
+    Extent::Finite(height_at(marks, root) + 1)
 }

@@ -1,0 +1,88 @@
+-- The search from one root: what the functions promise, and a lemma for each way through them.
+use mathlib.Core.Path.{_≡_, refl}
+use mathlib.Core.Bool.{true}
+use mathlib.Core.List.{List}
+use Prim.Native.Nat.{ℕ, _+_, _-_, _≤_, _<_}
+use native.Mathlib.Omega.{arith}
+use lib.ListN.{length, getD, set, length-set}
+use lib.Seq.{getD-set-same}
+use Rattle.places.specs.Flat.{Laid, pairGraph}
+use Rattle.graph.specs.Cells.{total}
+use Rattle.graph.specs.Graph.{Endless}
+use Rattle.graph.specs.Heights.{Height}
+use Rattle.delay.specs.declared.Extent.{Extent}
+use Rattle.delay.specs.declared.Extent.the-variants.{Finite, Unbounded}
+use Rattle.delay.specs.declared.Progress.{Progress}
+use Rattle.delay.specs.declared.Progress.the-variants.{Depth, Cycle}
+use Rattle.delay.specs.Marks.{left}
+use Rattle.delay.specs.State.{Idle, State, Stepped, begun, ended, all-finished}
+use Rattle.delay.specs.Advance.{Advanced, moved, closed}
+
+-- Between two searches, with a root v and room for the stack.
+pub record AtRoot (f xs sk : List ℕ) (v : ℕ) : Type 0 where
+  pub laid : Laid f
+  pub idle : Idle (pairGraph f) xs
+  pub root : pairGraph f .root v ≡ true
+  pub node : v < 16384
+  pub size : length xs ≡ 16384
+  pub wide : 16384 ≤ length sk
+
+-- A search from v is under way.
+pub record Running (f xs sk : List ℕ) (v d : ℕ) : Type 0 where
+  pub laid : Laid f
+  pub state : State (pairGraph f) xs sk d
+  pub met : 1 ≤ getD xs v 0
+  pub node : v < 16384
+  pub size : length xs ≡ 16384
+
+-- The longest walk from the root v reads one symbol more than v is high; or the walks have no bound.
+pub data Explored (f : List ℕ) (v : ℕ) (xs′ : List ℕ) : Extent → Type 0 where
+  finite : {h : ℕ} → Idle (pairGraph f) xs′ → Height (pairGraph f) v h → Explored f v xs′ (Finite (h + 1))
+  unbounded : Endless (pairGraph f) → Explored f v xs′ Unbounded
+
+-- The root is put on the stack.
+pub running : {f xs sk xs′ sk′ : List ℕ} {v : ℕ} → AtRoot f xs sk v → getD xs v 0 ≡ 0 → xs′ ≡ set xs v 1 → sk′ ≡ set sk 0 v → Running f xs′ sk′ v 1
+running {f} {xs} {sk} {v = v} r white e s =
+    rw (e, s)
+    record {
+      laid = r .laid;
+      state = begun (r .idle) sk v (r .wide) (r .node) (r .root) white;
+      met = rw (getD-set-same xs v 1 0 (omega (arith, r .size, r .node))) (omega arith);
+      node = r .node;
+      size = simp length-set (r .size);
+    }
+
+-- A transition that closes no cycle is one to another state of the search.
+went : {f xs xs′ sk′ : List ℕ} {e : ℕ} {t : Progress} → Advanced f xs xs′ sk′ t → t ≡ Depth e → Stepped (pairGraph f) xs xs′ sk′ e
+went {e = e} (moved {d = d} s) q = let z : d ≡ e = cc in rw z at s
+went (closed x) q = let z : _≡_ {A = ℕ} 0 1 = cc in absurd (omega arith)
+
+pub runs-on : {f xs xs′ sk sk′ : List ℕ} {v d e : ℕ} {t : Progress} → Running f xs sk v d → Advanced f xs xs′ sk′ t → t ≡ Depth e → Running f xs′ sk′ v e
+runs-on {v = v} r a q =
+    let s = went a q in
+    record { laid = r .laid; state = s .state; met = s .met v (r .met); node = r .node; size = s .state .marks .size }
+
+pub runs-less : {f xs xs′ sk′ : List ℕ} {e : ℕ} {t : Progress} → Advanced f xs xs′ sk′ t → t ≡ Depth e → total (left (pairGraph f)) xs′ < total (left (pairGraph f)) xs
+runs-less a q = went a q .less
+
+pub runs-round : {f xs xs′ sk′ ys : List ℕ} {v : ℕ} {t : Progress} → Advanced f xs xs′ sk′ t → t ≡ Cycle → Explored f v ys Unbounded
+runs-round (moved s) q = let z : _≡_ {A = ℕ} 0 1 = cc in absurd (omega arith)
+runs-round (closed x) q = unbounded x
+
+module _ {f xs : List ℕ} {v : ℕ} where
+  by-mark : {h : ℕ} → Idle (pairGraph f) xs → 1 ≤ getD xs v 0 → h ≡ getD xs v 0 - 34 → Explored f v xs (Finite (h + 1))
+  by-mark {h} i m e = finite {h = h} i (rw e (i .marks .height v (all-finished i v m)))
+
+  -- The stack is empty: the root is finished.
+  pub run-mark : {sk : List ℕ} {d : ℕ} → Running f xs sk v d → d ≤ 0 → 34 ≤ getD xs v 0
+  run-mark {d = d} r l = let e : d ≡ 0 = omega arith in all-finished (ended (rw e at (r .state))) v (r .met)
+
+  pub run-end : {sk : List ℕ} {d h : ℕ} → Running f xs sk v d → d ≤ 0 → h ≡ getD xs v 0 - 34 → Explored f v xs (Finite (h + 1))
+  run-end {d = d} r l q = let e : d ≡ 0 = omega arith in by-mark (ended (rw e at (r .state))) (r .met) q
+
+  -- The root was met before: it is finished.
+  pub known-mark : {sk : List ℕ} → AtRoot f xs sk v → (getD xs v 0 ≡ 0 → ⊥) → 34 ≤ getD xs v 0
+  known-mark r n = all-finished (r .idle) v (omega arith)
+
+  pub known : {sk : List ℕ} {h : ℕ} → AtRoot f xs sk v → (getD xs v 0 ≡ 0 → ⊥) → h ≡ getD xs v 0 - 34 → Explored f v xs (Finite (h + 1))
+  known r n q = by-mark (r .idle) (omega arith) q
