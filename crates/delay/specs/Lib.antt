@@ -5,3 +5,4 @@ pub mod Pairs
 pub mod Rise
 pub mod Advance
 pub mod Explore
+pub mod Roots
