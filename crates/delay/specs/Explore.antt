@@ -14,7 +14,7 @@ use Rattle.delay.specs.declared.Extent.{Extent}
 use Rattle.delay.specs.declared.Extent.the-variants.{Finite, Unbounded}
 use Rattle.delay.specs.declared.Progress.{Progress}
 use Rattle.delay.specs.declared.Progress.the-variants.{Depth, Cycle}
-use Rattle.delay.specs.Marks.{left}
+use Rattle.delay.specs.Marks.{finished, left}
 use Rattle.delay.specs.State.{Idle, State, Stepped, begun, ended, all-finished}
 use Rattle.delay.specs.Advance.{Advanced, moved, closed}
 
@@ -35,9 +35,10 @@ pub record Running (f xs sk : List ℕ) (v d : ℕ) : Type 0 where
   pub node : v < 16384
   pub size : length xs ≡ 16384
 
--- The longest walk from the root v reads one symbol more than v is high; or the walks have no bound.
+-- The longest walk from the root v reads one symbol more than v is high, at most as many as there are finished pairs; or the walks have no
+-- bound.
 pub data Explored (f : List ℕ) (v : ℕ) (xs′ : List ℕ) : Extent → Type 0 where
-  finite : {h : ℕ} → Idle (pairGraph f) xs′ → Height (pairGraph f) v h → Explored f v xs′ (Finite (h + 1))
+  finite : {h : ℕ} → Idle (pairGraph f) xs′ → Height (pairGraph f) v h → h < total (finished (pairGraph f)) xs′ → Explored f v xs′ (Finite (h + 1))
   unbounded : Endless (pairGraph f) → Explored f v xs′ Unbounded
 
 -- The root is put on the stack.
@@ -71,7 +72,9 @@ runs-round (closed x) q = unbounded x
 
 module _ {f xs : List ℕ} {v : ℕ} where
   by-mark : {h : ℕ} → Idle (pairGraph f) xs → 1 ≤ getD xs v 0 → h ≡ getD xs v 0 - 34 → Explored f v xs (Finite (h + 1))
-  by-mark {h} i m e = finite {h = h} i (rw e (i .marks .height v (all-finished i v m)))
+  by-mark {h} i m e =
+      let d = all-finished i v m in
+      finite {h = h} i (rw e (i .marks .height v d)) (omega (arith, i .marks .low v d))
 
   -- The stack is empty: the root is finished.
   pub run-mark : {sk : List ℕ} {d : ℕ} → Running f xs sk v d → d ≤ 0 → 34 ≤ getD xs v 0

@@ -5,4 +5,5 @@ pub mod Pairs
 pub mod Rise
 pub mod Advance
 pub mod Explore
+pub mod Bound
 pub mod Roots

@@ -12,13 +12,16 @@ use Rattle.places.specs.declared.Pair.{Pair}
 use Rattle.places.specs.Flat.{Laid, wordCount, pairGraph}
 use Rattle.places.specs.Steps.{Arrives, startNode}
 use Rattle.places.specs.Roots.{Numbered, Starts, root-starts, starts-root}
+use Rattle.graph.specs.Cells.{total}
 use Rattle.graph.specs.Graph.{WalkOf, Longest, Endless}
 use Rattle.graph.specs.Paths.{PathFrom, shorter, walk-of-path}
 use Rattle.graph.specs.Heights.{Height, longest}
 use Rattle.delay.specs.declared.Extent.{Extent}
 use Rattle.delay.specs.declared.Extent.the-variants.{Finite, Unbounded}
 use Rattle.delay.specs.Pairs.{nodeOf}
+use Rattle.delay.specs.Marks.{finished}
 use Rattle.delay.specs.State.{Idle}
+use Rattle.delay.specs.Bound.{pairs-few}
 use Rattle.delay.specs.Explore.{AtRoot, Explored, finite, unbounded}
 
 -- Every path from the first pair of words u and w has fewer than b edges.
@@ -31,6 +34,7 @@ pub record Counting (f xs : List ℕ) (x y b : ℕ) : Type 0 where
   pub numbered : Numbered f
   pub idle : Idle (pairGraph f) xs
   pub some : (k : ℕ) → b ≡ suc k → WalkOf (pairGraph f) b
+  pub low : b ≤ 8256
   pub rows : (u w : ℕ) → u < x → u < w → w < wordCount f → Below f b u w
   pub row : (w : ℕ) → w < y → x < w → Below f b x w
 
@@ -58,6 +62,7 @@ module _ {f xs sk : List ℕ} {x y b : ℕ} {p : Pair} (s : Visiting f xs sk x y
         numbered = c .numbered;
         idle = c .idle;
         some = c .some;
+        low = c .low;
         rows = c .rows;
         row = below-more (λ w. x < w → Below f b x w) y (c .row) (λ _ n. absurd (omega (arith, a .node)));
       }
@@ -75,7 +80,8 @@ module _ {f xs sk : List ℕ} {x y b : ℕ} {p : Pair} (s : Visiting f xs sk x y
         wide = s .wide;
       }
 
-  module _ {v h : ℕ} {xs′ : List ℕ} (l : p .low < 128) (e : v ≡ nodeOf p) (i : Idle (pairGraph f) xs′) (t : Height (pairGraph f) v h) where
+  module _ {v h : ℕ} {xs′ : List ℕ} (l : p .low < 128) (e : v ≡ nodeOf p) (i : Idle (pairGraph f) xs′) (t : Height (pairGraph f) v h)
+      (few : h < total (finished (pairGraph f)) xs′) where
     -- A path from the first pair of x and y with more edges than it is high.
     none : {k : ℕ} → h < k → PathFrom (pairGraph f) k (startNode f x y) → ⊥
     none {k} m q =
@@ -91,6 +97,7 @@ module _ {f xs sk : List ℕ} {x y b : ℕ} {p : Pair} (s : Visiting f xs sk x y
           numbered = c .numbered;
           idle = i;
           some = λ k q. rw (add-one h) (walk-of-path record { node = v; inside = r .node; root = r .root; path = t .some });
+          low = omega (arith, pairs-few (c .laid) (c .numbered) (i .marks));
           rows = λ u w lu lw lk n q. c .rows u w lu lw lk n (shorter b (omega arith) q);
           row =
               below-more (λ w. x < w → Below f (h + 1) x w) y (λ w lw lx n q. c .row w lw lx n (shorter b (omega arith) q)) (λ _ n. none (omega arith));
@@ -104,6 +111,7 @@ module _ {f xs sk : List ℕ} {x y b : ℕ} {p : Pair} (s : Visiting f xs sk x y
           numbered = c .numbered;
           idle = i;
           some = c .some;
+          low = c .low;
           rows = c .rows;
           row = below-more (λ w. x < w → Below f b x w) y (c .row) (λ _ n. none (omega arith));
         }
@@ -111,17 +119,17 @@ module _ {f xs sk : List ℕ} {x y b : ℕ} {p : Pair} (s : Visiting f xs sk x y
 -- The walks from the first pair of x and y are longer than those before.
 pub visit-higher : {f xs sk xs′ : List ℕ} {x y b v r : ℕ} {p : Pair} {t : Extent} → Visiting f xs sk x y b → Arrives (startNode f x y) p → p .low < 128 → v ≡ nodeOf p
     → Explored f v xs′ t → t ≡ Finite r → b < r → Counted f xs′ x (y + 1) (Finite r)
-visit-higher {r = r} s a l e (finite {h = h} i t) q m = let z : h + 1 ≡ r = cc in rw (← z) (counted (count-higher s a l e i t (omega arith)))
+visit-higher {r = r} s a l e (finite {h = h} i t n) q m = let z : h + 1 ≡ r = cc in rw (← z) (counted (count-higher s a l e i t n (omega arith)))
 visit-higher s a l e (unbounded u) q m = let z : _≡_ {A = ℕ} 0 1 = cc in absurd (omega arith)
 
 -- They are not.
 pub visit-lower : {f xs sk xs′ : List ℕ} {x y b v r : ℕ} {p : Pair} {t : Extent} → Visiting f xs sk x y b → Arrives (startNode f x y) p → p .low < 128 → v ≡ nodeOf p
     → Explored f v xs′ t → t ≡ Finite r → r ≤ b → Counted f xs′ x (y + 1) (Finite b)
-visit-lower {r = r} s a l e (finite {h = h} i t) q m = let z : h + 1 ≡ r = cc in counted (count-lower s a l e i t (omega arith))
+visit-lower {r = r} s a l e (finite {h = h} i t n) q m = let z : h + 1 ≡ r = cc in counted (count-lower s a l e i t n (omega arith))
 visit-lower s a l e (unbounded u) q m = let z : _≡_ {A = ℕ} 0 1 = cc in absurd (omega arith)
 
 pub visit-endless : {f xs′ ys : List ℕ} {x y v : ℕ} {t : Extent} → Explored f v xs′ t → t ≡ Unbounded → Counted f ys x y Unbounded
-visit-endless (finite i t) q = let z : _≡_ {A = ℕ} 0 1 = cc in absurd (omega arith)
+visit-endless (finite i t n) q = let z : _≡_ {A = ℕ} 0 1 = cc in absurd (omega arith)
 visit-endless (unbounded u) q = endless u
 
 -- The next word of a row, and the next row.
@@ -144,6 +152,7 @@ row-end {f} {x = x} {b = b} c e l =
       numbered = c .numbered;
       idle = c .idle;
       some = c .some;
+      low = c .low;
       rows = λ u w lu. below-more (λ i. i < w → w < wordCount f → Below f b i w) x (λ i li. c .rows i w li) (λ lx lw. c .row w (omega arith) lx) u lu;
       row = λ w lw lx. absurd (omega arith);
     }

@@ -41,3 +41,14 @@ pub total-le : (f : ℕ → ℕ) (xs : List ℕ) → ((x : ℕ) → f x ≤ 1) �
 unfolding total
 total-le f [] h = zero-le
 total-le f (x ∷ xs) h = omega (arith, h x, total-le f xs h)
+
+-- w i + w (i + 1) + .., n terms.
+unfoldable pub sumFrom : (ℕ → ℕ) → ℕ → ℕ → ℕ
+sumFrom w i zero = 0
+sumFrom w i (suc n) = w i + sumFrom w (suc i) n
+
+-- A sum over the cells from index i on is at most the sum of bounds for each index.
+pub total-under : (f w : ℕ → ℕ) (i : ℕ) (xs : List ℕ) → ((j n : ℕ) → i + j ≡ n → f (getD xs j 0) ≤ w n) → total f xs ≤ sumFrom w i (length xs)
+unfolding total sumFrom
+total-under f w i [] h = zero-le
+total-under f w i (x ∷ xs) h = omega (arith, h 0 i (omega arith), total-under f w (suc i) xs (λ j n e. h (suc j) n (omega arith)))
