@@ -7,3 +7,4 @@ pub mod Advance
 pub mod Explore
 pub mod Bound
 pub mod Roots
+pub mod Contract

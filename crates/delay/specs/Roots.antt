@@ -144,7 +144,7 @@ pub counts-endless : {f xs ys : List ℕ} {x y u w : ℕ} {t : Extent} → Count
 counts-endless (counted c) q = let z : _≡_ {A = ℕ} 0 1 = cc in absurd (omega arith)
 counts-endless (endless u) q = endless u
 
-pub row-end : {f xs : List ℕ} {x y b n : ℕ} → Counting f xs x y b → n ≡ wordCount f → n ≤ y → Counted f xs (x + 1) (x + 2) (Finite b)
+pub row-end : {f xs : List ℕ} {x y b n : ℕ} → Counting f xs x y b → n ≡ wordCount f → n ≤ y → Counted f xs (x + 1) (x + 1 + 1) (Finite b)
 row-end {f} {x = x} {b = b} c e l =
     counted
     record {

@@ -11,6 +11,8 @@ ghost use Rattle.delay.specs.State.{State};
 ghost use Rattle.delay.specs.Rise.{Passed, Rising, Tall};
 ghost use Rattle.delay.specs.Advance.{Searching, Advanced};
 ghost use Rattle.delay.specs.Explore.{AtRoot, Running, Explored};
+ghost use Rattle.delay.specs.Roots.{Counting, Visiting, Counted};
+ghost use Rattle.delay.specs.Contract.{Given, ExtentOf};
 
 // How many symbols the longest walk reads, or that there is no longest.
 pub enum Extent {
@@ -161,4 +163,68 @@ fn explore(places: &[u8], marks: &mut [u16], stack: &mut [u64], root: usize) -> 
         return run(places, marks, stack, root);
     }
     Extent::Finite(height_at(marks, root) + 1)
+}
+
+// Counts the first pair of words `x` and `y` beside those counted before, whose longest walk reads `best` symbols.
+fn visit(places: &[u8], marks: &mut [u16], stack: &mut [u64], x: usize, y: usize, best: usize) -> Extent
+    requires { ⌜ Visiting (now places) (now marks) (now stack) x y best ⌝ }
+    ensures { λ r. ⌜ Counted (now (places .entry)) (now (marks .exit)) x (y + 1) r ⌝ }
+{
+    let first = places::first_pair(places, x, y);
+    if Layout::PLACES <= first.low {
+        return Extent::Finite(best);
+    }
+    match explore(places, marks, stack, pack(first)) {
+        Extent::Finite(count) => {
+            if best < count {
+                return Extent::Finite(count);
+            }
+            Extent::Finite(best)
+        }
+        Extent::Unbounded => Extent::Unbounded,
+    }
+}
+
+// Counts the first pairs of word `x` and the words after it.
+fn row(places: &[u8], marks: &mut [u16], stack: &mut [u64], x: usize, best: usize) -> Extent
+    requires { ⌜ Counting (now places) (now marks) x (x + 1) best × (x < 32) × (16384 ≤ length (now stack)) ⌝ }
+    ensures { λ r. ⌜ Counted (now (places .entry)) (now (marks .exit)) (x + 1) (x + 1 + 1) r ⌝ }
+{
+    let words = places::word_count(places);
+    let mut most = best;
+    let mut y = x + 1;
+    while y < words {
+        match visit(places, marks, stack, x, y, most) {
+            Extent::Finite(count) => {
+                most = count;
+            }
+            Extent::Unbounded => {
+                return Extent::Unbounded;
+            }
+        }
+        y += 1;
+    }
+    Extent::Finite(most)
+}
+
+// How many symbols the longest walk over the pairs of a code reads, the first pairs being its roots.
+pub fn longest(places: &[u8], marks: &mut [u16], stack: &mut [u64]) -> Extent
+    requires { ⌜ Given (now places) (now marks) (now stack) ⌝ }
+    ensures { λ r. ⌜ ExtentOf (now (places .entry)) r ⌝ }
+{
+    let words = places::word_count(places);
+    let mut most: usize = 0;
+    let mut x: usize = 0;
+    while x < words {
+        match row(places, marks, stack, x, most) {
+            Extent::Finite(count) => {
+                most = count;
+            }
+            Extent::Unbounded => {
+                return Extent::Unbounded;
+            }
+        }
+        x += 1;
+    }
+    Extent::Finite(most)
 }
