@@ -15,7 +15,7 @@ use Rattle.delay.specs.declared.Progress.the-variants.{Depth, Cycle}
 use Rattle.delay.specs.Pairs.{TwoPlaces, nodeOf, arc-of, leads}
 use Rattle.delay.specs.Marks.{Finished, stacked, stacked-le}
 use Rattle.delay.specs.State.{State, Stepped, top, top-on, top-inside, has-room, pass, push, pop, cycle}
-use Rattle.delay.specs.Rise.{Passed, Tall}
+use Rattle.delay.specs.Height.{Passed, HeightFound}
 
 -- The search is under way and its stack not empty; below, in numbers, what the code rests on.
 pub record Searching (f xs sk : List ℕ) (d : ℕ) : Type 0 where
@@ -56,7 +56,7 @@ module _ {f xs sk : List ℕ} {d n : ℕ} {p : Pair} (s : Searching f xs sk d) (
         slots = λ j l a. rw (← arc-of f p i j, e) (s .state .marks .passed (getD sk (d - 1) 0) j (s .low) (omega (arith, s .met)) (rw (← e, arc-of f p i j) a));
       }
 
-  pub advance-pop : {h : ℕ} → Tall f xs p h → Advanced f xs (set xs (getD sk (d - 1) 0) (h + 34)) sk (Depth (d - 1))
+  pub advance-pop : {h : ℕ} → HeightFound f xs p h → Advanced f xs (set xs (getD sk (d - 1) 0) (h + 34)) sk (Depth (d - 1))
   advance-pop {h} t = moved (pop (s .state) (s .some) h (rw e at (t .height)) (t .low))
 
   module _ {next : Pair} (l : getD xs (getD sk (d - 1) 0) 0 - 1 < n) (a : Arrives (arcFrom f (p .low) (p .high) (getD xs (getD sk (d - 1) 0) 0 - 1)) next) where

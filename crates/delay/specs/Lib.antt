@@ -1,10 +1,12 @@
 pub mod Marks
 pub mod Stack
 pub mod State
+pub mod Bound
 pub mod Pairs
-pub mod Rise
+pub mod Answer
+pub mod Height
 pub mod Advance
 pub mod Explore
-pub mod Bound
 pub mod Roots
-pub mod Contract
+pub mod Visit
+pub mod Extents

@@ -1,13 +1,12 @@
 -- The marks of a depth-first search over a graph: what a mark says of its node, and that one store keeps it true.
-use mathlib.Core.Path.{_≡_, refl, ap}
+use mathlib.Core.Path.{_≡_, ap}
 use mathlib.Core.List.{List}
-use Prim.Native.Nat.{ℕ, zero, suc, _+_, _-_, _≤_, _<_, min}
-use native.Mathlib.Decide.{decLt}
+use Prim.Native.Nat.{ℕ, _+_, _-_, _≤_, _<_, min}
 use native.Mathlib.Omega.{arith}
 use lib.ListN.{length, getD, set, length-set}
 use lib.Seq.{getD-set-other}
 use Rattle.graph.specs.Graph.{Graph}
-use Rattle.graph.specs.Cells.{on-set, total, total-set, total-le}
+use Rattle.graph.specs.Cells.{on-set, total, total-set}
 use Rattle.graph.specs.Paths.{Reached}
 use Rattle.graph.specs.Heights.{Height}
 
@@ -19,7 +18,7 @@ OnStack g x = (1 ≤ x) × (x ≤ g .slots + 1)
 abbrev pub Finished : Graph → ℕ → Type 0
 Finished g x = g .slots + 2 ≤ x
 
--- Counted over the marks: the finished nodes, the nodes on the stack, and what each mark can still rise by.
+-- What is added up over the marks: 1 for a finished node, 1 for a node on the stack, and how far a mark is below those of finished nodes.
 unfoldable pub finished : Graph → ℕ → ℕ
 finished g x = min 1 (x - (g .slots + 1))
 
@@ -62,6 +61,7 @@ module _ (g : Graph) where
   unfolding left
   left-falls h l = omega arith
 
+-- The marks are right for the graph.
 pub record Marks (g : Graph) (xs : List ℕ) : Type 0 where
   pub size : length xs ≡ g .nodes
   -- only nodes that a walk reaches are met
@@ -72,14 +72,6 @@ pub record Marks (g : Graph) (xs : List ℕ) : Type 0 where
   pub height : (v : ℕ) → Finished g (getD xs v 0) → Height g v (getD xs v 0 - (g .slots + 2))
   -- and the height is below the number of finished nodes
   pub low : (v : ℕ) → Finished g (getD xs v 0) → getD xs v 0 < g .slots + 2 + total (finished g) xs
-
--- A mark is less than what the finished nodes could bring it to.
-pub mark-low : {g : Graph} {xs : List ℕ} → Marks g xs → (v : ℕ) → getD xs v 0 < g .slots + 2 + g .nodes
-mark-low {g} {xs} m v = go (decLt (getD xs v 0) (g .slots + 2))
-  where
-    go : Dec (getD xs v 0 < g .slots + 2) → getD xs v 0 < g .slots + 2 + g .nodes
-    go (yes h) = omega arith
-    go (no n) = omega (arith, m .low v (omega arith), total-le (finished g) xs (finished-le g), m .size)
 
 -- A store to a node that is not finished, of a mark that is right for the node.
 pub marks-set : {g : Graph} {xs : List ℕ} → Marks g xs → (u y : ℕ) → u < length xs → Reached g u → getD xs u 0 ≤ g .slots + 1
@@ -103,3 +95,7 @@ marks-set {g} {xs} m u y l r o next high low =
   where
     stays : (w : ℕ) → Finished g (getD xs w 0) → Finished g (getD (set xs u y) w 0)
     stays w f = rw (getD-set-other xs u w y 0 (λ e. omega (arith, ap (λ (i : ℕ). getD xs i 0) e))) f
+
+-- A node is met for the first time.
+pub marks-first : {g : Graph} {xs : List ℕ} → Marks g xs → (u : ℕ) → u < length xs → getD xs u 0 ≡ 0 → Reached g u → Marks g (set xs u 1)
+marks-first m u l new r = marks-set m u 1 l r (omega arith) (λ i p q. absurd (omega arith)) (λ f. absurd (omega arith)) (λ f. absurd (omega arith))

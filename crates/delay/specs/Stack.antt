@@ -1,7 +1,7 @@
 -- The stack of a depth-first search: a path through the nodes whose marks say so, kept by passing a slot, pushing and popping.
 use mathlib.Core.Path.{_≡_, refl, ap, sym, _∙_}
 use mathlib.Core.List.{List}
-use Prim.Native.Nat.{ℕ, zero, suc, _+_, _-_, _≤_, _<_, zero-le}
+use Prim.Native.Nat.{ℕ, zero, suc, _+_, _-_, _≤_, _<_}
 use native.Mathlib.Decide.{decLt}
 use native.Mathlib.Omega.{arith}
 use lib.ListN.{length, getD, set}
@@ -25,21 +25,10 @@ pub record Stack (g : Graph) (xs sk : List ℕ) (d : ℕ) : Type 0 where
   pub found : (v : ℕ) → OnStack g (getD xs v 0) → At sk d v
   pub room : d ≤ total (stacked g) xs
 
--- The stack is empty when no mark says otherwise.
-pub stack-empty : {g : Graph} (xs sk : List ℕ) → ((v : ℕ) → OnStack g (getD xs v 0) → ⊥) → Stack g xs sk 0
-stack-empty xs sk none =
-    record {
-      link = λ i h. absurd (omega arith);
-      on = λ i h. absurd (omega arith);
-      apart = λ i j hi. absurd (omega arith);
-      found = λ v o. absurd (none v o);
-      room = zero-le;
-    }
-
 -- A node alone is put on an empty stack.
 pub stack-start : {g : Graph} (xs sk : List ℕ) (r : ℕ) → r < length xs → getD xs r 0 ≡ 0 → 0 < length sk → ((v : ℕ) → OnStack g (getD xs v 0) → ⊥)
     → Stack g (set xs r 1) (set sk 0 r) 1
-stack-start {g} xs sk r l white room none =
+stack-start {g} xs sk r l new room none =
     record {
       link = λ i h. absurd (omega arith);
       on = λ i h. let e : i ≡ 0 = omega arith in rw (e, getD-set-same sk 0 r 0 room, getD-set-same xs r 1 0 l) one-on;
@@ -48,7 +37,7 @@ stack-start {g} xs sk r l white room none =
           on-set xs r 1 l (λ v x. OnStack g x → At (set sk 0 r) 1 v)
           (λ _. record { place = 0; below = omega arith; is = getD-set-same sk 0 r 0 room })
           (λ v ne o. absurd (none v o));
-      room = omega (arith, total-set (stacked g) xs r 1 l, stacked-zero g white, stacked-one g one-on);
+      room = omega (arith, total-set (stacked g) xs r 1 l, stacked-zero g new, stacked-one g one-on);
     }
   where
     one-on : OnStack g 1
@@ -57,13 +46,13 @@ stack-start {g} xs sk r l white room none =
 -- A node on the stack gets another mark of a node on the stack.
 pub stack-pass : {g : Graph} {xs sk : List ℕ} {d : ℕ} → Stack g xs sk d → (u y : ℕ) → u < length xs → OnStack g (getD xs u 0) → OnStack g y
     → Stack g (set xs u y) sk d
-stack-pass {g} {xs} {sk} {d} s u y l old new =
+stack-pass {g} {xs} {sk} {d} s u y l old next =
     record {
       link = s .link;
-      on = λ i h. on-set xs u y l (λ v x. OnStack g (getD xs v 0) → OnStack g x) (λ _. new) (λ v ne p. p) (getD sk i 0) (s .on i h);
+      on = λ i h. on-set xs u y l (λ v x. OnStack g (getD xs v 0) → OnStack g x) (λ _. next) (λ v ne p. p) (getD sk i 0) (s .on i h);
       apart = s .apart;
       found = on-set xs u y l (λ v x. OnStack g x → At sk d v) (λ _. s .found u old) (λ v ne. s .found v);
-      room = omega (arith, s .room, total-set (stacked g) xs u y l, stacked-one g old, stacked-one g new);
+      room = omega (arith, s .room, total-set (stacked g) xs u y l, stacked-one g old, stacked-one g next);
     }
 
 -- What holds of an entry put on top and of the entries below holds of all.
@@ -73,7 +62,7 @@ on-push sk d w h P new old = on-set sk d w h (λ i x. i < d + 1 → P i x) (λ _
 -- A node not met before is put on top, after a node with an edge to it.
 pub stack-push : {g : Graph} {xs sk : List ℕ} {d : ℕ} → Stack g xs sk d → (w : ℕ) → w < length xs → getD xs w 0 ≡ 0 → 1 ≤ d → d < length sk
     → Edge g (getD sk (d - 1) 0) w → Stack g (set xs w 1) (set sk d w) (d + 1)
-stack-push {g} {xs} {sk} {d} s w l white some room edge =
+stack-push {g} {xs} {sk} {d} s w l new some room edge =
     record {
       link = λ i h. on-push sk d w room (λ j x. i + 1 ≡ j → Edge g (getD (set sk d w) i 0) x) (λ e. top i e) (λ j k e. below i j k e) (i + 1) h refl;
       on = on-push sk d w room (λ i v. OnStack g (getD (set xs w 1) v 0)) (rw (getD-set-same xs w 1 0 l) (omega arith)) (λ i h. kept (getD sk i 0) (s .on i h));
@@ -87,7 +76,7 @@ stack-push {g} {xs} {sk} {d} s w l white some room edge =
           on-set xs w 1 l (λ v x. OnStack g x → At (set sk d w) (d + 1) v)
           (λ _. record { place = d; below = omega arith; is = getD-set-same sk d w 0 room })
           (λ v ne o. at-old v (s .found v o));
-      room = omega (arith, s .room, total-set (stacked g) xs w 1 l, stacked-zero g white, stacked-one g one-on);
+      room = omega (arith, s .room, total-set (stacked g) xs w 1 l, stacked-zero g new, stacked-one g one-on);
     }
   where
     one-on : OnStack g 1
@@ -126,9 +115,9 @@ stack-pop {g} {xs} {sk} {d} s y l some done =
         go (no n) = let e : a .place ≡ d - 1 = omega (arith, a .below) in absurd (ne (sym (a .is) ∙ ap (λ (i : ℕ). getD sk i 0) e))
 
 -- An edge from the top to a node on the stack closes a cycle: every node on the stack has paths of every length.
-pub round : {g : Graph} {xs sk : List ℕ} {d w : ℕ} → Stack g xs sk d → Edge g (getD sk (d - 1) 0) w → At sk d w → (k i : ℕ) → i < d → PathFrom g k (getD sk i 0)
-round s e a zero i h = here
-round {g} {sk = sk} {d = d} {w = w} s e a (suc k) i h = go (round s e a k) (decLt (i + 1) d)
+pub cycle-paths : {g : Graph} {xs sk : List ℕ} {d w : ℕ} → Stack g xs sk d → Edge g (getD sk (d - 1) 0) w → At sk d w → (k i : ℕ) → i < d → PathFrom g k (getD sk i 0)
+cycle-paths s e a zero i h = here
+cycle-paths {g} {sk = sk} {d = d} {w = w} s e a (suc k) i h = go (cycle-paths s e a k) (decLt (i + 1) d)
   where
     go : ((j : ℕ) → j < d → PathFrom g k (getD sk j 0)) → Dec (i + 1 < d) → PathFrom g (suc k) (getD sk i 0)
     go p (yes l) = along (s .link i l) (p (i + 1) l)

@@ -1,18 +1,17 @@
--- The state of a depth-first search, and its transitions: each raises a mark, so the search ends.
-use mathlib.Core.Path.{_≡_, refl}
+-- The states of a depth-first search and its transitions. Each raises a mark, so the search ends.
+use mathlib.Core.Path.{_≡_}
 use mathlib.Core.Bool.{true}
 use mathlib.Core.List.{List}
 use Prim.Native.Nat.{ℕ, _+_, _-_, _≤_, _<_}
 use native.Mathlib.Decide.{decLt}
 use native.Mathlib.Omega.{arith}
 use lib.ListN.{length, getD, set, length-set}
-use lib.Seq.{getD-set-same}
 use Rattle.graph.specs.Graph.{Graph, Edge, Endless}
 use Rattle.graph.specs.Cells.{on-set, inside, total, total-set, total-le}
 use Rattle.graph.specs.Paths.{Reached, reached-root, reached-edge, endless}
 use Rattle.graph.specs.Heights.{Height}
-use Rattle.delay.specs.Marks.{OnStack, Finished, finished, stacked, left, left-falls, stacked-le, stacked-zero, stacked-one, Marks, marks-set}
-use Rattle.delay.specs.Stack.{Stack, At, stack-empty, stack-start, stack-pass, stack-push, stack-pop, round}
+use Rattle.delay.specs.Marks.{OnStack, Finished, finished, stacked, left, left-falls, stacked-le, stacked-zero, stacked-one, Marks, marks-set, marks-first}
+use Rattle.delay.specs.Stack.{Stack, stack-start, stack-pass, stack-push, stack-pop, cycle-paths}
 
 -- No search is under way: the marks are right, and none is that of a node on the stack.
 pub record Idle (g : Graph) (xs : List ℕ) : Type 0 where
@@ -39,12 +38,15 @@ top sk d = getD sk (d - 1) 0
 abbrev pub next : Graph → List ℕ → ℕ → ℕ
 next g xs v = g .arc v (getD xs v 0 - 1)
 
--- A store of a greater mark to a node that is not finished.
-falls : (g : Graph) (xs : List ℕ) (u y : ℕ) → u < length xs → getD xs u 0 ≤ g .slots + 1 → getD xs u 0 < y → total (left g) (set xs u y) < total (left g) xs
-falls g xs u y l o h = omega (arith, total-set (left g) xs u y l, left-falls g o h)
-
-still-met : (xs : List ℕ) (u y : ℕ) → u < length xs → 1 ≤ y → (v : ℕ) → 1 ≤ getD xs v 0 → 1 ≤ getD (set xs u y) v 0
-still-met xs u y l h = on-set xs u y l (λ v x. 1 ≤ getD xs v 0 → 1 ≤ x) (λ _. h) (λ v ne o. o)
+-- A store of a greater mark to a node that is not finished makes a transition, where marks and stack are right after it.
+stepped : {g : Graph} {xs sk : List ℕ} {d : ℕ} (u y : ℕ) → u < length xs → getD xs u 0 ≤ g .slots + 1 → getD xs u 0 < y → g .nodes ≤ length sk → Marks g (set xs u y)
+    → Stack g (set xs u y) sk d → Stepped g xs (set xs u y) sk d
+stepped {g} {xs} u y l o h wide marks stack =
+    record {
+      state = record { wide = wide; marks = marks; stack = stack };
+      met = on-set xs u y l (λ v x. 1 ≤ getD xs v 0 → 1 ≤ x) (λ _. omega arith) (λ v ne m. m);
+      less = omega (arith, total-set (left g) xs u y l, left-falls g o h);
+    }
 
 -- There is room on the stack while some node is not met.
 pub has-room : {g : Graph} {xs sk : List ℕ} {d : ℕ} → State g xs sk d → (w : ℕ) → w < g .nodes → getD xs w 0 ≡ 0 → d < length sk
@@ -70,72 +72,53 @@ module _ {g : Graph} {xs sk : List ℕ} {d : ℕ} (s : State g xs sk d) (some : 
   top-reached : Reached g (top sk d)
   top-reached = s .marks .reached (top sk d) (top-on .0)
 
+  passed : (next g xs (top sk d) < g .nodes → Finished g (getD xs (next g xs (top sk d)) 0)) → (i : ℕ) → i + 1 < getD xs (top sk d) 0 + 1 → g .arc (top sk d) i < g .nodes
+      → Finished g (getD xs (g .arc (top sk d) i) 0)
+  passed done i l n = go (decLt (i + 1) (getD xs (top sk d) 0))
+    where
+      go : Dec (i + 1 < getD xs (top sk d) 0) → Finished g (getD xs (g .arc (top sk d) i) 0)
+      go (yes b) = s .marks .passed (top sk d) i (top-on .1) b n
+      go (no b) = let e : i ≡ getD xs (top sk d) 0 - 1 = omega arith in rw e (done (rw e at n))
+
   -- The next slot of the top leads nowhere or to a finished node: it is passed.
   pub pass : getD xs (top sk d) 0 ≤ g .slots → (next g xs (top sk d) < g .nodes → Finished g (getD xs (next g xs (top sk d)) 0))
       → Stepped g xs (set xs (top sk d) (getD xs (top sk d) 0 + 1)) sk d
   pass h done =
-      record {
-        state = record {
-          wide = s .wide;
-          marks = marks-set (s .marks) (top sk d) (getD xs (top sk d) 0 + 1) top-inside top-reached (top-on .1) slots (λ f. absurd (omega arith)) (λ f. absurd (omega arith));
-          stack = stack-pass (s .stack) (top sk d) (getD xs (top sk d) 0 + 1) top-inside top-on (omega arith, omega arith);
-        };
-        met = still-met xs (top sk d) (getD xs (top sk d) 0 + 1) top-inside (omega arith);
-        less = falls g xs (top sk d) (getD xs (top sk d) 0 + 1) top-inside (top-on .1) (omega arith);
-      }
-    where
-      slots : (i : ℕ) → getD xs (top sk d) 0 + 1 ≤ g .slots + 1 → i + 1 < getD xs (top sk d) 0 + 1 → g .arc (top sk d) i < g .nodes → Finished g (getD xs (g .arc (top sk d) i) 0)
-      slots i l m n = go (decLt (i + 1) (getD xs (top sk d) 0))
-        where
-          go : Dec (i + 1 < getD xs (top sk d) 0) → Finished g (getD xs (g .arc (top sk d) i) 0)
-          go (yes b) = s .marks .passed (top sk d) i (omega arith) b n
-          go (no b) = let e : i ≡ getD xs (top sk d) 0 - 1 = omega arith in rw e (done (rw e at n))
+      let y : ℕ = getD xs (top sk d) 0 + 1 in
+      stepped (top sk d) y top-inside (top-on .1) (omega arith) (s .wide)
+      (marks-set (s .marks) (top sk d) y top-inside top-reached (top-on .1) (λ i l. passed done i) (λ f. absurd (omega arith)) (λ f. absurd (omega arith)))
+      (stack-pass (s .stack) (top sk d) y top-inside top-on (omega arith, omega arith))
 
   -- The next slot leads to a node not met before: that node is pushed.
   pub push : (w : ℕ) → Edge g (top sk d) w → getD xs w 0 ≡ 0 → Stepped g xs (set xs w 1) (set sk d w) (d + 1)
-  push w e white =
+  push w e new =
       let l : w < length xs = omega (arith, s .marks .size, e .node) in
-      record {
-        state = record {
-          wide = simp length-set (s .wide);
-          marks = marks-set (s .marks) w 1 l (reached-edge top-reached e) (omega arith) (λ i p q. absurd (omega arith)) (λ f. absurd (omega arith)) (λ f. absurd (omega arith));
-          stack = stack-push (s .stack) w l white some (has-room s w (e .node) white) e;
-        };
-        met = still-met xs w 1 l (omega arith);
-        less = falls g xs w 1 l (omega arith) (omega arith);
-      }
+      stepped w 1 l (omega arith) (omega arith) (simp length-set (s .wide)) (marks-first (s .marks) w l new (reached-edge top-reached e))
+      (stack-push (s .stack) w l new some (has-room s w (e .node) new) e)
 
   -- The height of the top is found: it is finished and popped.
   pub pop : (h : ℕ) → Height g (top sk d) h → h ≤ total (finished g) xs → Stepped g xs (set xs (top sk d) (h + (g .slots + 2))) sk (d - 1)
   pop h height low =
-      let e : h + (g .slots + 2) - (g .slots + 2) ≡ h = omega arith in
-      record {
-        state = record {
-          wide = s .wide;
-          marks = marks-set (s .marks) (top sk d) (h + (g .slots + 2)) top-inside top-reached (top-on .1) (λ i p. absurd (omega arith)) (λ f. rw e height) (λ f. omega arith);
-          stack = stack-pop (s .stack) (h + (g .slots + 2)) top-inside some (omega arith);
-        };
-        met = still-met xs (top sk d) (h + (g .slots + 2)) top-inside (omega arith);
-        less = falls g xs (top sk d) (h + (g .slots + 2)) top-inside (top-on .1) (omega (arith, top-on .1));
-      }
+      let y : ℕ = h + (g .slots + 2) in
+      let e : y - (g .slots + 2) ≡ h = omega arith in
+      stepped (top sk d) y top-inside (top-on .1) (omega (arith, top-on .1)) (s .wide)
+      (marks-set (s .marks) (top sk d) y top-inside top-reached (top-on .1) (λ i p. absurd (omega arith)) (λ f. rw e height) (λ f. omega arith))
+      (stack-pop (s .stack) y top-inside some (omega arith))
 
-  -- The next slot leads to a node on the stack: the walks have no bound.
+  -- The next slot leads to a node on the stack: there are walks of every length.
   pub cycle : (w : ℕ) → Edge g (top sk d) w → OnStack g (getD xs w 0) → Endless g
-  cycle w e o = endless top-reached (λ k. round (s .stack) e (s .stack .found w o) k (d - 1) (omega arith))
+  cycle w e o = endless top-reached (λ k. cycle-paths (s .stack) e (s .stack .found w o) k (d - 1) (omega arith))
 
 -- A search begins: the root is the only node on the stack.
-pub begun : {g : Graph} {xs : List ℕ} → Idle g xs → (sk : List ℕ) (r : ℕ) → g .nodes ≤ length sk → r < g .nodes → g .root r ≡ true → getD xs r 0 ≡ 0 → State g (set xs r 1) (set sk 0 r) 1
-begun {g} {xs} i sk r wide n root white =
+pub begun : {g : Graph} {xs : List ℕ} → Idle g xs → (sk : List ℕ) (r : ℕ) → g .nodes ≤ length sk → r < g .nodes → g .root r ≡ true → getD xs r 0 ≡ 0
+    → State g (set xs r 1) (set sk 0 r) 1
+begun {xs = xs} i sk r wide n root new =
     let l : r < length xs = omega (arith, i .marks .size) in
     record {
       wide = simp length-set wide;
-      marks = marks-set (i .marks) r 1 l (reached-root n root) (omega arith) (λ k p q. absurd (omega arith)) (λ f. absurd (omega arith)) (λ f. absurd (omega arith));
-      stack = stack-start xs sk r l white (omega arith) (i .none);
+      marks = marks-first (i .marks) r l new (reached-root n root);
+      stack = stack-start xs sk r l new (omega arith) (i .none);
     }
-
--- Where no search is needed, the stack is empty.
-pub resting : {g : Graph} {xs : List ℕ} → Idle g xs → (sk : List ℕ) → g .nodes ≤ length sk → State g xs sk 0
-resting {xs = xs} i sk wide = record { wide = wide; marks = i .marks; stack = stack-empty xs sk (i .none) }
 
 -- A search has ended: no node is on the stack, so those met are finished.
 pub ended : {g : Graph} {xs sk : List ℕ} → State g xs sk 0 → Idle g xs

@@ -1,20 +1,21 @@
-// The longest walk over the pairs of a code, by a depth-first search with heights.
+// The longest walk over the pairs of a code, from which its delay follows: a depth-first search with heights. Every pair has a mark in a
+// list of marks and, while the search goes through its successors, an entry on a stack; the caller lends both.
 
 use places::Layout;
 use places::Pair;
 ghost use mathlib.Core.Path.{_≡_};
-ghost use Prim.Native.Nat.{_+_, _*_, _-_, _≤_, _<_};
+ghost use Prim.Native.Nat.{_+_, _-_, _≤_, _<_};
 ghost use lib.ListN.{length, getD, set};
-ghost use Rattle.places.specs.Flat.{Laid, pairGraph, arcFrom, slotsOf};
+ghost use Rattle.places.specs.Flat.{Laid, slotsOf};
 ghost use Rattle.delay.specs.Pairs.{TwoPlaces, nodeOf};
-ghost use Rattle.delay.specs.State.{State};
-ghost use Rattle.delay.specs.Rise.{Passed, Rising, Tall};
+ghost use Rattle.delay.specs.Height.{Passed, HeightSoFar, HeightFound};
 ghost use Rattle.delay.specs.Advance.{Searching, Advanced};
 ghost use Rattle.delay.specs.Explore.{AtRoot, Running, Explored};
-ghost use Rattle.delay.specs.Roots.{Counting, Visiting, Counted};
-ghost use Rattle.delay.specs.Contract.{Given, ExtentOf};
+ghost use Rattle.delay.specs.Answer.{Answer};
+ghost use Rattle.delay.specs.Visit.{Counting, Visiting};
+ghost use Rattle.delay.specs.Extents.{Given, ExtentOf};
 
-// How many symbols the longest walk reads, or that there is no longest.
+// How many symbols the longest walk reads, or that no walk is the longest.
 pub enum Extent {
     Finite(usize),
     Unbounded,
@@ -26,11 +27,11 @@ enum Progress {
     Cycle,
 }
 
-pub struct Mark {}
+// The mark of a pair: 0 before the search meets it; while it is on the stack, 1 and its next slot; then `FINISHED` and its height.
+struct Mark {}
 
 impl Mark {
-    // The mark of a finished pair is this and its height.
-    pub const FINISHED: u16 = 34;
+    const FINISHED: u16 = 34;
 }
 
 // The number of a pair: its entry on the stack, and the index of its mark.
@@ -53,7 +54,7 @@ fn unpack(node: usize) -> Pair
     }
 }
 
-// The height in the mark of a finished pair.
+// The height of a finished pair, from its mark.
 fn height_at(marks: &[u16], node: usize) -> usize
     requires { ⌜ (node < length (now marks)) × (34 ≤ getD (now marks) node 0) ⌝ }
     ensures { λ r. ⌜ (r ≡ getD (now (marks .entry)) node 0 - 34) × (r < 65536) ⌝ }
@@ -61,39 +62,39 @@ fn height_at(marks: &[u16], node: usize) -> usize
     (marks[node] - Mark::FINISHED) as usize
 }
 
-// The greater of `best` and one more than the height of the pair where `slot` leads.
-fn rise(places: &[u8], marks: &[u16], pair: Pair, slot: usize, best: usize) -> usize
-    requires { ⌜ Laid (now places) × TwoPlaces pair × Passed (now places) (now marks) pair × (slot < slotsOf (now places) (pair .low) (pair .high)) × Rising (now places) (now marks) pair slot best ⌝ }
-    ensures { λ r. ⌜ Rising (now (places .entry)) (now (marks .entry)) pair (slot + 1) r ⌝ }
+// The height of a pair through its slots up to `slot`, from its height through those before.
+fn height_with(places: &[u8], marks: &[u16], pair: Pair, slot: usize, height: usize) -> usize
+    requires { ⌜ Laid (now places) × TwoPlaces pair × Passed (now places) (now marks) pair × (slot < slotsOf (now places) (pair .low) (pair .high)) × HeightSoFar (now places) (now marks) pair slot height ⌝ }
+    ensures { λ r. ⌜ HeightSoFar (now (places .entry)) (now (marks .entry)) pair (slot + 1) r ⌝ }
 {
     let next = places::successor(places, pair.low, pair.high, slot);
     if Layout::PLACES <= next.low {
-        return best;
+        return height;
     }
-    let tall = height_at(marks, pack(next));
-    if best <= tall {
-        return tall + 1;
+    let below = height_at(marks, pack(next));
+    if height <= below {
+        return below + 1;
     }
-    best
+    height
 }
 
 // The height of a pair whose successors are all finished.
-fn height(places: &[u8], marks: &[u16], pair: Pair) -> usize
+fn height_of(places: &[u8], marks: &[u16], pair: Pair) -> usize
     requires { ⌜ Laid (now places) × TwoPlaces pair × Passed (now places) (now marks) pair ⌝ }
-    ensures { λ r. ⌜ Tall (now (places .entry)) (now (marks .entry)) pair r ⌝ }
+    ensures { λ r. ⌜ HeightFound (now (places .entry)) (now (marks .entry)) pair r ⌝ }
 {
     let count = places::slots(places, pair.low, pair.high);
-    let mut best: usize = 0;
+    let mut height: usize = 0;
     let mut slot: usize = 0;
     while slot < count {
-        best = rise(places, marks, pair, slot, best);
+        height = height_with(places, marks, pair, slot, height);
         slot += 1;
     }
-    best
+    height
 }
 
-// One transition: the next slot of the pair on top is passed, or leads to a pair that is pushed; or, with no slot left, the pair is
-// finished and popped.
+// One transition. The next slot of the pair on top is passed, or leads to a pair that is pushed; with no slot left the pair is finished
+// and popped.
 fn advance(places: &[u8], marks: &mut [u16], stack: &mut [u64], depth: usize) -> Progress
     requires { ⌜ Searching (now places) (now marks) (now stack) depth ⌝ }
     ensures { λ r. ⌜ Advanced (now (places .entry)) (now (marks .entry)) (now (marks .exit)) (now (stack .exit)) r ⌝ }
@@ -103,8 +104,8 @@ fn advance(places: &[u8], marks: &mut [u16], stack: &mut [u64], depth: usize) ->
     let mark = marks[node];
     let slot = mark as usize - 1;
     if places::slots(places, pair.low, pair.high) <= slot {
-        let tall = height(places, marks, pair);
-        marks[node] = tall as u16 + Mark::FINISHED;
+        let height = height_of(places, marks, pair);
+        marks[node] = height as u16 + Mark::FINISHED;
         return Progress::Depth(depth - 1);
     }
     let next = places::successor(places, pair.low, pair.high, slot);
@@ -125,19 +126,19 @@ fn advance(places: &[u8], marks: &mut [u16], stack: &mut [u64], depth: usize) ->
     Progress::Depth(depth)
 }
 
-// Puts a pair on the empty stack.
-fn start(marks: &mut [u16], stack: &mut [u64], node: usize)
-    requires { ⌜ (node < length (now marks)) × (0 < length (now stack)) ⌝ }
-    ensures { λ _. ⌜ (now (marks .exit) ≡ set (now (marks .entry)) node 1) × (now (stack .exit) ≡ set (now (stack .entry)) 0 node) ⌝ }
+// Puts a root on the empty stack.
+fn start(marks: &mut [u16], stack: &mut [u64], root: usize)
+    requires { ⌜ (root < length (now marks)) × (0 < length (now stack)) ⌝ }
+    ensures { λ _. ⌜ (now (marks .exit) ≡ set (now (marks .entry)) root 1) × (now (stack .exit) ≡ set (now (stack .entry)) 0 root) ⌝ }
 {
-    marks[node] = 1;
-    stack[0] = node as u64;
+    marks[root] = 1;
+    stack[0] = root as u64;
 }
 
-// Searches until the stack, on which the root alone is, is empty.
+// Searches from a root, which alone is on the stack: how many symbols the longest walk from it reads.
 fn run(places: &[u8], marks: &mut [u16], stack: &mut [u64], root: usize) -> Extent
     requires { ⌜ Running (now places) (now marks) (now stack) root 1 ⌝ }
-    ensures { λ r. ⌜ Explored (now (places .entry)) root (now (marks .exit)) r ⌝ }
+    ensures { λ r. ⌜ Answer (now (places .entry)) (Explored (now (places .entry)) root (now (marks .exit))) r ⌝ }
 {
     let mut depth: usize = 1;
     while 0 < depth {
@@ -153,45 +154,45 @@ fn run(places: &[u8], marks: &mut [u16], stack: &mut [u64], root: usize) -> Exte
     Extent::Finite(height_at(marks, root) + 1)
 }
 
-// How many symbols the longest walk from a root reads.
-fn explore(places: &[u8], marks: &mut [u16], stack: &mut [u64], root: usize) -> Extent
-    requires { ⌜ AtRoot (now places) (now marks) (now stack) root ⌝ }
-    ensures { λ r. ⌜ Explored (now (places .entry)) root (now (marks .exit)) r ⌝ }
+// How many symbols the longest walk from a root reads; a root that an earlier search met is finished.
+fn explore(places: &[u8], marks: &mut [u16], stack: &mut [u64], node: usize) -> Extent
+    requires { ⌜ AtRoot (now places) (now marks) (now stack) node ⌝ }
+    ensures { λ r. ⌜ Answer (now (places .entry)) (Explored (now (places .entry)) node (now (marks .exit))) r ⌝ }
 {
-    if marks[root] == 0 {
-        start(marks, stack, root);
-        return run(places, marks, stack, root);
+    if marks[node] == 0 {
+        start(marks, stack, node);
+        return run(places, marks, stack, node);
     }
-    Extent::Finite(height_at(marks, root) + 1)
+    Extent::Finite(height_at(marks, node) + 1)
 }
 
-// Counts the first pair of words `x` and `y` beside those counted before, whose longest walk reads `best` symbols.
-fn visit(places: &[u8], marks: &mut [u16], stack: &mut [u64], x: usize, y: usize, best: usize) -> Extent
-    requires { ⌜ Visiting (now places) (now marks) (now stack) x y best ⌝ }
-    ensures { λ r. ⌜ Counted (now (places .entry)) (now (marks .exit)) x (y + 1) r ⌝ }
+// Counts the first pair of words `x` and `y`, after those whose longest walk reads `most` symbols.
+fn visit(places: &[u8], marks: &mut [u16], stack: &mut [u64], x: usize, y: usize, most: usize) -> Extent
+    requires { ⌜ Visiting (now places) (now marks) (now stack) x y most ⌝ }
+    ensures { λ r. ⌜ Answer (now (places .entry)) (Counting (now (places .entry)) (now (marks .exit)) x (y + 1)) r ⌝ }
 {
     let first = places::first_pair(places, x, y);
     if Layout::PLACES <= first.low {
-        return Extent::Finite(best);
+        return Extent::Finite(most);
     }
     match explore(places, marks, stack, pack(first)) {
         Extent::Finite(count) => {
-            if best < count {
+            if most < count {
                 return Extent::Finite(count);
             }
-            Extent::Finite(best)
+            Extent::Finite(most)
         }
         Extent::Unbounded => Extent::Unbounded,
     }
 }
 
-// Counts the first pairs of word `x` and the words after it.
-fn row(places: &[u8], marks: &mut [u16], stack: &mut [u64], x: usize, best: usize) -> Extent
-    requires { ⌜ Counting (now places) (now marks) x (x + 1) best × (x < 32) × (16384 ≤ length (now stack)) ⌝ }
-    ensures { λ r. ⌜ Counted (now (places .entry)) (now (marks .exit)) (x + 1) (x + 1 + 1) r ⌝ }
+// Counts the first pairs of word `x` and each word after it.
+fn row(places: &[u8], marks: &mut [u16], stack: &mut [u64], x: usize, before: usize) -> Extent
+    requires { ⌜ Counting (now places) (now marks) x (x + 1) before × (x < 32) × (16384 ≤ length (now stack)) ⌝ }
+    ensures { λ r. ⌜ Answer (now (places .entry)) (Counting (now (places .entry)) (now (marks .exit)) (x + 1) (x + 1 + 1)) r ⌝ }
 {
     let words = places::word_count(places);
-    let mut most = best;
+    let mut most = before;
     let mut y = x + 1;
     while y < words {
         match visit(places, marks, stack, x, y, most) {

@@ -1,4 +1,5 @@
--- The height of a node is the length of the longest path from it: found from its successors' heights, and from the roots' heights the longest walk.
+-- The height of a node is the length of the longest path from it. It follows from the heights of the successors, and the longest walk from
+-- the heights of the roots.
 use mathlib.Core.Path.{_≡_, refl}
 use mathlib.Core.Bool.{true}
 use Prim.Native.Nat.{ℕ, zero, suc, _+_, _≤_, _<_, zero-le}
@@ -13,49 +14,51 @@ pub record Height (g : Graph) (v h : ℕ) : Type 0 where
   pub some : PathFrom g h v
   pub none : PathFrom g (suc h) v → ⊥
 
--- Some path from v has b edges, and through v's slots below j none has more.
-pub record Tallest (g : Graph) (v j b : ℕ) : Type 0 where
-  pub some : PathFrom g b v
-  pub none : (i : ℕ) → i < j → g .arc v i < g .nodes → PathFrom g b (g .arc v i) → ⊥
+-- No path of h edges goes on from where slot i of v leads.
+abbrev NoneThrough : Graph → ℕ → ℕ → ℕ → Type 0
+NoneThrough g v h i = g .arc v i < g .nodes → PathFrom g h (g .arc v i) → ⊥
+
+-- The height of v through its slots below j: some path from v has h edges, and none through these slots has more.
+pub record HeightUpTo (g : Graph) (v j h : ℕ) : Type 0 where
+  pub some : PathFrom g h v
+  pub none : (i : ℕ) → i < j → g .arc v i < g .nodes → PathFrom g h (g .arc v i) → ⊥
 
 module _ {g : Graph} where
-  pub tallest-start : (v : ℕ) → Tallest g v 0 0
-  tallest-start v = record { some = here; none = λ i l. absurd (omega arith) }
+  pub up-to-none : (v : ℕ) → HeightUpTo g v 0 0
+  up-to-none v = record { some = here; none = λ i l. absurd (omega arith) }
 
   -- A slot that leads nowhere adds nothing.
-  pub tallest-nowhere : {v j b : ℕ} → Tallest g v j b → g .nodes ≤ g .arc v j → Tallest g v (j + 1) b
-  tallest-nowhere {v} {j} {b} t l = record { some = t .some; none = below-more (λ i. g .arc v i < g .nodes → PathFrom g b (g .arc v i) → ⊥) j (t .none) (λ n. absurd (omega arith)) }
+  pub up-to-nowhere : {v j h : ℕ} → HeightUpTo g v j h → g .nodes ≤ g .arc v j → HeightUpTo g v (j + 1) h
+  up-to-nowhere {v} {j} {h} t l = record { some = t .some; none = below-more (NoneThrough g v h) j (t .none) (λ n. absurd (omega arith)) }
 
-  -- A successor of a lower height adds nothing.
-  pub tallest-lower : {v j b : ℕ} (h : ℕ) → Tallest g v j b → Height g (g .arc v j) h → h < b → Tallest g v (j + 1) b
-  tallest-lower {v} {j} {b} h t e l =
-      record { some = t .some; none = below-more (λ i. g .arc v i < g .nodes → PathFrom g b (g .arc v i) → ⊥) j (t .none) (λ _ p. e .none (shorter (suc h) l p)) }
+  -- Nor does a successor of a height below h.
+  pub up-to-lower : {v j h : ℕ} (k : ℕ) → HeightUpTo g v j h → Height g (g .arc v j) k → k < h → HeightUpTo g v (j + 1) h
+  up-to-lower {v} {j} {h} k t e l = record { some = t .some; none = below-more (NoneThrough g v h) j (t .none) (λ _ p. e .none (shorter (suc k) l p)) }
 
-  -- Another successor makes v one higher than itself.
-  pub tallest-higher : {v j b : ℕ} (h : ℕ) → Tallest g v j b → j < g .slots → g .arc v j < g .nodes → Height g (g .arc v j) h → b ≤ h → Tallest g v (j + 1) (suc h)
-  tallest-higher {v} {j} {b} h t s n e l =
+  -- Any other successor leaves v one higher than itself.
+  pub up-to-higher : {v j h : ℕ} (k : ℕ) → HeightUpTo g v j h → j < g .slots → g .arc v j < g .nodes → Height g (g .arc v j) k → h ≤ k → HeightUpTo g v (j + 1) (suc k)
+  up-to-higher {v} {j} {h} k t s n e l =
       record {
         some = along (record { slot = j; within = s; leads = refl; node = n }) (e .some);
-        none =
-            below-more (λ i. g .arc v i < g .nodes → PathFrom g (suc h) (g .arc v i) → ⊥) j (λ i q m p. t .none i q m (shorter b (omega arith) p)) (λ _ p. e .none p);
+        none = below-more (NoneThrough g v (suc k)) j (λ i q m p. t .none i q m (shorter h (omega arith) p)) (λ _. e .none);
       }
 
-  blocked : {v w j b : ℕ} → Tallest g v j b → ((i : ℕ) → j ≤ i → g .nodes ≤ g .arc v i) → Edge g v w → PathFrom g b w → ⊥
-  blocked {v} {w} {j} {b} t far s p = go (decLt (s .slot) j)
+  no-edge : {v w j h : ℕ} → HeightUpTo g v j h → ((i : ℕ) → j ≤ i → g .nodes ≤ g .arc v i) → Edge g v w → PathFrom g h w → ⊥
+  no-edge {j = j} t far s p = go (decLt (s .slot) j)
     where
       go : Dec (s .slot < j) → ⊥
       go (yes l) = t .none (s .slot) l (rw (s .leads) (s .node)) (rw (s .leads) p)
       go (no n) = omega (arith, far (s .slot) (omega arith), s .leads, s .node)
 
-  past : {v j b k : ℕ} → Tallest g v j b → ((i : ℕ) → j ≤ i → g .nodes ≤ g .arc v i) → k ≡ suc b → PathFrom g k v → ⊥
-  past t far e here = absurd (omega arith)
-  past {b = b} t far e (along {k = k} s p) = let q : k ≡ b = omega arith in blocked t far s (rw q at p)
+  no-path : {v j h k : ℕ} → HeightUpTo g v j h → ((i : ℕ) → j ≤ i → g .nodes ≤ g .arc v i) → k ≡ suc h → PathFrom g k v → ⊥
+  no-path t far e here = absurd (omega arith)
+  no-path {h = h} t far e (along {k = k} s p) = let q : k ≡ h = omega arith in no-edge t far s (rw q at p)
 
-  -- Once the slots from j on lead nowhere, the height is found.
-  pub height : {v j b : ℕ} → Tallest g v j b → ((i : ℕ) → j ≤ i → g .nodes ≤ g .arc v i) → Height g v b
-  height t far = record { some = t .some; none = past t far refl }
+  -- Where the slots from j on lead nowhere, the height through those below is the height.
+  pub up-to-all : {v j h : ℕ} → HeightUpTo g v j h → ((i : ℕ) → j ≤ i → g .nodes ≤ g .arc v i) → Height g v h
+  up-to-all t far = record { some = t .some; none = no-path t far refl }
 
-  -- A count that some walk attains and that no path from a root exceeds is the longest walk's.
+  -- The longest walk reads r symbols where some walk does, if r is not 0, and every path from a root has fewer than r edges.
   pub longest : (r : ℕ) → ((k : ℕ) → r ≡ suc k → WalkOf g r) → ((v : ℕ) → v < g .nodes → g .root v ≡ true → PathFrom g r v → ⊥) → Longest g r
   longest r some none = record { some = some; most = most }
     where

@@ -4,7 +4,8 @@ use mathlib.Core.Path.{_≡_}
 use Prim.Native.Nat.{_-_, _≤_, _<_}
 use native.Mathlib.Omega.{arith}
 use lib.ListN.{length}
-use Rattle.delay.specs.Roots.{Counting, visiting, counts-on, counts-endless, row-end}
+use Rattle.delay.specs.Answer.{was-unbounded}
+use Rattle.delay.specs.Visit.{Counting, visiting, counted, row-end}
 use Rattle.delay.proofs.row.Statement.{statement}
 use Rattle.delay.proofs.row.Tie as tie
 
@@ -24,13 +25,13 @@ same-length-2 : tie.Need-same-length-2 Inv-loop μ-loop
 same-length-2 c = cc
 
 returns : tie.Need-returns Inv-loop μ-loop
-returns c = search counts-endless
+returns c = search was-unbounded
 
 loop-less : tie.Need-loop-less Inv-loop μ-loop
 loop-less c = omega arith
 
 loop-again : tie.Need-loop-again Inv-loop μ-loop
-loop-again c = (search counts-on, search needs, search needs, (cc), (cc))
+loop-again c = (search counted, search needs, search needs, (cc), (cc))
 
 same-length-3 : tie.Need-same-length-3 Inv-loop μ-loop
 same-length-3 c = cc

@@ -6,7 +6,7 @@ use Rattle.graph.specs.Cells.{total}
 use Rattle.places.specs.Flat.{pairGraph}
 use Rattle.delay.specs.Marks.{left}
 use Rattle.delay.specs.Advance.{searching}
-use Rattle.delay.specs.Explore.{Running, runs-on, runs-less, runs-round, run-mark, run-end}
+use Rattle.delay.specs.Explore.{Running, run-on, run-less, run-cycle, run-mark, run-end}
 use Rattle.delay.proofs.run.Statement.{statement}
 use Rattle.delay.proofs.run.Tie as tie
 
@@ -20,10 +20,10 @@ advance-requires : tie.Need-advance-requires Inv-loop μ-loop
 advance-requires c κs = search searching
 
 loop-less : tie.Need-loop-less Inv-loop μ-loop
-loop-less c = search runs-less
+loop-less c = search run-less
 
 loop-again : tie.Need-loop-again Inv-loop μ-loop
-loop-again c = (search runs-on, (cc), (cc))
+loop-again c = (search run-on, (cc), (cc))
 
 same-length : tie.Need-same-length Inv-loop μ-loop
 same-length c = cc
@@ -32,7 +32,7 @@ same-length-2 : tie.Need-same-length-2 Inv-loop μ-loop
 same-length-2 c = cc
 
 returns : tie.Need-returns Inv-loop μ-loop
-returns c = search runs-round
+returns c = search run-cycle
 
 height-at-requires : tie.Need-height-at-requires Inv-loop μ-loop
 height-at-requires c κs = (search needs, search run-mark)

@@ -1,6 +1,7 @@
 -- `delay::visit` meets its contract: the words have no first pair, or its longest walk is longer than those before, or it is not; or the walks have no bound.
 use borrow.Author.Needs.{needs}
-use Rattle.delay.specs.Roots.{visit-nowhere, visit-root, visit-higher, visit-lower, visit-endless}
+use Rattle.delay.specs.Answer.{was-unbounded}
+use Rattle.delay.specs.Visit.{visit-nowhere, visit-root, visit-higher, visit-lower}
 use Rattle.delay.proofs.visit.Statement.{statement}
 use Rattle.delay.proofs.visit.Tie as tie
 
@@ -17,7 +18,7 @@ returns-3 : tie.Need-returns-3
 returns-3 c = search visit-lower
 
 returns-4 : tie.Need-returns-4
-returns-4 c = search visit-endless
+returns-4 c = search was-unbounded
 
 pub visit-spec : {M : Type 1} → statement M
 visit-spec = tie.close (tie.spec (λ c κs. search needs) returns (λ c κs. search needs) explore-requires (λ c. search needs) (λ c. search needs) (λ c. search needs) returns-2 (λ c. search needs) (λ c. search needs) (λ c. search needs) returns-3 (λ c. search needs) (λ c. search needs) returns-4)
