@@ -1,7 +1,7 @@
 -- What `longest` asks and what its answer means; how its loop begins and ends.
 use mathlib.Core.Path.{_≡_, refl}
 use mathlib.Core.List.{List}
-use Prim.Native.Nat.{ℕ, zero, suc, _+_, _≤_}
+use Prim.Native.Nat.{ℕ, zero, suc, _≤_}
 use native.Mathlib.Omega.{arith}
 use lib.ListN.{length, getD, replicate, length-replicate}
 use Rattle.places.specs.Flat.{Laid, wordCount, pairGraph}

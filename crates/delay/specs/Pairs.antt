@@ -1,7 +1,7 @@
 -- The graph of pairs by a pair's two places.
-use mathlib.Core.Path.{_≡_, refl}
+use mathlib.Core.Path.{_≡_}
 use mathlib.Core.List.{List}
-use Prim.Native.Nat.{ℕ, _+_, _*_, _/_, _%_, _≤_, _<_}
+use Prim.Native.Nat.{ℕ, _+_, _*_, _/_, _%_, _<_}
 use native.Mathlib.Omega.{arith}
 use Rattle.places.specs.declared.Pair.{Pair}
 use Rattle.places.specs.Flat.{arcFrom, pairGraph}

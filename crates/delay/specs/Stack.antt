@@ -70,7 +70,7 @@ stack-push {g} {xs} {sk} {d} s w l new some room edge =
           λ i j hi. on-push sk d w room (λ k x. getD (set sk d w) i 0 ≡ x → i ≡ k)
           (on-push sk d w room (λ k x. x ≡ w → k ≡ d) (λ _. refl) (λ k hk e. absurd (other k hk e)) i hi)
           (λ k hk.
-            on-push sk d w room (λ n x. x ≡ getD sk k 0 → n ≡ k) (λ e. absurd (other k hk (sym e))) (λ n hn e. s .apart n k hn hk e) i hi)
+          on-push sk d w room (λ n x. x ≡ getD sk k 0 → n ≡ k) (λ e. absurd (other k hk (sym e))) (λ n hn e. s .apart n k hn hk e) i hi)
           j;
       found =
           on-set xs w 1 l (λ v x. OnStack g x → At (set sk d w) (d + 1) v)
@@ -81,15 +81,20 @@ stack-push {g} {xs} {sk} {d} s w l new some room edge =
   where
     one-on : OnStack g 1
     one-on = omega arith
+
     -- no entry below is w
     other : (i : ℕ) → i < d → getD sk i 0 ≡ w → ⊥
     other i h e = omega (arith, s .on i h .0, ap (λ (v : ℕ). getD xs v 0) e)
+
     kept : (v : ℕ) → OnStack g (getD xs v 0) → OnStack g (getD (set xs w 1) v 0)
     kept v o = rw (getD-set-other xs w v 1 0 (λ e. omega (arith, o .0, ap (λ (i : ℕ). getD xs i 0) e))) o
+
     top : (i : ℕ) → i + 1 ≡ d → Edge g (getD (set sk d w) i 0) w
     top i e = let q : i ≡ d - 1 = omega arith in rw (getD-set-other sk d i w 0 (omega arith), q) edge
+
     below : (i j : ℕ) → j < d → i + 1 ≡ j → Edge g (getD (set sk d w) i 0) (getD sk j 0)
     below i j h e = rw (getD-set-other sk d i w 0 (omega arith), ← e) (s .link i (omega arith))
+
     at-old : (v : ℕ) → At sk d v → At (set sk d w) (d + 1) v
     at-old v a = record { place = a .place; below = omega (arith, a .below); is = getD-set-other sk d (a .place) w 0 (omega (arith, a .below)) ∙ a .is }
 
@@ -107,6 +112,7 @@ stack-pop {g} {xs} {sk} {d} s y l some done =
   where
     u : ℕ
     u = getD sk (d - 1) 0
+
     at-rest : (v : ℕ) → (v ≡ u → ⊥) → At sk d v → At sk (d - 1) v
     at-rest v ne a = record { place = a .place; below = go (decLt (a .place) (d - 1)); is = a .is }
       where

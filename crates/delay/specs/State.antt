@@ -52,15 +52,17 @@ stepped {g} {xs} u y l o h wide marks stack =
 pub has-room : {g : Graph} {xs sk : List ℕ} {d : ℕ} → State g xs sk d → (w : ℕ) → w < g .nodes → getD xs w 0 ≡ 0 → d < length sk
 has-room {g} {xs = xs} s w n e =
     let l : w < length xs = omega (arith, s .marks .size) in
-    omega (arith,
-    s .wide,
-    s .marks .size,
-    s .stack .room,
-    total-set (stacked g) xs w 1 l,
-    stacked-zero g e,
-    stacked-one g {x = 1} (omega arith),
-    total-le (stacked g) (set xs w 1) (stacked-le g),
-    length-set xs w 1)
+    omega (
+      arith,
+      s .wide,
+      s .marks .size,
+      s .stack .room,
+      total-set (stacked g) xs w 1 l,
+      stacked-zero g e,
+      stacked-one g {x = 1} (omega arith),
+      total-le (stacked g) (set xs w 1) (stacked-le g),
+      length-set xs w 1,
+    )
 
 module _ {g : Graph} {xs sk : List ℕ} {d : ℕ} (s : State g xs sk d) (some : 1 ≤ d) where
   pub top-on : OnStack g (getD xs (top sk d) 0)

@@ -167,7 +167,14 @@ fn explore(places: &[u8], marks: &mut [u16], stack: &mut [u64], node: usize) -> 
 }
 
 // Counts the first pair of words `x` and `y`, after those whose longest walk reads `most` symbols.
-fn visit(places: &[u8], marks: &mut [u16], stack: &mut [u64], x: usize, y: usize, most: usize) -> Extent
+fn visit(
+    places: &[u8],
+    marks: &mut [u16],
+    stack: &mut [u64],
+    x: usize,
+    y: usize,
+    most: usize,
+) -> Extent
     requires { ⌜ Visiting (now places) (now marks) (now stack) x y most ⌝ }
     ensures { λ r. ⌜ Answer (now (places .entry)) (Counting (now (places .entry)) (now (marks .exit)) x (y + 1)) r ⌝ }
 {
