@@ -54,9 +54,12 @@ module _ {f xs sk : List ℕ} {d n : ℕ} {p : Pair} (s : Searching f xs sk d) (
   pub all-passed : n ≤ getD xs (top sk d) 0 - 1 → Passed f xs p
   all-passed h =
       record {
+        laid = s .laid;
+        pair = i;
         marks = s .state .marks;
         size = s .size;
-        slots = λ j l a. rw (← arc-of f p i j, e) (s .state .marks .passed (top sk d) j (s .low) (omega (arith, s .met)) (rw (← e, arc-of f p i j) a));
+        slots = λ j l a.
+            rw (← arc-of f p i j, e) (s .state .marks .passed (top sk d) j (s .low) (omega (arith, s .met)) (rw (← e, arc-of f p i j) a));
       }
 
   pub advance-pop : {h : ℕ} → HeightFound f xs p h → Advanced f xs (set xs (top sk d) (h + 34)) sk (Depth (d - 1))
@@ -76,7 +79,13 @@ module _ {f xs sk : List ℕ} {d n : ℕ} {p : Pair} (s : Searching f xs sk d) (
 
     module _ {m : ℕ} (h : next .low < 128) (w : m ≡ nodeOf next) where
       edge : Edge (pairGraph f) (top sk d) m
-      edge = record { slot = getD xs (top sk d) 0 - 1; within = omega (arith, low-mark, s .met); leads = cc (w, target); node = omega (arith, a .high) }
+      edge =
+          record {
+            slot = getD xs (top sk d) 0 - 1;
+            within = omega (arith, low-mark, s .met);
+            leads = cc (w, target);
+            node = omega (arith, a .high);
+          }
 
       -- It leads to a finished pair.
       pub advance-pass : 34 ≤ getD xs m 0 → Advanced f xs (set xs (top sk d) (getD xs (top sk d) 0 + 1)) sk (Depth d)

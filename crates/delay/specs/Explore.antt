@@ -59,12 +59,14 @@ was-moved : {f xs xs′ sk′ : List ℕ} {e : ℕ} {t : Progress} → Advanced 
 was-moved {e = e} (moved {d = d} s) q = let z : d ≡ e = cc in rw z at s
 was-moved (closed x) q = let z : _≡_ {A = ℕ} 0 1 = cc in absurd (omega arith)
 
-pub run-on : {f xs xs′ sk sk′ : List ℕ} {v d e : ℕ} {t : Progress} → Running f xs sk v d → Advanced f xs xs′ sk′ t → t ≡ Depth e → Running f xs′ sk′ v e
+pub run-on : {f xs xs′ sk sk′ : List ℕ} {v d e : ℕ} {t : Progress}
+    → Running f xs sk v d → Advanced f xs xs′ sk′ t → t ≡ Depth e → Running f xs′ sk′ v e
 run-on {v = v} r a q =
     let s = was-moved a q in
     record { laid = r .laid; state = s .state; met = s .met v (r .met); node = r .node; size = s .state .marks .size }
 
-pub run-less : {f xs xs′ sk′ : List ℕ} {e : ℕ} {t : Progress} → Advanced f xs xs′ sk′ t → t ≡ Depth e → total (left (pairGraph f)) xs′ < total (left (pairGraph f)) xs
+pub run-less : {f xs xs′ sk′ : List ℕ} {e : ℕ} {t : Progress} → Advanced f xs xs′ sk′ t → t ≡ Depth e
+    → total (left (pairGraph f)) xs′ < total (left (pairGraph f)) xs
 run-less a q = was-moved a q .less
 
 pub run-cycle : {f xs xs′ sk′ : List ℕ} {t : Progress} {P : ℕ → Type 0} → Advanced f xs xs′ sk′ t → t ≡ Cycle → Answer f P Unbounded

@@ -52,7 +52,8 @@ clear-idle g xs e =
 
 -- No first pair is counted yet.
 pub counting-none : {f xs sk : List ℕ} → Given f xs sk → Counting f xs 0 1 0
-counting-none {f} {xs} g = record { laid = g .laid; numbered = g .numbered; idle = clear-idle (pairGraph f) xs (g .clear); most = most-none; low = omega arith }
+counting-none {f} {xs} g =
+    record { laid = g .laid; numbered = g .numbered; idle = clear-idle (pairGraph f) xs (g .clear); most = most-none; low = omega arith }
 
 -- All are.
 pub counting-all : {f xs : List ℕ} {x y b n : ℕ} → Counting f xs x y b → n ≡ wordCount f → n ≤ x → ExtentOf f (Finite b)

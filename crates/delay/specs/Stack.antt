@@ -56,7 +56,8 @@ stack-pass {g} {xs} {sk} {d} s u y l old next =
     }
 
 -- What holds of an entry put on top and of the entries below holds of all.
-on-push : (sk : List ℕ) (d w : ℕ) → d < length sk → (P : ℕ → ℕ → Type 0) → P d w → ((i : ℕ) → i < d → P i (getD sk i 0)) → (i : ℕ) → i < d + 1 → P i (getD (set sk d w) i 0)
+on-push : (sk : List ℕ) (d w : ℕ) → d < length sk → (P : ℕ → ℕ → Type 0) → P d w → ((i : ℕ) → i < d → P i (getD sk i 0))
+    → (i : ℕ) → i < d + 1 → P i (getD (set sk d w) i 0)
 on-push sk d w h P new old = on-set sk d w h (λ i x. i < d + 1 → P i x) (λ _. new) (λ i ne l. old i (omega arith))
 
 -- A node not met before is put on top, after a node with an edge to it.
@@ -65,7 +66,8 @@ pub stack-push : {g : Graph} {xs sk : List ℕ} {d : ℕ} → Stack g xs sk d �
 stack-push {g} {xs} {sk} {d} s w l new some room edge =
     record {
       link = λ i h. on-push sk d w room (λ j x. i + 1 ≡ j → Edge g (getD (set sk d w) i 0) x) (λ e. top i e) (λ j k e. below i j k e) (i + 1) h refl;
-      on = on-push sk d w room (λ i v. OnStack g (getD (set xs w 1) v 0)) (rw (getD-set-same xs w 1 0 l) (omega arith)) (λ i h. kept (getD sk i 0) (s .on i h));
+      on =
+          on-push sk d w room (λ i v. OnStack g (getD (set xs w 1) v 0)) (rw (getD-set-same xs w 1 0 l) (omega arith)) (λ i h. kept (getD sk i 0) (s .on i h));
       apart =
           λ i j hi. on-push sk d w room (λ k x. getD (set sk d w) i 0 ≡ x → i ≡ k)
           (on-push sk d w room (λ k x. x ≡ w → k ≡ d) (λ _. refl) (λ k hk e. absurd (other k hk e)) i hi)
@@ -96,7 +98,8 @@ stack-push {g} {xs} {sk} {d} s w l new some room edge =
     below i j h e = rw (getD-set-other sk d i w 0 (omega arith), ← e) (s .link i (omega arith))
 
     at-old : (v : ℕ) → At sk d v → At (set sk d w) (d + 1) v
-    at-old v a = record { place = a .place; below = omega (arith, a .below); is = getD-set-other sk d (a .place) w 0 (omega (arith, a .below)) ∙ a .is }
+    at-old v a =
+        record { place = a .place; below = omega (arith, a .below); is = getD-set-other sk d (a .place) w 0 (omega (arith, a .below)) ∙ a .is }
 
 -- The node on top is finished and taken off.
 pub stack-pop : {g : Graph} {xs sk : List ℕ} {d : ℕ} → Stack g xs sk d → (y : ℕ) → getD sk (d - 1) 0 < length xs → 1 ≤ d → Finished g y
@@ -104,7 +107,8 @@ pub stack-pop : {g : Graph} {xs sk : List ℕ} {d : ℕ} → Stack g xs sk d →
 stack-pop {g} {xs} {sk} {d} s y l some done =
     record {
       link = λ i h. s .link i (omega arith);
-      on = λ i h. rw (getD-set-other xs u (getD sk i 0) y 0 (λ e. omega (arith, s .apart i (d - 1) (omega arith) (omega arith) e))) (s .on i (omega arith));
+      on = λ i h.
+          rw (getD-set-other xs u (getD sk i 0) y 0 (λ e. omega (arith, s .apart i (d - 1) (omega arith) (omega arith) e))) (s .on i (omega arith));
       apart = λ i j hi hj. s .apart i j (omega arith) (omega arith);
       found = on-set xs u y l (λ v x. OnStack g x → At sk (d - 1) v) (λ o. absurd (omega (arith, o .1))) (λ v ne o. at-rest v ne (s .found v o));
       room = omega (arith, s .room, total-set (stacked g) xs u y l, stacked-one g (s .on (d - 1) (omega arith)), stacked-finished g done);
@@ -121,7 +125,8 @@ stack-pop {g} {xs} {sk} {d} s y l some done =
         go (no n) = let e : a .place ≡ d - 1 = omega (arith, a .below) in absurd (ne (sym (a .is) ∙ ap (λ (i : ℕ). getD sk i 0) e))
 
 -- An edge from the top to a node on the stack closes a cycle: every node on the stack has paths of every length.
-pub cycle-paths : {g : Graph} {xs sk : List ℕ} {d w : ℕ} → Stack g xs sk d → Edge g (getD sk (d - 1) 0) w → At sk d w → (k i : ℕ) → i < d → PathFrom g k (getD sk i 0)
+pub cycle-paths : {g : Graph} {xs sk : List ℕ} {d w : ℕ} → Stack g xs sk d → Edge g (getD sk (d - 1) 0) w → At sk d w
+    → (k i : ℕ) → i < d → PathFrom g k (getD sk i 0)
 cycle-paths s e a zero i h = here
 cycle-paths {g} {sk = sk} {d = d} {w = w} s e a (suc k) i h = go (cycle-paths s e a k) (decLt (i + 1) d)
   where

@@ -10,7 +10,7 @@ use Rattle.graph.specs.Graph.{Graph, Edge, Endless}
 use Rattle.graph.specs.Cells.{on-set, inside, total, total-set, total-le}
 use Rattle.graph.specs.Paths.{Reached, reached-root, reached-edge, endless}
 use Rattle.graph.specs.Heights.{Height}
-use Rattle.delay.specs.Marks.{OnStack, Finished, finished, stacked, left, left-falls, stacked-le, stacked-zero, stacked-one, Marks, marks-set, marks-first}
+use Rattle.delay.specs.Marks.{OnStack, Finished, finished, stacked, stacked-zero, stacked-one, stacked-le, left, left-falls, Marks, marks-set, marks-first}
 use Rattle.delay.specs.Stack.{Stack, stack-start, stack-pass, stack-push, stack-pop, cycle-paths}
 
 -- No search is under way: the marks are right, and none is that of a node on the stack.
@@ -39,8 +39,8 @@ abbrev pub next : Graph → List ℕ → ℕ → ℕ
 next g xs v = g .arc v (getD xs v 0 - 1)
 
 -- A store of a greater mark to a node that is not finished makes a transition, where marks and stack are right after it.
-stepped : {g : Graph} {xs sk : List ℕ} {d : ℕ} (u y : ℕ) → u < length xs → getD xs u 0 ≤ g .slots + 1 → getD xs u 0 < y → g .nodes ≤ length sk → Marks g (set xs u y)
-    → Stack g (set xs u y) sk d → Stepped g xs (set xs u y) sk d
+stepped : {g : Graph} {xs sk : List ℕ} {d : ℕ} (u y : ℕ) → u < length xs → getD xs u 0 ≤ g .slots + 1 → getD xs u 0 < y → g .nodes ≤ length sk
+    → Marks g (set xs u y) → Stack g (set xs u y) sk d → Stepped g xs (set xs u y) sk d
 stepped {g} {xs} u y l o h wide marks stack =
     record {
       state = record { wide = wide; marks = marks; stack = stack };
@@ -74,8 +74,8 @@ module _ {g : Graph} {xs sk : List ℕ} {d : ℕ} (s : State g xs sk d) (some : 
   top-reached : Reached g (top sk d)
   top-reached = s .marks .reached (top sk d) (top-on .0)
 
-  passed : (next g xs (top sk d) < g .nodes → Finished g (getD xs (next g xs (top sk d)) 0)) → (i : ℕ) → i + 1 < getD xs (top sk d) 0 + 1 → g .arc (top sk d) i < g .nodes
-      → Finished g (getD xs (g .arc (top sk d) i) 0)
+  passed : (next g xs (top sk d) < g .nodes → Finished g (getD xs (next g xs (top sk d)) 0)) → (i : ℕ) → i + 1 < getD xs (top sk d) 0 + 1
+      → g .arc (top sk d) i < g .nodes → Finished g (getD xs (g .arc (top sk d) i) 0)
   passed done i l n = go (decLt (i + 1) (getD xs (top sk d) 0))
     where
       go : Dec (i + 1 < getD xs (top sk d) 0) → Finished g (getD xs (g .arc (top sk d) i) 0)
@@ -88,7 +88,8 @@ module _ {g : Graph} {xs sk : List ℕ} {d : ℕ} (s : State g xs sk d) (some : 
   pass h done =
       let y : ℕ = getD xs (top sk d) 0 + 1 in
       stepped (top sk d) y top-inside (top-on .1) (omega arith) (s .wide)
-      (marks-set (s .marks) (top sk d) y top-inside top-reached (top-on .1) (λ i l. passed done i) (λ f. absurd (omega arith)) (λ f. absurd (omega arith)))
+      (marks-set (s .marks) (top sk d) y top-inside top-reached (top-on .1) (λ i l. passed done i) (λ f. absurd (omega arith))
+      (λ f. absurd (omega arith)))
       (stack-pass (s .stack) (top sk d) y top-inside top-on (omega arith, omega arith))
 
   -- The next slot leads to a node not met before: that node is pushed.

@@ -34,7 +34,8 @@ pub record Visiting (f xs sk : List ℕ) (x y b : ℕ) : Type 0 where
   pub small : y < 32
   pub wide : 16384 ≤ length sk
 
-pub visiting : {f xs : List ℕ} (sk : List ℕ) {x y b n : ℕ} → Counting f xs x y b → x < y → y < n → n ≡ wordCount f → n ≤ 32 → 16384 ≤ length sk → Visiting f xs sk x y b
+pub visiting : {f xs : List ℕ} (sk : List ℕ) {x y b n : ℕ}
+    → Counting f xs x y b → x < y → y < n → n ≡ wordCount f → n ≤ 32 → 16384 ≤ length sk → Visiting f xs sk x y b
 visiting sk c o k e l w = record { counting = c; order = o; known = omega arith; small = omega arith; wide = w }
 
 module _ {f xs sk : List ℕ} {x y b : ℕ} {p : Pair} (s : Visiting f xs sk x y b) (a : Arrives (startNode f x y) p) where
@@ -66,11 +67,13 @@ module _ {f xs sk : List ℕ} {x y b : ℕ} {p : Pair} (s : Visiting f xs sk x y
         let z : startNode f x y ≡ v = cc (a .node, e) in
         t .height .none (shorter (suc (t .edges)) (omega (arith, t .more)) (rw z at q))
 
-    pub visit-lower : {xs′ : List ℕ} {n : ℕ} {t : Extent} → Answer f (Explored f v xs′) t → t ≡ Finite n → n ≤ b → Answer f (Counting f xs′ x (y + 1)) (Finite b)
+    pub visit-lower : {xs′ : List ℕ} {n : ℕ} {t : Extent} → Answer f (Explored f v xs′) t → t ≡ Finite n → n ≤ b
+        → Answer f (Counting f xs′ x (y + 1)) (Finite b)
     visit-lower t q m = let d = was-finite t q in same (d .idle) (explored-none d m)
 
     -- They are longer.
-    pub visit-higher : {xs′ : List ℕ} {n : ℕ} {t : Extent} → Answer f (Explored f v xs′) t → t ≡ Finite n → b < n → Answer f (Counting f xs′ x (y + 1)) (Finite n)
+    pub visit-higher : {xs′ : List ℕ} {n : ℕ} {t : Extent} → Answer f (Explored f v xs′) t → t ≡ Finite n → b < n
+        → Answer f (Counting f xs′ x (y + 1)) (Finite n)
     visit-higher {n = n} t q m =
         let c = s .counting in
         let d = was-finite t q in

@@ -6,7 +6,7 @@ use places::Pair;
 ghost use mathlib.Core.Path.{_≡_};
 ghost use Prim.Native.Nat.{_+_, _-_, _≤_, _<_};
 ghost use lib.ListN.{length, getD, set};
-ghost use Rattle.places.specs.Flat.{Laid, slotsOf};
+ghost use Rattle.places.specs.Flat.{slotsOf};
 ghost use Rattle.delay.specs.Pairs.{TwoPlaces, nodeOf};
 ghost use Rattle.delay.specs.Height.{Passed, HeightSoFar, HeightFound};
 ghost use Rattle.delay.specs.Advance.{Searching, Advanced};
@@ -64,7 +64,7 @@ fn height_at(marks: &[u16], node: usize) -> usize
 
 // The height of a pair through its slots up to `slot`, from its height through those before.
 fn height_with(places: &[u8], marks: &[u16], pair: Pair, slot: usize, height: usize) -> usize
-    requires { ⌜ Laid (now places) × TwoPlaces pair × Passed (now places) (now marks) pair × (slot < slotsOf (now places) (pair .low) (pair .high)) × HeightSoFar (now places) (now marks) pair slot height ⌝ }
+    requires { ⌜ Passed (now places) (now marks) pair × (slot < slotsOf (now places) (pair .low) (pair .high)) × HeightSoFar (now places) (now marks) pair slot height ⌝ }
     ensures { λ r. ⌜ HeightSoFar (now (places .entry)) (now (marks .entry)) pair (slot + 1) r ⌝ }
 {
     let next = places::successor(places, pair.low, pair.high, slot);
@@ -80,7 +80,7 @@ fn height_with(places: &[u8], marks: &[u16], pair: Pair, slot: usize, height: us
 
 // The height of a pair whose successors are all finished.
 fn height_of(places: &[u8], marks: &[u16], pair: Pair) -> usize
-    requires { ⌜ Laid (now places) × TwoPlaces pair × Passed (now places) (now marks) pair ⌝ }
+    requires { ⌜ Passed (now places) (now marks) pair ⌝ }
     ensures { λ r. ⌜ HeightFound (now (places .entry)) (now (marks .entry)) pair r ⌝ }
 {
     let count = places::slots(places, pair.low, pair.high);

@@ -9,7 +9,8 @@ use lib.ListN.{length, getD, set, List·getD-eq-default}
 use lib.Seq.{getD-set-same, getD-set-other}
 
 -- What holds of the value stored, and of every other cell before the store, holds of every cell after it.
-pub on-set : (xs : List ℕ) (i y : ℕ) → i < length xs → (P : ℕ → ℕ → Type 0) → P i y → ((j : ℕ) → (j ≡ i → ⊥) → P j (getD xs j 0)) → (j : ℕ) → P j (getD (set xs i y) j 0)
+pub on-set : (xs : List ℕ) (i y : ℕ) → i < length xs → (P : ℕ → ℕ → Type 0) → P i y → ((j : ℕ) → (j ≡ i → ⊥) → P j (getD xs j 0))
+    → (j : ℕ) → P j (getD (set xs i y) j 0)
 on-set xs i y h P new old j = go (ℕ-discrete j i)
   where
     go : Dec (j ≡ i) → P j (getD (set xs i y) j 0)

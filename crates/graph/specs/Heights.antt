@@ -33,10 +33,12 @@ module _ {g : Graph} where
 
   -- Nor does a successor of a height below h.
   pub up-to-lower : {v j h : ℕ} (k : ℕ) → HeightUpTo g v j h → Height g (g .arc v j) k → k < h → HeightUpTo g v (j + 1) h
-  up-to-lower {v} {j} {h} k t e l = record { some = t .some; none = below-more (NoneThrough g v h) j (t .none) (λ _ p. e .none (shorter (suc k) l p)) }
+  up-to-lower {v} {j} {h} k t e l =
+      record { some = t .some; none = below-more (NoneThrough g v h) j (t .none) (λ _ p. e .none (shorter (suc k) l p)) }
 
   -- Any other successor leaves v one higher than itself.
-  pub up-to-higher : {v j h : ℕ} (k : ℕ) → HeightUpTo g v j h → j < g .slots → g .arc v j < g .nodes → Height g (g .arc v j) k → h ≤ k → HeightUpTo g v (j + 1) (suc k)
+  pub up-to-higher : {v j h : ℕ} (k : ℕ) → HeightUpTo g v j h → j < g .slots → g .arc v j < g .nodes → Height g (g .arc v j) k → h ≤ k
+      → HeightUpTo g v (j + 1) (suc k)
   up-to-higher {v} {j} {h} k t s n e l =
       record {
         some = along (record { slot = j; within = s; leads = refl; node = n }) (e .some);

@@ -41,7 +41,9 @@ module _ {g : Graph} where
 
   -- A walk and a path from its end make one path from the root.
   pub begin : {m : List ℕ} {k v : ℕ} (n : ℕ) → Reach g m v → PathFrom g k v → length m + k ≡ suc n → RootPath g n
-  begin {k = k} {v = v} n (start inside root s) p e = let q : k ≡ n = omega arith in record { node = v; inside = inside; root = root; path = rw q at p }
+  begin {k = k} {v = v} n (start inside root s) p e =
+      let q : k ≡ n = omega arith in
+      record { node = v; inside = inside; root = root; path = rw q at p }
   begin n (onward {c = c} {m = m} r s t) p e = begin n r (along s p) (omega (arith, length-append m (c ∷ [])))
 
   pub walk-of-path : {k : ℕ} → RootPath g k → WalkOf g (suc k)

@@ -5,7 +5,7 @@ use Rattle.delay.proofs.advance.Statement.{statement}
 use Rattle.delay.proofs.advance.Tie as tie
 
 height-of-requires : tie.Need-height-of-requires
-height-of-requires c κs = (search needs, search needs, search all-passed)
+height-of-requires c κs = search all-passed
 
 returns : tie.Need-returns
 returns c = search advance-pop
@@ -26,4 +26,14 @@ returns-5 : tie.Need-returns-5
 returns-5 c = search advance-pass
 
 pub advance-spec : {M : Type 1} → statement M
-advance-spec = tie.close (tie.spec (λ c. search needs) (λ c. search needs) (λ c. search needs) (λ c κs. search needs) (λ c. search needs) (λ c. search needs) (λ c. search needs) (λ c. search needs) (λ c κs. search needs) height-of-requires (λ c. search needs) (λ c. search needs) (λ c. search needs) (λ c. search needs) (λ c. search needs) (λ c. search needs) returns (λ c κs. search needs) (λ c. search needs) (λ c. search needs) (λ c. search needs) (λ c. search needs) returns-2 (λ c κs. search needs) (λ c. search needs) (λ c. search needs) (λ c. search needs) (λ c. search needs) (λ c. search needs) slice-write-stack (λ c. search needs) (λ c. search needs) (λ c. search needs) returns-3 (λ c. search needs) (λ c. search needs) returns-4 (λ c. search needs) (λ c. search needs) (λ c. search needs) (λ c. search needs) returns-5)
+advance-spec =
+    tie.close
+    (tie.spec
+    (λ c. search needs) (λ c. search needs) (λ c. search needs) (λ c κs. search needs) (λ c. search needs)
+    (λ c. search needs) (λ c. search needs) (λ c. search needs) (λ c κs. search needs) height-of-requires
+    (λ c. search needs) (λ c. search needs) (λ c. search needs) (λ c. search needs) (λ c. search needs)
+    (λ c. search needs) returns (λ c κs. search needs) (λ c. search needs) (λ c. search needs) (λ c. search needs)
+    (λ c. search needs) returns-2 (λ c κs. search needs) (λ c. search needs) (λ c. search needs)
+    (λ c. search needs) (λ c. search needs) (λ c. search needs) slice-write-stack (λ c. search needs)
+    (λ c. search needs) (λ c. search needs) returns-3 (λ c. search needs) (λ c. search needs) returns-4
+    (λ c. search needs) (λ c. search needs) (λ c. search needs) (λ c. search needs) returns-5)

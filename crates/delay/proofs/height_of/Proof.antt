@@ -25,4 +25,8 @@ returns : tie.Need-returns Inv-loop μ-loop
 returns c = search so-far-all
 
 pub height-of-spec : {M : Type 1} → statement M
-height-of-spec = tie.close (tie.spec Inv-loop μ-loop (λ c κs. search needs) loop-holds (λ c κs. search needs) (λ c. search needs) loop-less loop-again returns)
+height-of-spec =
+    tie.close
+    (tie.spec
+    Inv-loop μ-loop (λ c κs. search needs) loop-holds (λ c κs. search needs) (λ c. search needs) loop-less
+    loop-again returns)

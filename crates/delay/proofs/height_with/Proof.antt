@@ -17,4 +17,8 @@ returns-3 : tie.Need-returns-3
 returns-3 c = search with-lower
 
 pub height-with-spec : {M : Type 1} → statement M
-height-with-spec = tie.close (tie.spec (λ c κs. search needs) returns (λ c κs. search needs) height-at-requires (λ c. search needs) returns-2 returns-3)
+height-with-spec =
+    tie.close
+    (tie.spec
+    (λ c κs. search needs) returns (λ c κs. search needs) height-at-requires (λ c. search needs) returns-2
+    returns-3)

@@ -11,7 +11,8 @@ use Rattle.delay.proofs.longest.Statement.{statement}
 use Rattle.delay.proofs.longest.Tie as tie
 
 abbrev Inv-loop : tie.InvT-loop
-Inv-loop places marks₀ stack₀ words most₀ x₀ marks stack most x = Counting places marks x (x + 1) most × (16384 ≤ length stack) × (length marks ≡ length marks₀) × (length stack ≡ length stack₀)
+Inv-loop places marks₀ stack₀ words most₀ x₀ marks stack most x =
+    Counting places marks x (x + 1) most × (16384 ≤ length stack) × (length marks ≡ length marks₀) × (length stack ≡ length stack₀)
 
 abbrev μ-loop : tie.MeasureT-loop
 μ-loop places marks₀ stack₀ words most₀ x₀ marks stack most x = words - x
@@ -44,4 +45,9 @@ returns-2 : tie.Need-returns-2 Inv-loop μ-loop
 returns-2 c = search counting-all
 
 pub longest-spec : {M : Type 1} → statement M
-longest-spec = tie.close (tie.spec Inv-loop μ-loop (λ c κs. search needs) loop-holds (λ c κs. search needs) (λ c. search needs) (λ c. search needs) same-length same-length-2 returns (λ c. search needs) loop-less loop-again same-length-3 same-length-4 returns-2)
+longest-spec =
+    tie.close
+    (tie.spec
+    Inv-loop μ-loop (λ c κs. search needs) loop-holds (λ c κs. search needs) (λ c. search needs)
+    (λ c. search needs) same-length same-length-2 returns (λ c. search needs) loop-less loop-again same-length-3
+    same-length-4 returns-2)

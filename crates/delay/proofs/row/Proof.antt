@@ -10,7 +10,8 @@ use Rattle.delay.proofs.row.Statement.{statement}
 use Rattle.delay.proofs.row.Tie as tie
 
 abbrev Inv-loop : tie.InvT-loop
-Inv-loop places marks₀ stack₀ x best words most₀ y₀ marks stack most y = Counting places marks x y most × (x < y) × (16384 ≤ length stack) × (length marks ≡ length marks₀) × (length stack ≡ length stack₀)
+Inv-loop places marks₀ stack₀ x best words most₀ y₀ marks stack most y =
+    Counting places marks x y most × (x < y) × (16384 ≤ length stack) × (length marks ≡ length marks₀) × (length stack ≡ length stack₀)
 
 abbrev μ-loop : tie.MeasureT-loop
 μ-loop places marks₀ stack₀ x best words most₀ y₀ marks stack most y = words - y
@@ -43,4 +44,9 @@ returns-2 : tie.Need-returns-2 Inv-loop μ-loop
 returns-2 c = search row-end
 
 pub row-spec : {M : Type 1} → statement M
-row-spec = tie.close (tie.spec Inv-loop μ-loop (λ c κs. search needs) (λ c. search needs) (λ c. search needs) visit-requires (λ c. search needs) (λ c. search needs) same-length same-length-2 returns (λ c. search needs) loop-less loop-again same-length-3 same-length-4 returns-2)
+row-spec =
+    tie.close
+    (tie.spec
+    Inv-loop μ-loop (λ c κs. search needs) (λ c. search needs) (λ c. search needs) visit-requires
+    (λ c. search needs) (λ c. search needs) same-length same-length-2 returns (λ c. search needs) loop-less
+    loop-again same-length-3 same-length-4 returns-2)

@@ -1,4 +1,4 @@
--- `delay::run` meets its contract. The loop keeps the state of the search and the lengths of the buffers; what is left for the marks to rise by falls.
+-- `delay::run` meets its contract. The loop keeps a state of the search and the lengths of the buffers; with each turn a mark rises.
 use borrow.Author.Needs.{needs}
 use mathlib.Core.Path.{_≡_}
 use lib.ListN.{length}
@@ -11,7 +11,8 @@ use Rattle.delay.proofs.run.Statement.{statement}
 use Rattle.delay.proofs.run.Tie as tie
 
 abbrev Inv-loop : tie.InvT-loop
-Inv-loop places marks₀ stack₀ root depth₀ marks stack depth = Running places marks stack root depth × (length marks ≡ length marks₀) × (length stack ≡ length stack₀)
+Inv-loop places marks₀ stack₀ root depth₀ marks stack depth =
+    Running places marks stack root depth × (length marks ≡ length marks₀) × (length stack ≡ length stack₀)
 
 abbrev μ-loop : tie.MeasureT-loop
 μ-loop places marks₀ stack₀ root depth₀ marks stack depth = total (left (pairGraph places)) marks
@@ -47,4 +48,9 @@ returns-2 : tie.Need-returns-2 Inv-loop μ-loop
 returns-2 c = search run-end
 
 pub run-spec : {M : Type 1} → statement M
-run-spec = tie.close (tie.spec Inv-loop μ-loop (λ c. search needs) advance-requires (λ c. search needs) loop-less loop-again (λ c. search needs) same-length same-length-2 returns height-at-requires (λ c. search needs) same-length-3 same-length-4 returns-2)
+run-spec =
+    tie.close
+    (tie.spec
+    Inv-loop μ-loop (λ c. search needs) advance-requires (λ c. search needs) loop-less loop-again
+    (λ c. search needs) same-length same-length-2 returns height-at-requires (λ c. search needs) same-length-3
+    same-length-4 returns-2)
