@@ -1,0 +1,9 @@
+pub mod Answer
+pub mod Backward
+pub mod Entries
+pub mod Frontier
+pub mod Labels
+pub mod Links
+pub mod Push
+pub mod Queue
+pub mod Turns
