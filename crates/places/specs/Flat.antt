@@ -36,9 +36,8 @@ module _ (f : List ℕ) where
   pub record Laid : Type 0 where
     pub long : length f ≡ 1441
     pub words : wordCount ≤ 32
-    pub owners : (p : ℕ) → ownerAt p < 32
-    pub firsts : (x : ℕ) → firstAt x < 128
-    pub inner : (p : ℕ) → p < 128 → endAt p ≡ false → p + 1 < 128
+    pub owners : (p : ℕ) → p < 128 → ownerAt p < 32
+    pub firsts : (x : ℕ) → x < 32 → firstAt x < 128
 
   -- Where slot j leads from place p: inside a word to the next place, from an end to the first place of word j if it may follow; 128 is nowhere.
   abbrev pub onward : ℕ → ℕ → ℕ

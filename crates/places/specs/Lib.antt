@@ -1,1 +1,5 @@
 pub mod Flat
+pub mod Nodes
+pub mod Onward
+pub mod Steps
+pub mod Roots

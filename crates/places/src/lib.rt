@@ -1,8 +1,11 @@
 // The places of a code laid out flat, and the successors of a pair of places.
 
+use code::Code;
 ghost use mathlib.Core.Path.{_≡_};
 ghost use Prim.Native.Nat.{_+_, _*_, _≤_, _<_};
-ghost use Rattle.places.specs.Flat.{Laid, arcFrom, slotsOf};
+ghost use lib.ListN.{length, getD};
+ghost use Rattle.places.specs.Flat.{Laid, symbolAt, ownerAt, endAt, firstAt, mayFollow, wordCount, onward, pairNode, slotsOf, arcFrom};
+ghost use Rattle.places.specs.Steps.{Arrives, startNode};
 
 // Where each part of the flat list starts: for each place its symbol, its word, and 1 if it is the end of its word; for each word its
 // first place; the follow matrix row by row; the number of words.
@@ -28,4 +31,131 @@ impl Layout {
 pub struct Pair {
     pub low: usize,
     pub high: usize,
+}
+
+// An entry of the flat list.
+fn entry(places: &[u8], at: usize) -> usize
+    requires { ⌜ at < length (now places) ⌝ }
+    ensures { λ r. ⌜ r ≡ getD (now (places .entry)) at 0 ⌝ }
+{
+    places[at] as usize
+}
+
+// Whether place `p` is the end of its word.
+pub fn is_end(places: &[u8], p: usize) -> bool
+    requires { ⌜ Laid (now places) × (p < 128) ⌝ }
+    ensures { λ r. ⌜ r ≡ endAt (now (places .entry)) p ⌝ }
+{
+    places[Layout::END + p] == 1
+}
+
+// How many slots of the pair `p`, `q` may lead on.
+pub fn slots(places: &[u8], p: usize, q: usize) -> usize
+    requires { ⌜ Laid (now places) × (p < 128) × (q < 128) ⌝ }
+    ensures { λ r. ⌜ r ≡ slotsOf (now (places .entry)) p q ⌝ }
+{
+    let last = is_end(places, q);
+    if is_end(places, p) {
+        if last { 0 } else { word_count(places) }
+    } else {
+        if last { word_count(places) } else { 1 }
+    }
+}
+
+// The number of words.
+pub fn word_count(places: &[u8]) -> usize
+    requires { ⌜ Laid (now places) ⌝ }
+    ensures { λ r. ⌜ (r ≡ wordCount (now (places .entry))) × (r ≤ 32) ⌝ }
+{
+    entry(places, Layout::COUNT)
+}
+
+// The symbol of place `p`.
+pub fn symbol(places: &[u8], p: usize) -> usize
+    requires { ⌜ Laid (now places) × (p < 128) ⌝ }
+    ensures { λ r. ⌜ r ≡ symbolAt (now (places .entry)) p ⌝ }
+{
+    entry(places, p)
+}
+
+// The word of place `p`.
+fn owner(places: &[u8], p: usize) -> usize
+    requires { ⌜ Laid (now places) × (p < 128) ⌝ }
+    ensures { λ r. ⌜ (r ≡ ownerAt (now (places .entry)) p) × (r < 32) ⌝ }
+{
+    entry(places, Layout::OWNER + p)
+}
+
+// The first place of word `x`.
+fn first_place(places: &[u8], x: usize) -> usize
+    requires { ⌜ Laid (now places) × (x < 32) ⌝ }
+    ensures { λ r. ⌜ (r ≡ firstAt (now (places .entry)) x) × (r < 128) ⌝ }
+{
+    entry(places, Layout::FIRST + x)
+}
+
+// Whether word `x` may come immediately after word `y`.
+fn may_follow(places: &[u8], x: usize, y: usize) -> bool
+    requires { ⌜ Laid (now places) × (x < 32) × (y < 32) ⌝ }
+    ensures { λ r. ⌜ r ≡ mayFollow (now (places .entry)) x y ⌝ }
+{
+    places[Layout::FOLLOW + (x * Code::WORDS + y)] == 1
+}
+
+// The place where `slot` leads from place `p`, or `Layout::PLACES`.
+fn onward(places: &[u8], p: usize, slot: usize) -> usize
+    requires { ⌜ Laid (now places) × (p < 128) ⌝ }
+    ensures { λ r. ⌜ (r ≡ onward (now (places .entry)) p slot) × (r ≤ 128) ⌝ }
+{
+    if is_end(places, p) {
+        if slot < word_count(places) {
+            if may_follow(places, slot, owner(places, p)) {
+                return first_place(places, slot);
+            }
+        }
+        return Layout::PLACES;
+    }
+    p + 1
+}
+
+// The unordered pair of two places, if they are places with the same symbol.
+fn pair_of(places: &[u8], p: usize, q: usize) -> Pair
+    requires { ⌜ Laid (now places) × (p ≤ 128) × (q ≤ 128) ⌝ }
+    ensures { λ r. ⌜ Arrives (pairNode (now (places .entry)) p q) r ⌝ }
+{
+    if p < Layout::PLACES && q < Layout::PLACES && places[p] == places[q] {
+        if p <= q {
+            Pair { low: p, high: q }
+        } else {
+            Pair { low: q, high: p }
+        }
+    } else {
+        Pair {
+            low: Layout::PLACES,
+            high: 0,
+        }
+    }
+}
+
+// The pair where `slot` leads from the pair `p`, `q`.
+pub fn successor(places: &[u8], p: usize, q: usize, slot: usize) -> Pair
+    requires { ⌜ Laid (now places) × (p < 128) × (q < 128) ⌝ }
+    ensures { λ r. ⌜ Arrives (arcFrom (now (places .entry)) p q slot) r ⌝ }
+{
+    if slot < slots(places, p, q) {
+        pair_of(places, onward(places, p, slot), onward(places, q, slot))
+    } else {
+        Pair {
+            low: Layout::PLACES,
+            high: 0,
+        }
+    }
+}
+
+// The pair of the first places of words `x` and `y`, if they have the same first symbol.
+pub fn first_pair(places: &[u8], x: usize, y: usize) -> Pair
+    requires { ⌜ Laid (now places) × (x < 32) × (y < 32) ⌝ }
+    ensures { λ r. ⌜ Arrives (startNode (now (places .entry)) x y) r ⌝ }
+{
+    pair_of(places, first_place(places, x), first_place(places, y))
 }
