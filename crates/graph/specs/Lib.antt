@@ -1,2 +1,5 @@
 pub mod Cells
 pub mod Graph
+pub mod Cells
+pub mod Paths
+pub mod Heights
