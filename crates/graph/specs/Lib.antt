@@ -1,4 +1,3 @@
-pub mod Cells
 pub mod Graph
 pub mod Cells
 pub mod Paths

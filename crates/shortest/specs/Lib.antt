@@ -6,4 +6,5 @@ pub mod Labels
 pub mod Links
 pub mod Push
 pub mod Queue
+pub mod Triangle
 pub mod Turns

@@ -8,10 +8,10 @@ use native.Mathlib.Omega.{arith}
 use lib.ListN.{length, getD, set, length-set}
 use lib.Seq.{getD-set-same, getD-set-other}
 use Rattle.graph.specs.Graph.{Graph}
-use Rattle.graph.specs.Cells.{on-set, marked, marked-set}
+use Rattle.graph.specs.Cells.{on-set, total, total-set}
 use Rattle.shortest.specs.Links.{Link, link-node}
 use Rattle.shortest.specs.Entries.{nodeOf, fromOf, nodeAt, fromAt}
-use Rattle.shortest.specs.Queue.{key, Queued, Met, Origin, Queue, Group, Stage, from-early}
+use Rattle.shortest.specs.Queue.{mark, key, Queued, Met, Origin, Queue, Group, Stage, from-early}
 
 -- A store at the queue's tail leaves the entries before it.
 pub entry-old : (q : List ℕ) (tail e i : ℕ) → i < tail → getD (set q tail e) i 0 ≡ getD q i 0
@@ -74,8 +74,9 @@ module _ {g : Graph} {ms q : List ℕ} {tail a b t k : ℕ} (s : Stage g ms q ta
       (λ h. record { place = tail; below = omega arith; node = at-tail })
       (λ v ne h. queued-old q tail e (s .queue .found v h))
 
-  push-room : tail + 1 ≤ marked (set ms w 1) (g .nodes) + 1
-  push-room = let r = s .queue .room in omega (arith, marked-set ms (g .nodes) w (link-node link) in-marks clear)
+  push-room : tail + 1 ≤ total mark (set ms w 1) + 1
+  unfolding mark
+  push-room = let r = s .queue .room in omega (arith, total-set mark ms w 1 in-marks)
 
   push-fair : (i : ℕ) → 1 ≤ i → i < tail + 1 → g .goal (nodeAt (set q tail e) i) ≡ false
   push-fair i p l = on-push q tail e wide (λ j x. 1 ≤ j → g .goal (nodeOf x) ≡ false) (λ h. rw node plain) (λ j h d. s .queue .fair j d h) i l p

@@ -3,14 +3,18 @@
 use mathlib.Core.Path.{_≡_}
 use mathlib.Core.Bool.{false}
 use mathlib.Core.List.{List}
-use Prim.Native.Nat.{ℕ, _+_, _*_, _≤_, _<_}
+use Prim.Native.Nat.{ℕ, _+_, _*_, _≤_, _<_, min}
 use native.Mathlib.Decide.{ℕ-discrete}
 use native.Mathlib.Omega.{arith}
 use lib.ListN.{length, getD}
 use Rattle.graph.specs.Graph.{Graph}
-use Rattle.graph.specs.Cells.{marked}
+use Rattle.graph.specs.Cells.{total}
 use Rattle.shortest.specs.Links.{Link, link-node}
 use Rattle.shortest.specs.Entries.{nodeAt, fromAt}
+
+-- 1 for a mark, 0 for a clear cell
+unfoldable pub mark : ℕ → ℕ
+mark x = min x 1
 
 -- The graph's numbers fit an entry and a key.
 pub record Bounded (g : Graph) : Type 0 where
@@ -51,7 +55,7 @@ pub record Queue (g : Graph) (ms q : List ℕ) (tail : ℕ) : Type 0 where
   pub size : length ms ≡ g .nodes
   pub some : 1 ≤ tail
   pub found : (v : ℕ) → 1 ≤ getD ms v 0 → Queued q tail v
-  pub room : tail ≤ marked ms (g .nodes) + 1
+  pub room : tail ≤ total mark ms + 1
   pub source : nodeAt q 0 ≡ g .nodes
   pub before : fromAt q 0 ≡ 0
   pub fair : (i : ℕ) → 1 ≤ i → i < tail → g .goal (nodeAt q i) ≡ false
