@@ -15,7 +15,7 @@ use Rattle.shortest.specs.Queue.{key, Queue, from-early}
 
 pub data Label (g : Graph) (q : List ℕ) : ℕ → List ℕ → Type 0 where
   source : {k : ℕ} → k ≡ 0 → Label g q k []
-  grown : {k f c : ℕ} {m : List ℕ} → 1 ≤ k → fromAt q k ≡ f + 1 → g .symbol (nodeAt q k) ≡ c → Label g q f m → Label g q k (c ∷ m)
+  grown : {k f c : ℕ} {m : List ℕ} → f < k → fromAt q k ≡ f + 1 → g .symbol (nodeAt q k) ≡ c → Label g q f m → Label g q k (c ∷ m)
 
 pub record Labelled (g : Graph) (q : List ℕ) (k : ℕ) : Type 0 where
   pub word : List ℕ
@@ -27,7 +27,7 @@ module _ {g : Graph} {ms q : List ℕ} {tail : ℕ} (s : Queue g ms q tail) wher
   label-more k l h (no n) =
       let o = s .origin k (omega arith) l in
       let r = h (o .first) (o .early) in
-      record { word = g .symbol (nodeAt q k) ∷ r .word; label = grown {k = k} (omega arith) (o .from) refl (r .label) }
+      record { word = g .symbol (nodeAt q k) ∷ r .word; label = grown (o .early) (o .from) refl (r .label) }
 
   label-below : (n k : ℕ) → k < n → k < tail → Labelled g q k
   label-below zero k h l = absurd (omega arith)
@@ -62,20 +62,17 @@ module _ {g : Graph} {ms q : List ℕ} {tail : ℕ} (s : Queue g ms q tail) wher
   same-label {i} {j} e (grown p a b x) (source y) = let c = source-key j y in absurd (omega arith)
   same-label {i} {j} e (grown {f = f} p a b x) (grown {f = h} r c d y) = same-cons i j f h e a b c d (λ z. same-label z x y)
 
-  -- The group from which a place comes begins before it, and the places before that group have smaller keys.
-  from-before : (i f : ℕ) → 1 ≤ i → i < tail → fromAt q i ≡ f + 1 → f < i
-  from-before i f p l e = let d = from-early s i l in omega arith
-
-  from-begins : (i f j : ℕ) → 1 ≤ i → i < tail → fromAt q i ≡ f + 1 → j < f → key g q j < key g q f
+  -- The places before the group from which a place comes have smaller keys.
+  from-begins : (i f j : ℕ) → f < i → i < tail → fromAt q i ≡ f + 1 → j < f → key g q j < key g q f
   from-begins i f j p l e h =
-      let o = s .origin i p l in
+      let o = s .origin i (omega arith) l in
       let z : o .first ≡ f = let d = o .from in omega arith in
       rw z at (o .begins j (omega arith))
 
   sooner-source : (i j : ℕ) → key g q i < key g q j → i ≡ 0 → j ≡ 0 → ⊥
   sooner-source i j e x y = let z : i ≡ j = omega arith in let k : key g q i ≡ key g q j = rw z in omega arith
 
-  sooner-cons : (i j f h : ℕ) {c d : ℕ} {l m : List ℕ} → j < tail → 1 ≤ j → key g q i < key g q j → fromAt q i ≡ f + 1 → g .symbol (nodeAt q i) ≡ c
+  sooner-cons : (i j f h : ℕ) {c d : ℕ} {l m : List ℕ} → j < tail → h < j → key g q i < key g q j → fromAt q i ≡ f + 1 → g .symbol (nodeAt q i) ≡ c
       → fromAt q j ≡ h + 1 → g .symbol (nodeAt q j) ≡ d → Label g q f l → Label g q h m → (key g q f < key g q h → Sooner l m) → Sooner (c ∷ l) (d ∷ m)
   sooner-cons i j f h {c} {d} {l} {m} v p e a b x y k n r = go (decLt f h)
     where
@@ -94,7 +91,7 @@ module _ {g : Graph} {ms q : List ℕ} {tail : ℕ} (s : Queue g ms q tail) wher
   sooner-label {i} {j} u v e (grown p a b x) (source y) = let c = source-key j y in absurd (omega arith)
   sooner-label {i} {j} u v e (grown {f = f} p a b x) (grown {f = h} r c d y) =
       sooner-cons i j f h v r e a b c d x y
-      (λ z. sooner-label (lt-trans (from-before i f p u a) u) (lt-trans (from-before j h r v c) v) z x y)
+      (λ z. sooner-label (lt-trans p u) (lt-trans r v) z x y)
 
   -- A key that is not larger has a label that comes no later.
   pub no-later-label : {i j : ℕ} {l m : List ℕ} → i < tail → j < tail → key g q i ≤ key g q j → Label g q i l → Label g q j m → NoLater l m

@@ -4,7 +4,9 @@ pub mod Entries
 pub mod Frontier
 pub mod Labels
 pub mod Links
+pub mod Pairs
 pub mod Push
 pub mod Queue
+pub mod Room
 pub mod Triangle
 pub mod Turns

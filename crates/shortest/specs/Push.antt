@@ -11,7 +11,7 @@ use Rattle.graph.specs.Graph.{Graph}
 use Rattle.graph.specs.Cells.{on-set, total, total-set}
 use Rattle.shortest.specs.Links.{Link, link-node}
 use Rattle.shortest.specs.Entries.{nodeOf, fromOf, nodeAt, fromAt}
-use Rattle.shortest.specs.Queue.{mark, key, Queued, Met, Origin, Queue, Group, Stage, from-early}
+use Rattle.shortest.specs.Queue.{mark, key, Queued, Met, Origin, Queue, IsGroup, Stage, from-early}
 
 -- A store at the queue's tail leaves the entries before it.
 pub entry-old : (q : List ℕ) (tail e i : ℕ) → i < tail → getD (set q tail e) i 0 ≡ getD q i 0
@@ -139,7 +139,7 @@ module _ {g : Graph} {ms q : List ℕ} {tail a b t k : ℕ} (s : Stage g ms q ta
       let c = s .queue .bounded .symbols (nodeAt q a) in
       omega arith
 
-  push-group : Group g (set q tail e) (tail + 1) a b
+  push-group : IsGroup g (set q tail e) (tail + 1) a b
   push-group =
       let u = s .group .ends in
       let v = s .group .some in

@@ -63,7 +63,7 @@ pub record Queue (g : Graph) (ms q : List ℕ) (tail : ℕ) : Type 0 where
   pub origin : (i : ℕ) → 1 ≤ i → i < tail → Origin g q tail i (nodeAt q i) (fromAt q i)
 
 -- Places a to b - 1 are one group.
-pub record Group (g : Graph) (q : List ℕ) (tail a b : ℕ) : Type 0 where
+pub record IsGroup (g : Graph) (q : List ℕ) (tail a b : ℕ) : Type 0 where
   pub some : a < b
   pub ends : b ≤ tail
   pub same : (i : ℕ) → a ≤ i → i < b → key g q i ≡ key g q a
@@ -72,7 +72,7 @@ pub record Group (g : Graph) (q : List ℕ) (tail a b : ℕ) : Type 0 where
 -- In the group a to b - 1, the symbols below t are done for every member, and symbol t for the members before k; so are all groups before.
 pub record Stage (g : Graph) (ms q : List ℕ) (tail a b t k : ℕ) : Type 0 where
   pub queue : Queue g ms q tail
-  pub group : Group g q tail a b
+  pub group : IsGroup g q tail a b
   pub from : a ≤ k
   pub to : k ≤ b
   pub high : t ≤ 16

@@ -10,7 +10,7 @@ use lib.ListN.{length, getD, set}
 use Rattle.graph.specs.Graph.{Graph}
 use Rattle.shortest.specs.Links.{Link, link-node}
 use Rattle.shortest.specs.Entries.{nodeOf, fromOf, nodeAt, fromAt}
-use Rattle.shortest.specs.Queue.{Bounded, key, Met, Queue, Group, Stage, Between}
+use Rattle.shortest.specs.Queue.{Bounded, key, Met, Queue, IsGroup, Stage, Between}
 use Rattle.shortest.specs.Push.{pushed, pushed-met, met-old, entry-old}
 
 -- Slot `slot`, one of the first n, leads from v to w.
@@ -134,7 +134,7 @@ module _ {g : Graph} {ms q : List ℕ} {tail a b t k : ℕ} (s : Stage g ms q ta
       before l i d (no n) = let x = s .group .same i (omega arith) d in let v = s .group .after b (omega arith) l in omega arith
 
 -- A group of places that were not dealt with is entered at symbol 0, first member.
-pub enter : {g : Graph} {ms q : List ℕ} {tail a b : ℕ} → Between g ms q tail a → Group g q tail a b → Stage g ms q tail a b 0 a
+pub enter : {g : Graph} {ms q : List ℕ} {tail a b : ℕ} → Between g ms q tail a → IsGroup g q tail a b → Stage g ms q tail a b 0 a
 enter s p =
     let l = p .some in
     let e = p .ends in
@@ -172,7 +172,7 @@ module _ {g : Graph} {q : List ℕ} {tail a : ℕ} where
         }
 
     -- A run that cannot grow is a group.
-    pub run-end : {ms : List ℕ} → Queue g ms q tail → (b < tail → key g q b ≡ key g q a → ⊥) → Group g q tail a b
+    pub run-end : {ms : List ℕ} → Queue g ms q tail → (b < tail → key g q b ≡ key g q a → ⊥) → IsGroup g q tail a b
     run-end s h =
         record {
           some = r .some;
