@@ -43,7 +43,7 @@ module _ {g : Graph} {ms q : List ℕ} {tail : ℕ} (s : Queue g ms q tail) wher
         node = r .node;
         word = g .symbol (nodeAt q p) ∷ y .word;
         label = grown (o .early) (o .from) refl (y .label);
-        early = more-no-later (no-later-trans (no-later-label s b u (s .sorted (o .first) k h u) (y .label) x) n) c;
+        early = more-no-later (no-later-trans (no-later-label s b u (s .ascending .keys (o .first) k h u) (y .label) x) n) c;
       }
 
   -- No goal is queued.

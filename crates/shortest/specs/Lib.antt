@@ -8,5 +8,6 @@ pub mod Pairs
 pub mod Push
 pub mod Queue
 pub mod Room
+pub mod Spelling
 pub mod Triangle
 pub mod Turns

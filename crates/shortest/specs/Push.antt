@@ -86,12 +86,12 @@ module _ {g : Graph} {ms q : List ℕ} {tail a b t k : ℕ} (s : Stage g ms q ta
   push-near =
       on-push q tail e wide (λ i x. fromOf x * 16 + g .symbol (nodeOf x) ≤ (a + 1) * 16 + t) (rw (node, from, symbol) (omega arith)) (s .near)
 
-  push-sorted : (i j : ℕ) → i ≤ j → j < tail + 1 → key g (set q tail e) i ≤ key g (set q tail e) j
-  push-sorted i j h l = go (ℕ-discrete j tail)
+  push-ascending : (i j : ℕ) → i ≤ j → j < tail + 1 → key g (set q tail e) i ≤ key g (set q tail e) j
+  push-ascending i j h l = go (ℕ-discrete j tail)
     where
       go : Dec (j ≡ tail) → key g (set q tail e) i ≤ key g (set q tail e) j
       go (yes z) = rw (z, key-tail) (push-near i (omega arith))
-      go (no n) = rw (entry-old q tail e i (omega arith), entry-old q tail e j (omega arith)) (s .queue .sorted i j h (omega arith))
+      go (no n) = rw (entry-old q tail e i (omega arith), entry-old q tail e j (omega arith)) (s .queue .ascending .keys i j h (omega arith))
 
   new-origin : Origin g q tail tail w (a + 1)
   new-origin =
@@ -126,7 +126,7 @@ module _ {g : Graph} {ms q : List ℕ} {tail a b t k : ℕ} (s : Stage g ms q ta
         source = rw (entry-old q tail e 0 l) (s .queue .source);
         before = rw (entry-old q tail e 0 l) (s .queue .before);
         fair = push-fair;
-        sorted = push-sorted;
+        ascending = record { keys = push-ascending };
         origin = push-origin;
       }
 

@@ -49,6 +49,10 @@ pub record Origin (g : Graph) (q : List ℕ) (tail i v x : ℕ) : Type 0 where
   pub same : key g q member ≡ key g q first
   pub link : Link g (nodeAt q member) v
 
+-- Keys ascend along the first `tail` entries.
+pub record Ascending (g : Graph) (q : List ℕ) (tail : ℕ) : Type 0 where
+  pub keys : (i j : ℕ) → i ≤ j → j < tail → key g q i ≤ key g q j
+
 -- The first `tail` entries of q are in use, and ms marks the nodes among them. Place 0 holds the source; no goal is ever queued.
 pub record Queue (g : Graph) (ms q : List ℕ) (tail : ℕ) : Type 0 where
   pub bounded : Bounded g
@@ -59,7 +63,7 @@ pub record Queue (g : Graph) (ms q : List ℕ) (tail : ℕ) : Type 0 where
   pub source : nodeAt q 0 ≡ g .nodes
   pub before : fromAt q 0 ≡ 0
   pub fair : (i : ℕ) → 1 ≤ i → i < tail → g .goal (nodeAt q i) ≡ false
-  pub sorted : (i j : ℕ) → i ≤ j → j < tail → key g q i ≤ key g q j
+  pub ascending : Ascending g q tail
   pub origin : (i : ℕ) → 1 ≤ i → i < tail → Origin g q tail i (nodeAt q i) (fromAt q i)
 
 -- Places a to b - 1 are one group.

@@ -10,7 +10,7 @@ use lib.ListN.{length, getD, set}
 use Rattle.graph.specs.Graph.{Graph}
 use Rattle.shortest.specs.Links.{Link, link-node}
 use Rattle.shortest.specs.Entries.{nodeOf, fromOf, nodeAt, fromAt}
-use Rattle.shortest.specs.Queue.{Bounded, key, Met, Queue, IsGroup, Stage, Between}
+use Rattle.shortest.specs.Queue.{Bounded, key, Met, Ascending, IsGroup, Stage, Between}
 use Rattle.shortest.specs.Push.{pushed, pushed-met, met-old, entry-old}
 
 -- Slot `slot`, one of the first n, leads from v to w.
@@ -172,15 +172,15 @@ module _ {g : Graph} {q : List ℕ} {tail a : ℕ} where
         }
 
     -- A run that cannot grow is a group.
-    pub run-end : {ms : List ℕ} → Queue g ms q tail → (b < tail → key g q b ≡ key g q a → ⊥) → IsGroup g q tail a b
+    pub run-end : Ascending g q tail → (b < tail → key g q b ≡ key g q a → ⊥) → IsGroup g q tail a b
     run-end s h =
         record {
           some = r .some;
           ends = r .ends;
           same = r .same;
           after = λ i p l.
-              let x = s .sorted b i p l in
-              let y = s .sorted a b (let d = r .some in omega arith) (omega arith) in
+              let x = s .keys b i p l in
+              let y = s .keys a b (let d = r .some in omega arith) (omega arith) in
               let n = h (omega arith) in
               omega (arith, n);
         }
@@ -200,7 +200,7 @@ begun {g} {ms} {q} u n clear e z =
             source = e;
             before = z;
             fair = λ i p l. absurd (omega arith);
-            sorted = λ i j p l. let d : i ≡ j = omega arith in rw d (omega arith);
+            ascending = record { keys = λ i j p l. let d : i ≡ j = omega arith in rw d (omega arith) };
             origin = λ i p l. absurd (omega arith);
           };
       order = omega arith;
