@@ -1,10 +1,13 @@
 pub mod Answer
 pub mod Backward
+pub mod Contracts
 pub mod Entries
 pub mod Frontier
 pub mod Labels
+pub mod Leaves
 pub mod Links
 pub mod Pairs
+pub mod Progress
 pub mod Push
 pub mod Queue
 pub mod Room

@@ -28,9 +28,13 @@ module _ (f : List ℕ) where
   unfoldable pub toward : ℕ → ℕ → ℕ
   toward v j = if ltb v 16384 then arcFrom f (v / 128) (v % 128) j else firstFrom j
 
-  -- Whether t leads the pair p, q on: in a pair that is not two ends one place is inside its word, and t is the next symbol there.
+  -- A place inside its word, in a pair that is not two ends.
+  abbrev pub innerOf : ℕ → ℕ → ℕ
+  innerOf p q = if endAt f p then q else p
+
+  -- Whether t leads the pair p, q on: only the symbol after its inner place can.
   abbrev pub leadsOn : ℕ → ℕ → ℕ → Bool
-  leadsOn p q t = if endAt f p then eqb (symbolAt f (q + 1)) t else eqb (symbolAt f (p + 1)) t
+  leadsOn p q t = eqb (symbolAt f (innerOf p q + 1)) t
 
   -- How many slots of node v, or of the source, may lead on by t.
   unfoldable pub width : ℕ → ℕ → ℕ

@@ -1,3 +1,211 @@
-pub fn one() -> usize {
-    1
+// The shortest message of a walk from a first pair of a code to a pair of two ends, the earliest in symbol order among equals.
+//
+// A breadth-first search in groups. The queue holds the pairs met, each once, behind the source of all walks; every entry knows where the
+// group of its predecessor begins. A group is a run of entries with the same predecessors' group and the same symbol: the pairs that are
+// met by one message. Group after group, symbol after symbol, the search queues the pairs that come next, so messages ascend along the
+// queue, and the first pair of two ends that comes next has the least. The message is then read off the entries, back to front.
+
+use places::Layout;
+use places::Pair;
+ghost use mathlib.Core.Path.{_≡_};
+ghost use Prim.Native.Nat.{_+_, _*_, _%_, _≤_, _<_};
+ghost use lib.ListN.{length, getD};
+ghost use Rattle.places.specs.Flat.{Laid, symbolAt, pairGraph};
+ghost use Rattle.places.specs.Roots.{Numbered};
+ghost use Rattle.places.specs.Steps.{Arrives};
+ghost use Rattle.shortest.specs.Contracts.{PlacesOf, Seen, Stands, Ready, Progressed};
+ghost use Rattle.shortest.specs.Entries.{entryOf, nodeOf, fromOf};
+ghost use Rattle.shortest.specs.Pairs.{firstFrom, toward, innerOf, width};
+
+// The length of the message, or that there is none.
+pub enum Search {
+    Found(usize),
+    Nothing,
+}
+
+// A group of the queue: places `start` to `end` - 1.
+pub struct Group {
+    pub start: usize,
+    pub end: usize,
+}
+
+// Where a slot leads: to nothing new, to a pair that was not met before, or to a pair of two ends.
+enum Arrival {
+    Passed,
+    Fresh,
+    Goal,
+}
+
+// After a part of a group: a goal comes next by a symbol, or the queue's new end.
+enum Progress {
+    Goal(usize),
+    Tail(usize),
+}
+
+// After a group: a goal comes next by a symbol, or where the next group starts and the queue's new end.
+enum Expansion {
+    Goal(usize),
+    Next(usize, usize),
+}
+
+// After the whole search: a goal comes next after the group that starts at a place, by a symbol, or there is none.
+enum Exploration {
+    Goal(usize, usize),
+    Exhausted,
+}
+
+// The number of a pair.
+fn node(pair: Pair) -> usize
+    requires { ⌜ (pair .low ≤ 128) × (pair .high < 128) ⌝ }
+    ensures { λ r. ⌜ r ≡ pair .low * 128 + pair .high ⌝ }
+{
+    (pair.low << 7) + pair.high
+}
+
+// A queue entry.
+fn entry(from: usize, pair: Pair) -> u64
+    requires { ⌜ (from ≤ 16384) × (pair .low ≤ 128) × (pair .high < 128) ⌝ }
+    ensures { λ r. ⌜ r ≡ entryOf from (pair .low * 128 + pair .high) ⌝ }
+{
+    ((from << 15) + node(pair)) as u64
+}
+
+// The pair of a queue entry; with `low` at `Layout::PLACES` it is the source.
+fn pair_of(entry: u64) -> Pair
+    ensures { λ r. ⌜ PlacesOf (nodeOf entry) r ⌝ }
+{
+    let node = entry - ((entry >> 15) << 15);
+    let low = node >> 7;
+    Pair {
+        low: low as usize,
+        high: (node - (low << 7)) as usize,
+    }
+}
+
+// One more than where the group of an entry's predecessor begins; 0 for the source.
+fn from_of(entry: u64) -> usize
+    ensures { λ r. ⌜ (r ≡ fromOf entry) × (r < 562949953421312) ⌝ }
+{
+    (entry >> 15) as usize
+}
+
+// The group of an entry, as a number: where the group of its predecessor begins, and its symbol.
+fn key(places: &[u8], entry: u64) -> usize
+    requires { ⌜ Laid (now places) ⌝ }
+    ensures { λ r. ⌜ r ≡ fromOf entry * 16 + symbolAt (now (places .entry)) (nodeOf entry % 128) ⌝ }
+{
+    let pair = pair_of(entry);
+    (from_of(entry) << 4) + places::symbol(places, pair.high)
+}
+
+// Where `slot` leads from the source: its slots are the pairs of words, and those in order lead to their first pairs.
+fn first(places: &[u8], slot: usize) -> Pair
+    requires { ⌜ Laid (now places) ⌝ }
+    ensures { λ r. ⌜ Arrives (firstFrom (now (places .entry)) slot) r ⌝ }
+{
+    let x = slot >> 5;
+    let y = slot - (x << 5);
+    if x < y {
+        if y < places::word_count(places) {
+            return places::first_pair(places, x, y);
+        }
+    }
+    Pair {
+        low: Layout::PLACES,
+        high: 0,
+    }
+}
+
+// Where `slot` leads from a pair, or from the source.
+fn next(places: &[u8], pair: Pair, slot: usize) -> Pair
+    requires { ⌜ Laid (now places) × (pair .low * 128 + pair .high ≤ 16384) × (pair .high < 128) ⌝ }
+    ensures { λ r. ⌜ Arrives (toward (now (places .entry)) (pair .low * 128 + pair .high) slot) r ⌝ }
+{
+    if pair.low < Layout::PLACES {
+        return places::successor(places, pair.low, pair.high, slot);
+    }
+    first(places, slot)
+}
+
+// A place inside its word, if the pair is not two ends.
+fn inner(places: &[u8], pair: Pair) -> usize
+    requires { ⌜ Laid (now places) × (pair .low < 128) × (pair .high < 128) ⌝ }
+    ensures { λ r. ⌜ (r ≡ innerOf (now (places .entry)) (pair .low) (pair .high)) × (r < 128) ⌝ }
+{
+    if places::is_end(places, pair.low) {
+        return pair.high;
+    }
+    pair.low
+}
+
+// How many slots of a pair, or of the source, may lead on by a symbol.
+fn width(places: &[u8], pair: Pair, symbol: usize) -> usize
+    requires { ⌜ Laid (now places) × (pair .low * 128 + pair .high ≤ 16384) × (pair .high < 128) ⌝ }
+    ensures { λ r. ⌜ r ≡ width (now (places .entry)) (pair .low * 128 + pair .high) symbol ⌝ }
+{
+    if Layout::PLACES <= pair.low {
+        return places::word_count(places) << 5;
+    }
+    let place = inner(places, pair);
+    if places[place + 1] as usize == symbol {
+        return places::slots(places, pair.low, pair.high);
+    }
+    0
+}
+
+// Whether both places of a pair are ends.
+fn two_ends(places: &[u8], pair: Pair) -> bool
+    requires { ⌜ Laid (now places) × (pair .low < 128) × (pair .high < 128) ⌝ }
+    ensures { λ r. ⌜ r ≡ pairGraph (now (places .entry)) .goal (pair .low * 128 + pair .high) ⌝ }
+{
+    if places::is_end(places, pair.low) {
+        return places::is_end(places, pair.high);
+    }
+    false
+}
+
+// What stands where a slot leads, for a symbol.
+fn look(places: &[u8], marks: &[u16], pair: Pair, symbol: usize) -> Arrival
+    requires { ⌜ Laid (now places) × (length (now marks) ≡ 16384) × (pair .low ≤ 128) × (pair .high < 128) ⌝ }
+    ensures { λ r. ⌜ Seen (now (places .entry)) (now (marks .entry)) (pair .low * 128 + pair .high) symbol r ⌝ }
+{
+    if Layout::PLACES <= pair.low {
+        return Arrival::Passed;
+    }
+    if places::symbol(places, pair.high) != symbol {
+        return Arrival::Passed;
+    }
+    if two_ends(places, pair) {
+        return Arrival::Goal;
+    }
+    if marks[node(pair)] != 0 {
+        return Arrival::Passed;
+    }
+    Arrival::Fresh
+}
+
+// Deals with the slot of a member: a pair that was not met before is marked and queued.
+fn step(
+    places: &[u8],
+    marks: &mut [u16],
+    queue: &mut [u64],
+    group: Group,
+    symbol: usize,
+    member: usize,
+    slot: usize,
+    tail: usize,
+) -> Progress
+    requires { ⌜ Laid (now places) × Numbered (now places) × Stands (now places) (now marks) (now queue) tail (group .start) (group .end) symbol member slot × Ready (now marks) (now queue) tail (group .start) (group .end) symbol member ⌝ }
+    ensures { λ r. ⌜ Progressed (now (places .entry)) (now (marks .exit)) (now (queue .exit)) (group .start) (group .end) symbol member (slot + 1) r ⌝ }
+{
+    let pair = next(places, pair_of(queue[member]), slot);
+    match look(places, marks, pair, symbol) {
+        Arrival::Passed => Progress::Tail(tail),
+        Arrival::Goal => Progress::Goal(symbol),
+        Arrival::Fresh => {
+            marks[node(pair)] = 1;
+            queue[tail] = entry(group.start + 1, pair);
+            Progress::Tail(tail + 1)
+        }
+    }
 }
