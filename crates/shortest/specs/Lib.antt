@@ -11,6 +11,7 @@ pub mod Progress
 pub mod Push
 pub mod Queue
 pub mod Room
+pub mod Rows
 pub mod Spelling
 pub mod Triangle
 pub mod Turns

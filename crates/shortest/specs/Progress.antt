@@ -18,6 +18,7 @@ use Rattle.shortest.specs.Frontier.{first-goal}
 use Rattle.shortest.specs.Labels.{label-of}
 use Rattle.shortest.specs.Links.{Link}
 use Rattle.shortest.specs.Pairs.{toward, pair-slots}
+use Rattle.shortest.specs.Push.{entry-old}
 use Rattle.shortest.specs.Room.{tail-before-goal}
 use Rattle.shortest.specs.Turns.{pass, met-marked, push}
 
@@ -80,3 +81,7 @@ module _ {f ms q : List ℕ} {tail a b t k c : ℕ} (laid : Laid f) (n : Numbere
   -- The new node has a mark.
   pub fresh-within : {x : Arrival} {i : ℕ} → Seen f ms (o .low * 128 + o .high) t x → x ≡ Fresh → i ≡ o .low * 128 + o .high → i < length ms
   fresh-within y h z = let m = was-fresh y h .node in let l = r .marks in omega arith
+
+  -- The member's entry is not changed.
+  pub member-kept : (e : ℕ) → getD (set q tail e) k 0 ≡ getD q k 0
+  member-kept e = entry-old q tail e k (let i = r .member in let j = r .ends in omega arith)

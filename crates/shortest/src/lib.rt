@@ -196,7 +196,7 @@ fn step(
     tail: usize,
 ) -> Progress
     requires { ⌜ Laid (now places) × Numbered (now places) × Stands (now places) (now marks) (now queue) tail (group .start) (group .end) symbol member slot × Ready (now marks) (now queue) tail (group .start) (group .end) symbol member ⌝ }
-    ensures { λ r. ⌜ Progressed (now (places .entry)) (now (marks .exit)) (now (queue .exit)) (group .start) (group .end) symbol member (slot + 1) r ⌝ }
+    ensures { λ r. ⌜ Progressed (now (places .entry)) (now (marks .exit)) (now (queue .exit)) (group .start) (group .end) symbol member (slot + 1) r × (getD (now (queue .exit)) member 0 ≡ getD (now (queue .entry)) member 0) ⌝ }
 {
     let pair = next(places, pair_of(queue[member]), slot);
     match look(places, marks, pair, symbol) {
@@ -208,4 +208,30 @@ fn step(
             Progress::Tail(tail + 1)
         }
     }
+}
+
+// Deals with all slots of a member for one symbol.
+fn row(
+    places: &[u8],
+    marks: &mut [u16],
+    queue: &mut [u64],
+    group: Group,
+    symbol: usize,
+    member: usize,
+    tail: usize,
+) -> Progress
+    requires { ⌜ Laid (now places) × Numbered (now places) × Stands (now places) (now marks) (now queue) tail (group .start) (group .end) symbol member 0 × Ready (now marks) (now queue) tail (group .start) (group .end) symbol member ⌝ }
+    ensures { λ r. ⌜ Progressed (now (places .entry)) (now (marks .exit)) (now (queue .exit)) (group .start) (group .end) symbol (member + 1) 0 r ⌝ }
+{
+    let end = width(places, pair_of(queue[member]), symbol);
+    let mut slot: usize = 0;
+    let mut tail = tail;
+    while slot < end {
+        match step(places, marks, queue, group, symbol, member, slot, tail) {
+            Progress::Goal(x) => return Progress::Goal(x),
+            Progress::Tail(e) => tail = e,
+        }
+        slot += 1;
+    }
+    Progress::Tail(tail)
 }

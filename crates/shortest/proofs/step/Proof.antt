@@ -1,5 +1,5 @@
 use borrow.Author.Needs.{needs}
-use Rattle.shortest.specs.Progress.{step-passed, step-goal, step-fresh, fresh-within}
+use Rattle.shortest.specs.Progress.{step-passed, step-goal, step-fresh, fresh-within, member-kept}
 use Rattle.shortest.proofs.step.Statement.{statement}
 use Rattle.shortest.proofs.step.Tie as tie
 use Rattle.shortest.proofs.step.Reads as reads
@@ -80,7 +80,7 @@ same-length c = search needs
 
 -- src/lib.rt:188:1
 returns : tie.Need-returns
-returns c = search step-passed
+returns c = (search step-passed, search needs)
 
 -- src/lib.rt:188:1
 same-length-2 : tie.Need-same-length-2
@@ -88,7 +88,7 @@ same-length-2 c = search needs
 
 -- src/lib.rt:188:1
 returns-2 : tie.Need-returns-2
-returns-2 c = search step-goal
+returns-2 c = (search step-goal, search needs)
 
 -- src/lib.rt:188:1
 same-length-3 : tie.Need-same-length-3
@@ -100,7 +100,7 @@ same-length-4 c = search needs
 
 -- src/lib.rt:188:1
 returns-3 : tie.Need-returns-3
-returns-3 c = search step-fresh
+returns-3 c = (search step-fresh, search member-kept)
 
 pub step-spec : {M : Type 1} → statement M
 step-spec =
