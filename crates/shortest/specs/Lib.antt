@@ -3,6 +3,7 @@ pub mod Backward
 pub mod Contracts
 pub mod Entries
 pub mod Frontier
+pub mod Groups
 pub mod Labels
 pub mod Leaves
 pub mod Links

@@ -63,3 +63,7 @@ module _ {f ms q : List ℕ} {tail a b t k c : ℕ} (laid : Laid f) (n : Numbere
   -- After the last member, the next symbol.
   pub rows-end : b ≤ k → t < 16 → Progressed f ms q a b (t + 1) a 0 (Tail tail)
   rows-end l h = went (row-begin (next-symbol (s .stage) l h))
+
+-- After the last symbol, every symbol is done.
+pub symbols-end : {f ms q : List ℕ} {tail a b t k c : ℕ} → Stands f ms q tail a b t k c → 16 ≤ t → Progressed f ms q a b 16 k c (Tail tail)
+symbols-end {t = t} s l = let e : t ≡ 16 = let h = s .stage .high in omega arith in went (rw e at s)

@@ -5,6 +5,7 @@
 // met by one message. Group after group, symbol after symbol, the search queues the pairs that come next, so messages ascend along the
 // queue, and the first pair of two ends that comes next has the least. The message is then read off the entries, back to front.
 
+use code::Word;
 use places::Layout;
 use places::Pair;
 ghost use mathlib.Core.Path.{_≡_};
@@ -14,6 +15,7 @@ ghost use Rattle.places.specs.Flat.{Laid, symbolAt, pairGraph};
 ghost use Rattle.places.specs.Roots.{Numbered};
 ghost use Rattle.places.specs.Steps.{Arrives};
 ghost use Rattle.shortest.specs.Contracts.{PlacesOf, Seen, Stands, Ready, Progressed};
+ghost use Rattle.shortest.specs.Queue.{Ascending, IsGroup};
 ghost use Rattle.shortest.specs.Entries.{entryOf, nodeOf, fromOf};
 ghost use Rattle.shortest.specs.Pairs.{firstFrom, toward, innerOf, width};
 
@@ -234,4 +236,67 @@ fn row(
         slot += 1;
     }
     Progress::Tail(tail)
+}
+
+// Deals with all members of a group for one symbol.
+fn rows(
+    places: &[u8],
+    marks: &mut [u16],
+    queue: &mut [u64],
+    group: Group,
+    symbol: usize,
+    tail: usize,
+) -> Progress
+    requires { ⌜ Laid (now places) × Numbered (now places) × (16384 ≤ length (now queue)) × (symbol < 16) × Stands (now places) (now marks) (now queue) tail (group .start) (group .end) symbol (group .start) 0 ⌝ }
+    ensures { λ r. ⌜ Progressed (now (places .entry)) (now (marks .exit)) (now (queue .exit)) (group .start) (group .end) (symbol + 1) (group .start) 0 r ⌝ }
+{
+    let mut member = group.start;
+    let mut tail = tail;
+    while member < group.end {
+        match row(places, marks, queue, group, symbol, member, tail) {
+            Progress::Goal(x) => return Progress::Goal(x),
+            Progress::Tail(e) => tail = e,
+        }
+        member += 1;
+    }
+    Progress::Tail(tail)
+}
+
+// Deals with a group, symbol after symbol.
+fn symbols(
+    places: &[u8],
+    marks: &mut [u16],
+    queue: &mut [u64],
+    group: Group,
+    tail: usize,
+) -> Progress
+    requires { ⌜ Laid (now places) × Numbered (now places) × (16384 ≤ length (now queue)) × Stands (now places) (now marks) (now queue) tail (group .start) (group .end) 0 (group .start) 0 ⌝ }
+    ensures { λ r. ⌜ Progressed (now (places .entry)) (now (marks .exit)) (now (queue .exit)) (group .start) (group .end) 16 (group .start) 0 r ⌝ }
+{
+    let mut symbol: usize = 0;
+    let mut tail = tail;
+    while symbol < Word::ALPHABET as usize {
+        match rows(places, marks, queue, group, symbol, tail) {
+            Progress::Goal(x) => return Progress::Goal(x),
+            Progress::Tail(e) => tail = e,
+        }
+        symbol += 1;
+    }
+    Progress::Tail(tail)
+}
+
+// The end of the group that starts at a place.
+fn group_end(places: &[u8], queue: &[u64], start: usize, tail: usize) -> usize
+    requires { ⌜ Laid (now places) × Ascending (pairGraph (now places)) (now queue) tail × (start < tail) × (tail ≤ length (now queue)) ⌝ }
+    ensures { λ r. ⌜ IsGroup (pairGraph (now (places .entry))) (now (queue .entry)) tail start r ⌝ }
+{
+    let first = key(places, queue[start]);
+    let mut end = start + 1;
+    while end < tail {
+        if key(places, queue[end]) != first {
+            return end;
+        }
+        end += 1;
+    }
+    end
 }
