@@ -18,7 +18,7 @@ use Rattle.shortest.specs.declared.Exploration.the-variants.{Goal as Rea
 use Rattle.shortest.specs.declared.Search.{Search}
 use Rattle.shortest.specs.declared.Search.the-variants.{Found, Nothing}
 use Rattle.shortest.specs.Answer.{Least, Without}
-use Rattle.shortest.specs.Entries.{nodeAt}
+use Rattle.shortest.specs.Entries.{nodeAt, fromAt}
 use Rattle.shortest.specs.Labels.{Label, Labelled}
 use Rattle.shortest.specs.Pairs.{toward}
 use Rattle.shortest.specs.Queue.{Between}
@@ -73,3 +73,35 @@ pub record Met (f q : List ℕ) (a t : ℕ) : Type 0 where
 pub data Progressed (f ms q : List ℕ) (a b t k c : ℕ) : Progress → Type 0 where
   met : {x : ℕ} → Met f q a x → Progressed f ms q a b t k c (Goal x)
   went : {e : ℕ} → Stands f ms q e a b t k c → Progressed f ms q a b t k c (Tail e)
+
+-- After the group that begins at a.
+pub data Expanded (f ms q : List ℕ) (a : ℕ) : Expansion → Type 0 where
+  ended : {x : ℕ} → Met f q a x → Expanded f ms q a (Ended x)
+  moved : {b e : ℕ} → a < b → Between (pairGraph f) ms q e b → Expanded f ms q a (Next b e)
+
+-- After all groups.
+pub data Explored (f q : List ℕ) : Exploration → Type 0 where
+  reached : {a x : ℕ} → Met f q a x → Explored f q (Reached a x)
+  exhausted : Without (pairGraph f) → Explored f q Exhausted
+
+-- The source stands at the front of the queue.
+pub record Seeded (q : List ℕ) : Type 0 where
+  pub node : nodeAt q 0 ≡ 16384
+  pub from : fromAt q 0 ≡ 0
+
+-- No pair is marked.
+pub record Clear (ms : List ℕ) : Type 0 where
+  pub long : length ms ≡ 16384
+  pub clear : (v : ℕ) → getD ms v 0 ≡ 0
+
+-- The message list held o; now the least message, of n symbols, stands at its front.
+pub record Message (f o p : List ℕ) (n : ℕ) : Type 0 where
+  pub symbols : List ℕ
+  pub long : length symbols ≡ n
+  pub least : Least (pairGraph f) symbols
+  pub list : p ≡ symbols ++ drop n o
+
+-- The answer, and what becomes of the message list o.
+pub data Answers (f o p : List ℕ) : Search → Type 0 where
+  found : {n : ℕ} → Message f o p n → Answers f o p (Found n)
+  nothing : p ≡ o → Without (pairGraph f) → Answers f o p Nothing

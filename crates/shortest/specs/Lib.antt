@@ -16,3 +16,4 @@ pub mod Rows
 pub mod Spelling
 pub mod Triangle
 pub mod Turns
+pub mod Writing

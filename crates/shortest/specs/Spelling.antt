@@ -73,20 +73,23 @@ module _ {q : List ℕ} {start : ℕ} where
       record { rest = h .count; here = h .depth; whole = rw z (h .depth); low = omega arith }
 
   module _ {place count : ℕ} (c : Counted q start place count) where
-    pub count-some : 0 < place → 1 ≤ fromAt q place
-    count-some l = depth-step (c .here) l .some
+    -- `from` of a place that is not the source.
+    module _ {r : ℕ} (e : r ≡ fromAt q place) (l : 0 < place) where
+      pub count-some : 1 ≤ r
+      count-some = let h = depth-step (c .here) l .some in omega arith
 
-    pub count-falls : 0 < place → fromAt q place - 1 < place
-    count-falls l = depth-step (c .here) l .falls
+      pub count-falls : r - 1 < place
+      count-falls = let h = depth-step (c .here) l .falls in omega arith
+
+      pub count-next : Counted q start (r - 1) (count + 1)
+      count-next =
+          let s = depth-step (c .here) l in
+          let z : count + c .rest ≡ count + 1 + s .rest = let d = s .count in omega arith in
+          let y : r - 1 ≡ fromAt q place - 1 = omega arith in
+          record { rest = s .rest; here = rw y (s .depth); whole = rw z at (c .whole); low = let h = s .falls in let k = c .low in omega arith }
 
     pub count-most : count ≤ start
     count-most = let h = depth-most (c .whole) in omega arith
-
-    pub count-next : 0 < place → Counted q start (fromAt q place - 1) (count + 1)
-    count-next l =
-        let s = depth-step (c .here) l in
-        let z : count + c .rest ≡ count + 1 + s .rest = let e = s .count in omega arith in
-        record { rest = s .rest; here = s .depth; whole = rw z at (c .whole); low = let h = s .falls in let k = c .low in omega arith }
 
     pub count-end : place ≤ 0 → Depth q start count
     count-end l =
@@ -181,21 +184,23 @@ module _ {g : Graph} {q : List ℕ} {start count : ℕ} {o : List ℕ} where
     fill-by e (source z) l = absurd (omega arith)
     fill-by e (grown h d s x) l = fill-more t e h d s x
 
-    -- One symbol more is stored.
-    pub fill-next : 0 < place → Filled g q start count o (fromAt q place - 1) (at - 1) (set p (at - 1) (g .symbol (nodeAt q place)))
-    fill-next l = fill-by refl (t .here) l
-
     fill-depth : Depth q place at
     fill-depth = rw (t .before) at (label-depth (t .here))
 
     pub fill-some : 0 < place → 1 ≤ at
     fill-some l = let s = depth-step fill-depth l .count in omega arith
 
-    pub fill-from : 0 < place → 1 ≤ fromAt q place
-    fill-from l = depth-step fill-depth l .some
+    -- `from` of a place that is not the source.
+    module _ {r : ℕ} (e : r ≡ fromAt q place) (l : 0 < place) where
+      pub fill-from : 1 ≤ r
+      fill-from = let h = depth-step fill-depth l .some in omega arith
 
-    pub fill-falls : 0 < place → fromAt q place - 1 < place
-    fill-falls l = depth-step fill-depth l .falls
+      pub fill-falls : r - 1 < place
+      fill-falls = let h = depth-step fill-depth l .falls in omega arith
+
+      -- One symbol more is stored.
+      pub fill-next : {x : ℕ} → x ≡ g .symbol (nodeAt q place) → Filled g q start count o (r - 1) (at - 1) (set p (at - 1) x)
+      fill-next d = rw (e, d) (fill-by refl (t .here) l)
 
     fill-all : {r : List ℕ} → t .rest ≡ r → Label g q place r → place ≤ 0 → p ≡ reverse (t .word) ++ drop count o
     fill-all e (source z) l =

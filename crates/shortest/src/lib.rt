@@ -14,8 +14,9 @@ ghost use lib.ListN.{length, getD};
 ghost use Rattle.places.specs.Flat.{Laid, symbolAt, pairGraph};
 ghost use Rattle.places.specs.Roots.{Numbered};
 ghost use Rattle.places.specs.Steps.{Arrives};
-ghost use Rattle.shortest.specs.Contracts.{PlacesOf, Seen, Stands, Ready, Progressed};
-ghost use Rattle.shortest.specs.Queue.{Ascending, IsGroup};
+ghost use Rattle.shortest.specs.Contracts.{PlacesOf, Seen, Stands, Ready, Met, Progressed, Expanded, Explored, Seeded, Clear, Message, Answers};
+ghost use Rattle.shortest.specs.Queue.{Ascending, IsGroup, Between};
+ghost use Rattle.shortest.specs.Spelling.{HasDepth, Depth, Spelled, Stored};
 ghost use Rattle.shortest.specs.Entries.{entryOf, nodeOf, fromOf};
 ghost use Rattle.shortest.specs.Pairs.{firstFrom, toward, innerOf, width};
 
@@ -299,4 +300,123 @@ fn group_end(places: &[u8], queue: &[u64], start: usize, tail: usize) -> usize
         end += 1;
     }
     end
+}
+
+// Deals with the group that starts at a place.
+fn expand(
+    places: &[u8],
+    marks: &mut [u16],
+    queue: &mut [u64],
+    start: usize,
+    tail: usize,
+) -> Expansion
+    requires { ⌜ Laid (now places) × Numbered (now places) × (16384 ≤ length (now queue)) × (start < tail) × (tail ≤ 8257) × Between (pairGraph (now places)) (now marks) (now queue) tail start ⌝ }
+    ensures { λ r. ⌜ Expanded (now (places .entry)) (now (marks .exit)) (now (queue .exit)) start r ⌝ }
+{
+    let end = group_end(places, queue, start, tail);
+    let group = Group {
+        start: start,
+        end: end,
+    };
+    match symbols(places, marks, queue, group, tail) {
+        Progress::Goal(x) => Expansion::Goal(x),
+        Progress::Tail(e) => Expansion::Next(end, e),
+    }
+}
+
+// Deals with group after group.
+fn explore(places: &[u8], marks: &mut [u16], queue: &mut [u64]) -> Exploration
+    requires { ⌜ Laid (now places) × Numbered (now places) × (16384 ≤ length (now queue)) × Between (pairGraph (now places)) (now marks) (now queue) 1 0 ⌝ }
+    ensures { λ r. ⌜ Explored (now (places .entry)) (now (queue .exit)) r ⌝ }
+{
+    let mut start: usize = 0;
+    let mut tail: usize = 1;
+    while start < tail {
+        match expand(places, marks, queue, start, tail) {
+            Expansion::Goal(x) => return Exploration::Goal(start, x),
+            Expansion::Next(b, e) => {
+                start = b;
+                tail = e;
+            }
+        }
+    }
+    Exploration::Exhausted
+}
+
+// Puts the source at the front of the queue.
+fn seed(queue: &mut [u64])
+    requires { ⌜ 16384 ≤ length (now queue) ⌝ }
+    ensures { λ _. ⌜ Seeded (now (queue .exit)) ⌝ }
+{
+    let source = Pair {
+        low: Layout::PLACES,
+        high: 0,
+    };
+    queue[0] = entry(0, source);
+}
+
+// How many steps lead from a place to the source.
+fn depth(queue: &[u64], start: usize) -> usize
+    requires { ⌜ HasDepth (now queue) start × (start < length (now queue)) × (start < 16384) ⌝ }
+    ensures { λ r. ⌜ Depth (now (queue .entry)) start r ⌝ }
+{
+    let mut place = start;
+    let mut count: usize = 0;
+    while 0 < place {
+        place = from_of(queue[place]) - 1;
+        count += 1;
+    }
+    count
+}
+
+// Writes the label of a place, of `count` symbols, to the front of the message, the last symbol first.
+fn fill(places: &[u8], queue: &[u64], message: &mut [u8], start: usize, count: usize)
+    requires { ⌜ Laid (now places) × Spelled (pairGraph (now places)) (now queue) start count × (start < length (now queue)) × (count ≤ length (now message)) ⌝ }
+    ensures { λ _. ⌜ Stored (pairGraph (now (places .entry))) (now (queue .entry)) start count (now (message .entry)) (now (message .exit)) ⌝ }
+{
+    let mut place = start;
+    let mut at = count;
+    while 0 < place {
+        let entry = queue[place];
+        let pair = pair_of(entry);
+        let high = pair.high;
+        at -= 1;
+        message[at] = places[high];
+        place = from_of(entry) - 1;
+    }
+}
+
+// Writes the label of a group and one symbol more.
+fn write(
+    places: &[u8],
+    queue: &[u64],
+    message: &mut [u8],
+    start: usize,
+    symbol: usize,
+) -> usize
+    requires { ⌜ Laid (now places) × Met (now places) (now queue) start symbol × (16384 ≤ length (now queue)) × (8256 ≤ length (now message)) ⌝ }
+    ensures { λ r. ⌜ Message (now (places .entry)) (now (message .entry)) (now (message .exit)) r ⌝ }
+{
+    let count = depth(queue, start);
+    message[count] = symbol as u8;
+    fill(places, queue, message, start, count);
+    count + 1
+}
+
+// The length of the shortest message of a walk from a first pair to a pair of two ends, the earliest in symbol order among equals; the
+// message stands at the front of its buffer. The marks are clear at first. What the queue then holds is of no use to the caller.
+pub fn shortest(
+    places: &[u8],
+    marks: &mut [u16],
+    queue: &mut [u64],
+    message: &mut [u8],
+) -> Search
+    requires { ⌜ Laid (now places) × Numbered (now places) × Clear (now marks) × (16384 ≤ length (now queue)) × (8256 ≤ length (now message)) ⌝ }
+    ensures { λ r. ⌜ Answers (now (places .entry)) (now (message .entry)) (now (message .exit)) r ⌝ }
+{
+    seed(queue);
+    match explore(places, marks, queue) {
+        Exploration::Goal(a, x) => Search::Found(write(places, queue, message, a, x)),
+        Exploration::Exhausted => Search::Nothing,
+    }
 }
