@@ -35,9 +35,6 @@ module _ {f q : List ℕ} {a t : ℕ} (m : Met f q a t) where
   pub met-depth : HasDepth q a
   met-depth = record { count = length (m .labelled .word); depth = label-depth (m .labelled .label) }
 
-  pub met-count : {n : ℕ} → Depth q a n → n < 8256
-  met-count d = let h = depth-most d in let k = m .small in omega arith
-
   pub met-spelled : {n : ℕ} → Depth q a n → Spelled (pairGraph f) q a n
   met-spelled d =
       record { word = m .labelled .word; label = m .labelled .label; long = depth-unique (label-depth (m .labelled .label)) d }
@@ -49,13 +46,13 @@ module _ {f q : List ℕ} {a t : ℕ} (m : Met f q a t) where
       ap (λ (r : List ℕ). reverse w ++ r) (drop-cons (set o n t) n 0 k)
       ∙ rw (getD-set-same o n t 0 l, drop-set-lt (suc n) o n t (omega arith), reverse-cons t w, append-assoc, add-one)
 
-  pub met-message : {o p : List ℕ} {n : ℕ} → Stored (pairGraph f) q a n (set o n t) p → n < length o → Message f o p (n + 1)
-  met-message {o} {p} {n} s l =
+  pub met-message : {o p : List ℕ} {n : ℕ} → Stored (pairGraph f) q a n (set o n t) p → n ≤ a → 8256 ≤ length o → Message f o p (n + 1)
+  met-message {o} {p} {n} s h k =
       record {
         symbols = reverse (t ∷ s .word);
         long = length-reverse (t ∷ s .word) ∙ (let e = s .long in omega arith);
         least = m .least (s .word) (s .label);
-        list = s .list ∙ written-list (s .word) o n l;
+        list = s .list ∙ written-list (s .word) o n (let l = m .small in omega arith);
       }
 
 -- shortest

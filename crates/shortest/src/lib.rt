@@ -358,7 +358,7 @@ fn seed(queue: &mut [u64])
 // How many steps lead from a place to the source.
 fn depth(queue: &[u64], start: usize) -> usize
     requires { ⌜ HasDepth (now queue) start × (start < length (now queue)) × (start < 16384) ⌝ }
-    ensures { λ r. ⌜ Depth (now (queue .entry)) start r ⌝ }
+    ensures { λ r. ⌜ Depth (now (queue .entry)) start r × (r ≤ start) ⌝ }
 {
     let mut place = start;
     let mut count: usize = 0;

@@ -47,7 +47,7 @@ loop-again c = search count-next
 
 -- src/lib.rt:359:1
 returns : tie.Need-returns Inv-loop μ-loop
-returns c = search count-end
+returns c = (search count-end, search count-most)
 
 pub depth-spec : {M : Type 1} → statement M
 depth-spec =

@@ -1,4 +1,6 @@
 use borrow.Author.Needs.{needs}
+use Rattle.shortest.specs.Contracts.{found}
+use Rattle.shortest.specs.Writing.{started, was-reached, answer-nothing}
 use Rattle.shortest.proofs.shortest.Statement.{statement}
 use Rattle.shortest.proofs.shortest.Tie as tie
 use Rattle.shortest.proofs.shortest.Reads as reads
@@ -13,7 +15,7 @@ seed-requires c κs = search needs
 
 -- src/lib.rt:418:11
 explore-requires : tie.Need-explore-requires
-explore-requires c κs = ?
+explore-requires c κs = (search needs, search needs, search needs, search started)
 
 -- src/lib.rt:419:27
 enum-known-a : tie.Need-enum-known-a
@@ -21,7 +23,7 @@ enum-known-a c = search needs
 
 -- src/lib.rt:419:50
 write-requires : tie.Need-write-requires
-write-requires c κs = ?
+write-requires c κs = let x = c .before .before .before in (search needs, was-reached (x .before .before .before .before .before .before .explore .ensures) (x .a .given .1), search needs, search needs)
 
 -- src/lib.rt:420:35
 enum-told : tie.Need-enum-told
@@ -41,7 +43,7 @@ same-length-3 c = search needs
 
 -- src/lib.rt:408:1
 returns : tie.Need-returns
-returns c = ?
+returns c = search found
 
 -- src/lib.rt:408:1
 same-length-4 : tie.Need-same-length-4
@@ -53,7 +55,7 @@ same-length-5 c = search needs
 
 -- src/lib.rt:408:1
 returns-2 : tie.Need-returns-2
-returns-2 c = ?
+returns-2 c = search answer-nothing
 
 pub shortest-spec : {M : Type 1} → statement M
 shortest-spec =
