@@ -1,5 +1,10 @@
+pub mod Tests
 pub mod Firsts
 pub mod Text
 pub mod Walks
 pub mod Flat
 pub mod Readings
+pub mod Matches
+pub mod Marks
+pub mod Choices
+pub mod Marking

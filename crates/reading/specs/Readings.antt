@@ -16,7 +16,7 @@ use Rattle.reading.specs.Text.{Text, Bounded, From, done, word as first}
 use Rattle.reading.specs.Flat.{stride, lengthAt, wordAt, mayAfter, Flat, Lays, Stands, text}
 
 pub flat-bounded : {symbols base follow : List ℕ} {n : ℕ} → Flat symbols base follow n → (m : List ℕ) → Bounded (text symbols base follow n m)
-flat-bounded l m = record { some = λ p x s. omega (arith, l .rises x (s .known)); fits = λ p x s. s .within }
+flat-bounded l m = record { some = λ p x s. omega (arith, l .shaped .rises x (s .0)); fits = λ p x s. s .1 .within }
 
 module _ {t : Table} {symbols base follow : List ℕ} {n : ℕ} (l : Lays t symbols base follow n) (m : List ℕ) where
   length-word : (x : ℕ) → x < n → length (word t x) ≡ lengthAt base x
@@ -57,21 +57,20 @@ module _ {t : Table} {symbols base follow : List ℕ} {n : ℕ} (l : Lays t symb
   cons {x} [] h r a = one {x = x} (rw (l .count) h)
   cons {x} (z ∷ s) h r a = more {y = x} (rw (l .count) h) (rw (may-table z x (head-known r) h) at a) r
 
-  rest-word : {p y x : ℕ} (s : List ℕ) → Stands symbols base n m p x → mayAfter follow n x y ≡ true → Rest (p + lengthAt base x) x s → Rest p y (x ∷ s)
-  rest-word {p} {y} {x} s h a r = record {
-    permitted = cons s (h .known) (r .permitted) (r .after);
+  rest-word : {p y x : ℕ} (s : List ℕ) → x < n → Stands symbols base m p x → mayAfter follow n x y ≡ true → Rest (p + lengthAt base x) x s → Rest p y (x ∷ s)
+  rest-word {p} {y} {x} s k h a r = record {
+    permitted = cons s k (r .permitted) (r .after);
     after = a;
-    joined = rw (r .joined, ← l .words x (h .known), ← h .equal, ← drop-drop (lengthAt base x) p m) (take-append-drop (lengthAt base x) (drop p m));
+    joined = rw (r .joined, ← l .words x k, ← h .equal, ← drop-drop (lengthAt base x) p m) (take-append-drop (lengthAt base x) (drop p m));
   }
 
   rest-of : {p y : ℕ} {s : List ℕ} → From (text symbols base follow n m) p y s → Rest p y s
   rest-of {p} (done e) = record { permitted = none; after = tt; joined = sym (drop-of-length-le m {i = p} (omega arith)) }
-  rest-of (first {s = s} h a f) = rest-word s h a (rest-of f)
+  rest-of (first {s = s} h a f) = rest-word s (h .0) (h .1) a (rest-of f)
 
   module _ {p y x : ℕ} (s : List ℕ) (within : p ≤ length m) (r : Rest p y (x ∷ s)) where
-    stands-first : Stands symbols base n m p x
+    stands-first : Stands symbols base m p x
     stands-first = record {
-      known = known;
       within = omega (arith, simp (length-append, length-drop) at (ap length (r .joined)), length-word x known);
       equal = rw (← r .joined, l .words x known) (take-at (word t x) (message t s) (lengthAt base x) (length-word x known));
     }
@@ -91,7 +90,7 @@ module _ {t : Table} {symbols base follow : List ℕ} {n : ℕ} (l : Lays t symb
 
   from-rest : (s : List ℕ) (p y : ℕ) → p ≤ length m → Rest p y s → From (text symbols base follow n m) p y s
   from-rest [] p y h r = done (end-of h r)
-  from-rest (x ∷ s) p y h r = first (stands-first s h r) (r .after) (from-rest s (p + lengthAt base x) x (stands-first s h r .within) (rest-after s h r))
+  from-rest (x ∷ s) p y h r = first (head-known (r .permitted), stands-first s h r) (r .after) (from-rest s (p + lengthAt base x) x (stands-first s h r .within) (rest-after s h r))
 
   -- Reading from the first position after the start is reading by the table.
   pub from-reads : (s : List ℕ) → From (text symbols base follow n m) 0 n s → Reads t m s

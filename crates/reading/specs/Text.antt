@@ -29,11 +29,15 @@ module _ (K : Text) where
     done : {p y : ℕ} → p ≡ K .end → From p y []
     word : {p y x : ℕ} {s : List ℕ} → K .stands p x → K .may x y → From (p + K .len x) x s → From p y (x ∷ s)
 
+  -- The message can be read from position p to its end, after y.
+  pub record Can (p y : ℕ) : Type 0 where
+    pub rest : List ℕ
+    pub reads : From p y rest
+
   -- Word x stands at position p, and what follows it can be read.
   pub record Begins (p x : ℕ) : Type 0 where
     pub here : K .stands p x
-    pub rest : List ℕ
-    pub reads : From (p + K .len x) x rest
+    pub after : Can (p + K .len x) x
 
   -- Word x begins a reading from position p after y.
   pub record Opens (p y x : ℕ) : Type 0 where
@@ -68,7 +72,7 @@ module _ {K : Text} (bounded : Bounded K) where
   opened : {P : Type 0} {p y x : ℕ} (v : List ℕ) → K .stands p x → From K p y v
       → ((z : ℕ) (t : List ℕ) → Opens K p y z → From K (p + K .len z) z t → v ≡ z ∷ t → P) → P
   opened {p = p} {x = x} v h (done e) to = absurd (omega (arith, bounded .some p x h, bounded .fits p x h))
-  opened v h (word {x = z} {s = t} g m f) to = to z t (record { begins = record { here = g; rest = t; reads = f }; after = m }) f refl
+  opened v h (word {x = z} {s = t} g m f) to = to z t (record { begins = record { here = g; after = record { rest = t; reads = f } }; after = m }) f refl
 
   -- The least reading begins with the lowest word and goes on with the least reading after it.
   pub least-word : {p y x : ℕ} {s : List ℕ} → Lowest K p y x → Least (From K (p + K .len x) x) s → Least (From K p y) (x ∷ s)

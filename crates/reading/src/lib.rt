@@ -1,5 +1,3 @@
 // Reading a message: whether no, one or several permitted sequences of words have it, and the first two of them.
 
-pub fn one() -> usize {
-    1
-}
+mod marks;
