@@ -8,3 +8,5 @@ pub mod Matches
 pub mod Marks
 pub mod Choices
 pub mod Marking
+pub mod Shown
+pub mod Steps
