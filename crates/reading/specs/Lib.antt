@@ -10,3 +10,4 @@ pub mod Choices
 pub mod Marking
 pub mod Shown
 pub mod Steps
+pub mod Answers

@@ -16,7 +16,7 @@ use Rattle.reading.specs.Firsts.{Least, Only, FirstPair, only-least}
 use Rattle.reading.specs.Text.{Text, Bounded, From, Can, Begins, Lowest, Highest, Next, only-end}
 use Rattle.reading.specs.Walks.{Walked, Branch, walked-none, branch-none, walked-on, branch-kept, branch-new}
 use Rattle.reading.specs.Flat.{lengthAt, Shaped}
-use Rattle.reading.specs.Choices.{Sought, sought-some, sought-lowest, sought-next, sought-highest}
+use Rattle.reading.specs.Choices.{Sought, Tells, sought-some, sought-lowest, sought-next, sought-highest}
 use Rattle.reading.specs.Shown.{shown, Sure, sure-tells}
 
 -- The walk w after a step with word x of a length, where z is the next word that could be taken, or n.
@@ -122,16 +122,22 @@ pub record Taken (base : List ℕ) (n end p x : ℕ) : Type 0 where
   pub fits : p + lengthAt base x ≤ end
 
 module _ {base follow work : List ℕ} {n end : ℕ} (walkable : Walkable base follow work n end) where
-  pub sought-taken : {p y x : ℕ} → p < end → Can (shown base follow work n end) p y → Sought work follow n p y 0 x → Taken base n end p x
-  sought-taken {p} {y} {x} h can s = record {
-    known = known;
-    rises = omega (arith, walkable .shaped .rises x known);
-    some = omega (arith, walkable .shaped .rises x known);
-    fits = walkable .sure .bounded .fits p x (sought-lowest (sure-tells (walkable .sure) p) s known .opens .begins .here);
+  pub begins-taken : {p x : ℕ} → x < n → Begins (shown base follow work n end) p x → Taken base n end p x
+  begins-taken {p} {x} h b = record {
+    known = h;
+    rises = omega (arith, walkable .shaped .rises x h);
+    some = omega (arith, walkable .shaped .rises x h);
+    fits = walkable .sure .bounded .fits p x (b .here);
   }
+
+  pub sought-taken : {p y x : ℕ} → p < end → Can (shown base follow work n end) p y → Sought work follow n p y 0 x → Taken base n end p x
+  sought-taken {p} {y} {x} h can s = begins-taken known (sought-lowest tells s known .opens .begins)
     where
+      tells : Tells (shown base follow work n end) work follow n p
+      tells = sure-tells (walkable .sure) p
+
       known : x < n
-      known = sought-some (sure-tells (walkable .sure) p) s h can
+      known = sought-some tells s h can
 
   module _ {p₀ y₀ k x z : ℕ} {old new : List ℕ} {w : Walk} (h : Walking (shown base follow work n end) n p₀ y₀ k old new w) (before : w .pos < end)
       (room : end ≤ length old) (s : Sought work follow n (w .pos) (w .last) 0 x) (t : Sought work follow n (w .pos) (w .last) (x + 1) z) where

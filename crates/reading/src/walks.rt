@@ -1,13 +1,16 @@
 // The readings that the marks show: the first, and from the last step where another word could be taken, the second.
 
 use crate::marks::{continues, seek};
+use code::{Reading, Refusal, WordCount};
 
 ghost use mathlib.Core.Path.{_≡_};
 ghost use Prim.Native.Nat.{_+_, _^_, _≤_, _<_};
-ghost use lib.ListN.{length};
+ghost use mathlib.Core.List.{_∷_, _++_};
+ghost use lib.ListN.{length, take, drop};
 ghost use Rattle.reading.specs.Text.{Can};
 ghost use Rattle.reading.specs.Shown.{shown};
-ghost use Rattle.reading.specs.Steps.{advanced, Walkable, Ended};
+ghost use Rattle.reading.specs.Steps.{advanced, Walkable, Taken, Ended};
+ghost use Rattle.reading.specs.Answers.{Branched, Second, Answer};
 
 // How far a walk has come: how many words it took, to which position, and which word last. At step `at`, which began at position `start`, it could also have
 // taken the word `other`, and no step after that one had a choice; where no step had, `other` is the number of words.
@@ -78,4 +81,73 @@ fn least_reading(
         w = advance(w, x, base[x + 1] - base[x], z, n);
     }
     w
+}
+
+// Copies the first `count` entries.
+fn copy_first(to: &mut [u8], from: &[u8], count: usize)
+    requires { ⌜ (count ≤ length (now to)) × (count ≤ length (now from)) ⌝ }
+    ensures { λ _. ⌜ now (to .exit) ≡ take count (now (from .entry)) ++ drop count (now (to .entry)) ⌝ }
+{
+    let mut i: usize = 0;
+    while i < count {
+        to[i] = from[i];
+        i += 1;
+    }
+}
+
+// Copies the first `at` entries of `first`, and writes `other` behind them.
+fn copy_branch(first: &[u8], second: &mut [u8], at: usize, other: usize)
+    requires { ⌜ (at ≤ length (now first)) × (at < length (now second)) × (other < 256) ⌝ }
+    ensures { λ _. ⌜ now (second .exit) ≡ take at (now (first .entry)) ++ (other ∷ drop (at + 1) (now (second .entry))) ⌝ }
+{
+    copy_first(second, first, at);
+    second[at] = other as u8;
+}
+
+// Writes into `second` the words of `first` before step `at` of the walk, the other word there, and the least reading after it. Gives how many words these are.
+fn second_reading(
+    base: &[usize],
+    follow: &[u8],
+    n: usize,
+    end: usize,
+    work: &[u64],
+    first: &[u8],
+    second: &mut [u8],
+    w: Walk,
+) -> usize
+    requires { ⌜ Walkable (now base) (now follow) (now work) n end × Branched (shown (now base) (now follow) (now work) n end) n w
+        × Taken (now base) n end (w .start) (w .other) × (w .at ≤ length (now first)) × (end ≤ length (now second)) ⌝ }
+    ensures { λ r. ⌜ Second (shown (now (base .entry)) (now (follow .entry)) (now (work .entry)) n end) (now (first .entry)) (now (second .entry)) (now (second .exit)) w r ⌝ }
+{
+    let at = w.at;
+    let other = w.other;
+    copy_branch(first, second, at, other);
+    let after = w.start + (base[other + 1] - base[other]);
+    let v = least_reading(base, follow, n, end, work, second, at + 1, after, other);
+    at + 1 + v.count
+}
+
+// The first two readings that the marks show, as far as there are any.
+pub fn first_readings(
+    base: &[usize],
+    follow: &[u8],
+    n: usize,
+    end: usize,
+    work: &[u64],
+    first: &mut [u8],
+    second: &mut [u8],
+) -> Reading
+    requires { ⌜ Walkable (now base) (now follow) (now work) n end × (end ≤ length (now first)) × (end ≤ length (now second)) ⌝ }
+    ensures { λ r. ⌜ Answer (shown (now (base .entry)) (now (follow .entry)) (now (work .entry)) n end) n
+        (now (first .entry)) (now (second .entry)) (now (first .exit)) (now (second .exit)) r ⌝ }
+{
+    if continues(follow, n, end, work, 0, n) {
+        let w = least_reading(base, follow, n, end, work, first, 0, 0, n);
+        if w.other == n {
+            return Reading::One(WordCount(w.count));
+        }
+        let count = second_reading(base, follow, n, end, work, first, second, w);
+        return Reading::Two(WordCount(w.count), WordCount(count));
+    }
+    Reading::Refused(Refusal::NoReading)
 }
