@@ -11,3 +11,4 @@ pub mod Marking
 pub mod Shown
 pub mod Steps
 pub mod Answers
+pub mod Core

@@ -27,7 +27,7 @@ abbrev pub Narrow : Text → Type 0
 Narrow K = (p x : ℕ) → K .stands p x → x < stride
 
 -- Past the end no word begins, so nothing is to be marked.
-pub marked-none : {K : Text} → Bounded K → Narrow K → (n : ℕ) → Marked K (replicate n 0) (K .end * stride)
+pub marked-none : {K : Text} → Bounded K → Narrow K → (n : ℕ) → Marked K (replicate n 0) (bitOfWord (K .end) 0)
 marked-none {K} bounded narrow n = record {
   sound = λ p x hx h e. not-both (bit-zero n (bitOfWord p x)) e;
   full = λ p x h o. absurd (omega (arith, bounded .some p x (o .here), bounded .fits p x (o .here), narrow p x (o .here)));
