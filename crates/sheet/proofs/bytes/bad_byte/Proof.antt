@@ -1,0 +1,25 @@
+-- Each way out is refusal 2 at one byte, by the tests that led there.
+use Rattle.sheet.specs.Fields.{bad-plain, bad-comma, bad-other}
+use mathlib.Core.Path.{sym, _∙_}
+use borrow.Author.Needs.{needs}
+use Rattle.sheet.proofs.bytes.bad_byte.Statement.{statement}
+use Rattle.sheet.proofs.bytes.bad_byte.Tie as tie
+use Rattle.sheet.proofs.bytes.is_digit.Reads as is-digit-reads
+
+returns : tie.Need-returns
+returns c = rw (c .if1 .taken)
+
+is-digit-requires : tie.Need-is-digit-requires
+is-digit-requires c κs = search needs
+
+returns-2 : tie.Need-returns-2
+returns-2 c = bad-plain _ _ (c .before .before .if1 .left) (sym (c .before .is-digit .ensures) ∙ c .if2 .taken)
+
+returns-3 : tie.Need-returns-3
+returns-3 c = bad-comma _ _ (c .before .before .before .if1 .left) (sym (c .before .before .is-digit .ensures) ∙ c .before .if2 .left) (c .if3 .taken)
+
+returns-4 : tie.Need-returns-4
+returns-4 c = bad-other _ _ (c .before .before .before .if1 .left) (sym (c .before .before .is-digit .ensures) ∙ c .before .if2 .left) (c .if3 .left)
+
+pub bad-byte-spec : {M : Type 1} → statement M
+bad-byte-spec = tie.close (tie.spec returns is-digit-requires returns-2 returns-3 returns-4)

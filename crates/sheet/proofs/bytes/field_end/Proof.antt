@@ -1,0 +1,64 @@
+-- The loop keeps where the digits end: the place reached, and the digits from there on.
+use borrow.Author.Needs.{needs}
+use mathlib.Core.Path.{_≡_, sym, _∙_}
+use Prim.Native.Nat.{_+_, _≤_, _-_}
+use native.Mathlib.Omega.{arith}
+use lib.ListN.{length, drop}
+use Rattle.sheet.specs.Fields.{leading, leading-on, leading-stop, leading-end}
+use Rattle.sheet.proofs.bytes.field_end.Statement.{statement}
+use Rattle.sheet.proofs.bytes.field_end.Tie as tie
+use Rattle.sheet.proofs.bytes.is_digit.Reads as is-digit-reads
+
+abbrev Inv-loop : tie.InvT-loop
+Inv-loop s at i₀ i = (i ≤ length s) × (i + length (leading (drop i s)) ≡ at + length (leading (drop at s)))
+
+abbrev μ-loop : tie.MeasureT-loop
+μ-loop s at i₀ i = length s - i
+
+loop-holds : tie.Need-loop-holds Inv-loop μ-loop
+loop-holds c = search needs
+
+shared-slice-read-is-digit : tie.Need-shared-slice-read-is-digit Inv-loop μ-loop
+shared-slice-read-is-digit c = search needs
+
+is-digit-requires : tie.Need-is-digit-requires Inv-loop μ-loop
+is-digit-requires c κs = search needs
+
+add-i : tie.Need-add-i Inv-loop μ-loop
+add-i c = search needs
+
+loop-less : tie.Need-loop-less Inv-loop μ-loop
+loop-less c = search needs
+
+loop-again : tie.Need-loop-again Inv-loop μ-loop
+loop-again c = let l = c .before .before .before .before .loop in
+    let s = c .before .before .before .before .before .before .args .s .now in
+    let z = leading-on s (l .i) (search needs) (sym (c .before .is-digit .ensures) ∙ c .if1 .taken) in
+    (search needs, omega (arith, l .inv .1))
+
+returns : tie.Need-returns Inv-loop μ-loop
+returns c = let l = c .before .before .before .before .loop in
+    let s = c .before .before .before .before .before .before .args .s .now in
+    let z = leading-stop s (l .i) (search needs) (sym (c .before .is-digit .ensures) ∙ c .if1 .left) in
+    (omega (arith, l .inv .1), search needs)
+
+returns-2 : tie.Need-returns-2 Inv-loop μ-loop
+returns-2 c = let l = c .before .loop in
+    let s = c .before .before .before .args .s .now in
+    let z = leading-end s (l .i) (search needs) in
+    (omega (arith, l .inv .1), search needs)
+
+pub field-end-spec : {M : Type 1} → statement M
+field-end-spec =
+    tie.close
+    (tie.spec
+    Inv-loop
+    μ-loop
+    loop-holds
+    shared-slice-read-is-digit
+    is-digit-requires
+    add-i
+    loop-less
+    loop-again
+    returns
+    returns-2)

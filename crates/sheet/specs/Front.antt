@@ -1,0 +1,89 @@
+-- What stands at the front of a clean byte string: the digits of a field, and after them the end, a comma or a CR LF. A pass goes from field to field by this.
+use mathlib.Core.Path.{_≡_, refl, sym, ap, _∙_}
+use mathlib.Core.Bool.{Bool, true, false}
+use mathlib.Core.List.{List, [], _∷_, nil≢cons, head-eq-of-cons-eq, tail-eq-of-cons-eq}
+use Prim.Native.Nat.{ℕ, suc, _+_, _≤_, _<_}
+use native.Mathlib.Numerals.{add-one}
+use native.Mathlib.Omega.{arith}
+use lib.ListN.{length, drop, getD, length-drop, drop-of-length-le}
+use lib.Seq.{drop-cons, drop-drop}
+use Rattle.code.specs.Definitions.Sheets.{isDigit, push}
+use Rattle.code.specs.Laws.Clean.{Clean, none, digit, comma, line, recordFields, recordFields-none, recordFields-digit, recordFields-comma, recordFields-line}
+use Rattle.sheet.specs.Fields.{leading}
+
+-- g are the fields, record by record, of a string whose first field is f and that goes on with t
+pub data Front (g : List (List (List ℕ))) (f : List ℕ) : List ℕ → Type 0 where
+  at-end : g ≡ (f ∷ []) ∷ [] → Front g f []
+  at-comma : {t : List ℕ} → Clean t → g ≡ (f ∷ getD (recordFields t) 0 []) ∷ drop 1 (recordFields t) → Front g f (44 ∷ t)
+  at-line : {t : List ℕ} → Clean t → g ≡ (f ∷ []) ∷ recordFields t → Front g f (13 ∷ 10 ∷ t)
+
+front-digit : (a : ℕ) {g h : List (List (List ℕ))} {f t : List ℕ} → h ≡ push a (getD g 0 []) ∷ drop 1 g → Front g f t → Front h (a ∷ f) t
+front-digit a e (at-end p) = at-end (e ∙ rw p)
+front-digit a e (at-comma c p) = at-comma c (e ∙ rw p)
+front-digit a e (at-line c p) = at-line c (e ∙ rw p)
+
+front-on : (a : ℕ) (s : List ℕ) → isDigit a ≡ true → Front (recordFields s) (leading s) (drop (length (leading s)) s)
+    → Front (recordFields (a ∷ s)) (leading (a ∷ s)) (drop (length (leading (a ∷ s))) (a ∷ s))
+unfolding leading
+front-on a s p r = rw p (front-digit a (recordFields-digit a s p) r)
+
+-- Every clean string is so made.
+pub front : {s : List ℕ} → Clean s → Front (recordFields s) (leading s) (drop (length (leading s)) s)
+unfolding leading
+front none = at-end recordFields-none
+front (digit {a} {s} p c) = front-on a s p (front c)
+front (comma {s} c) = at-comma c (recordFields-comma s)
+front (line {s} c) = at-line c (recordFields-line s)
+
+-- What a test of the byte after the field tells.
+pub record Next (g : List (List (List ℕ))) (f t : List ℕ) : Type 0 where
+  pub clean : Clean t
+  pub same : g ≡ (f ∷ getD (recordFields t) 0 []) ∷ drop 1 (recordFields t)
+
+pub record Down (g : List (List (List ℕ))) (f t : List ℕ) : Type 0 where
+  pub clean : Clean t
+  pub same : g ≡ (f ∷ []) ∷ recordFields t
+
+module _ {g : List (List (List ℕ))} {f : List ℕ} where
+  is-end : {u : List ℕ} → Front g f u → u ≡ [] → g ≡ (f ∷ []) ∷ []
+  is-end (at-end p) e = p
+  is-end (at-comma {t} c p) e = absurd (nil≢cons (sym e))
+  is-end (at-line {t} c p) e = absurd (nil≢cons (sym e))
+
+  is-comma : {u t : List ℕ} → Front g f u → u ≡ 44 ∷ t → Next g f t
+  is-comma (at-end p) e = absurd (nil≢cons e)
+  is-comma {t = t} (at-comma {t = v} c p) e = moved v t (tail-eq-of-cons-eq e) c p
+    where
+      moved : (v t : List ℕ) → v ≡ t → Clean v → g ≡ (f ∷ getD (recordFields v) 0 []) ∷ drop 1 (recordFields v) → Next g f t
+      moved v t q c p = record { clean = rw q at c; same = rw q at p }
+  is-comma (at-line c p) e = absurd (no-comma (head-eq-of-cons-eq e))
+    where
+      no-comma : _≡_ {A = ℕ} 13 44 → ⊥
+      no-comma z = omega arith
+
+  is-line : {u t : List ℕ} {b : ℕ} → Front g f u → u ≡ b ∷ t → (b ≡ 44 → ⊥) → Down g f (drop 1 t) × (1 ≤ length t)
+  is-line (at-end p) e n = absurd (nil≢cons e)
+  is-line (at-comma c p) e n = absurd (n (sym (head-eq-of-cons-eq e)))
+  is-line {t = t} (at-line {t = v} c p) e n = moved v t (tail-eq-of-cons-eq e) c p
+    where
+      moved : (v t : List ℕ) → 10 ∷ v ≡ t → Clean v → g ≡ (f ∷ []) ∷ recordFields v → Down g f (drop 1 t) × (1 ≤ length t)
+      moved v t q c p = rw (← q) (record { clean = c; same = p }, omega arith)
+
+-- The same by position: the field that begins at `at` ends at e.
+module _ (s : List ℕ) (at e : ℕ) (c : Clean (drop at s)) (q : e ≡ at + length (leading (drop at s))) where
+  front-at : Front (recordFields (drop at s)) (leading (drop at s)) (drop e s)
+  front-at = rw (q, ← drop-drop (length (leading (drop at s))) at s) (front c)
+
+  pub field-last : length s ≤ e → recordFields (drop at s) ≡ (leading (drop at s) ∷ []) ∷ []
+  field-last h = is-end front-at (drop-of-length-le s h)
+
+  pub field-comma : e < length s → getD s e 0 ≡ 44 → Next (recordFields (drop at s)) (leading (drop at s)) (drop (e + 1) s)
+  field-comma h k = rw add-one (is-comma front-at (drop-cons s e 0 h ∙ rw k))
+
+  pub field-line : e < length s → (getD s e 0 ≡ 44 → ⊥) → Down (recordFields (drop at s)) (leading (drop at s)) (drop (e + 2) s) × (e + 2 ≤ length s)
+  field-line h n =
+      let r = is-line front-at (drop-cons s e 0 h) n in
+      (rw (drop-drop 1 (suc e) s, two) at (r .0), omega (arith, r .1, length-drop (suc e) s))
+    where
+      two : suc e + 1 ≡ e + 2
+      two = omega arith
