@@ -1,7 +1,7 @@
 -- What the bits of a position tell of the words that open a reading there: whether there is one, the lowest, the next above it. Where the bits are right, the
 -- least usable word from a number on is the least that opens a reading.
-use mathlib.Core.Path.{_≡_}
-use mathlib.Core.Bool.{Bool, true, false, _&&_}
+use mathlib.Core.Path.{_≡_, sym, _∙_}
+use mathlib.Core.Bool.{Bool, true, false, false≢true, _&&_, and-eq-true-iff}
 use mathlib.Core.List.{List, [], _∷_}
 use Prim.Native.Nat.{ℕ, _+_, _*_, _^_, _≤_, _<_}
 use native.Mathlib.Decide.{decLt}
@@ -10,7 +10,7 @@ use borrow.Author.Tests.{lt-ltb, le-ltb}
 use lib.Dec.{ltb}
 use lib.ListN.{length}
 use Rattle.bits.specs.Bits.{bitAt}
-use Rattle.reading.specs.Tests.{Decides, says-yes, says-no, not-both, both-true}
+use Rattle.table.specs.Exactly.{Exactly, exactly-true, exactly-false}
 use Rattle.reading.specs.Firsts.{by-order}
 use Rattle.reading.specs.Text.{Text, Bounded, From, done, word, Can, Begins, Opens, Lowest, Highest, Next}
 use Rattle.reading.specs.Flat.{stride, mayAfter, text}
@@ -55,16 +55,16 @@ pub none-more : (work follow : List ℕ) (n p y from x : ℕ) → NoneUsable wor
 none-more work follow n p y from x before at z a b = by-order z x (before z a) (λ e. rw e at) (λ h. absurd (omega arith))
 
 -- Before the end, a search from the first word on decides whether some word is usable.
-pub sought-continues : {work follow : List ℕ} {n end p y r : ℕ} → (p ≡ end → ⊥) → Sought work follow n p y 0 r → Decides (ltb r n) (Continues work follow n end p y)
+pub sought-continues : {work follow : List ℕ} {n end p y r : ℕ} → (p ≡ end → ⊥) → Sought work follow n p y 0 r → Exactly (ltb r n) (Continues work follow n end p y)
 sought-continues {work} {follow} {n} {end} {p} {y} {r} ne s = by (decLt r n)
   where
     not-yet : n ≤ r → Continues work follow n end p y → ⊥
     not-yet h (at-end e) = ne e
-    not-yet h (by-word x k u) = not-both (s .none x (omega arith) (omega arith)) u
+    not-yet h (by-word x k u) = false≢true (sym (s .none x (omega arith) (omega arith)) ∙ u)
 
-    by : Dec (r < n) → Decides (ltb r n) (Continues work follow n end p y)
-    by (yes h) = rw (lt-ltb r n h) (says-yes (by-word r h (s .is h)))
-    by (no h) = rw (le-ltb r n (omega arith)) (says-no (not-yet (omega arith)))
+    by : Dec (r < n) → Exactly (ltb r n) (Continues work follow n end p y)
+    by (yes h) = rw (lt-ltb r n h) (exactly-true (by-word r h (s .is h)))
+    by (no h) = rw (le-ltb r n (omega arith)) (exactly-false (not-yet (omega arith)))
 
 opens-can : {K : Text} {p y x : ℕ} → Opens K p y x → Can K p y
 opens-can {x = x} o = record { rest = x ∷ o .begins .after .rest; reads = word (o .begins .here) (o .after) (o .begins .after .reads) }
@@ -86,7 +86,7 @@ module _ {K : Text} {work follow : List ℕ} {n p : ℕ} (tells : Tells K work f
 
   module _ {y from r : ℕ} (s : Sought work follow n p y from r) where
     sought-none : (z : ℕ) → from ≤ z → z < r → Opens K p y z → ⊥
-    sought-none z a b o = not-both (s .none z a b) (tells .uses y z o)
+    sought-none z a b o = false≢true (sym (s .none z a b) ∙ tells .uses y z o)
 
   -- Where the message can be read on before its end, some word is found.
   pub sought-some : {y r : ℕ} → Sought work follow n p y 0 r → p < K .end → Can K p y → r < n
@@ -94,7 +94,7 @@ module _ {K : Text} {work follow : List ℕ} {n p : ℕ} (tells : Tells K work f
     where
       by : Continues work follow n (K .end) p y → r < n
       by (at-end e) = absurd (omega arith)
-      by (by-word x k u) = by-order x r (λ b. not-both (s .none x (omega arith) b) u) (λ e. omega arith) (λ b. omega arith)
+      by (by-word x k u) = by-order x r (λ b. absurd (false≢true (sym (s .none x (omega arith) b) ∙ u))) (λ e. omega arith) (λ b. omega arith)
 
   pub sought-lowest : {y r : ℕ} → Sought work follow n p y 0 r → r < n → Lowest K p y r
   sought-lowest {y} {r} s h = record { opens = tells .opens y r h (s .is h); low = λ z b o. sought-none s z (omega arith) b o }
@@ -114,7 +114,7 @@ pub marked-tells : {symbols base follow m work : List ℕ} {n b : ℕ} (p : ℕ)
     → Tells (text symbols base follow n m) work follow n p
 unfolding usable
 marked-tells {follow = follow} {work = work} {n = n} p small m h = record {
-  opens = λ y x k u. let b = both-true (bitAt work (bitOfWord p x)) (mayAfter follow n x y) u in record { begins = m .sound p x (omega arith) (omega arith) (b .0); after = b .1 };
+  opens = λ y x k u. let b = and-eq-true-iff (bitAt work (bitOfWord p x)) (mayAfter follow n x y) .0 u in record { begins = m .sound p x (omega arith) (omega arith) (b .0); after = b .1 };
   known = λ y x o. o .begins .here .0;
   uses = λ y x o. rw (m .full p x (omega arith) (o .begins)) (o .after);
 }

@@ -6,7 +6,7 @@ use Prim.Native.Nat.{ℕ, _+_, _-_, _*_, _^_, _≤_, _<_}
 use native.Mathlib.Omega.{arith}
 use lib.ListN.{length}
 use Rattle.bits.specs.Bits.{SetBit}
-use Rattle.reading.specs.Tests.{Decides}
+use Rattle.table.specs.Exactly.{Exactly}
 use Rattle.reading.specs.Text.{Text, Begins}
 use Rattle.reading.specs.Flat.{stride, lengthAt, Flat, Stands, text}
 use Rattle.reading.specs.Marks.{bitOfWord, Marked, marked-on, marked-down}
@@ -37,11 +37,11 @@ module _ {symbols base follow m work : List ℕ} {n x : ℕ} (p : ℕ) (ready : 
       (omega (arith, ready .flat .shaped .rises x known, ready .flat .shaped .small))
 
   -- A word that stands at p begins there where the message can be read after it.
-  pub begins-where : {r : Bool} → Stands symbols base m p x → Decides r (Continues work follow n (length m) (p + lengthAt base x) x)
-      → Decides r (Begins (text symbols base follow n m) p x)
+  pub begins-where : {r : Bool} → Stands symbols base m p x → Exactly r (Continues work follow n (length m) (p + lengthAt base x) x)
+      → Exactly r (Begins (text symbols base follow n m) p x)
   begins-where s d = record {
-    yes-is = λ e. record { here = (known, s); after = continues-can tells-after (d .yes-is e) };
-    no-is = λ e b. d .no-is e (can-continues tells-after (b .after));
+    yes = λ e. record { here = (known, s); after = continues-can tells-after (d .yes e) };
+    no = λ e b. d .no e (can-continues tells-after (b .after));
   }
 
   pub mark-off : (Begins (text symbols base follow n m) p x → ⊥) → Marked (text symbols base follow n m) work (bitOfWord p x)

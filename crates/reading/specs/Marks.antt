@@ -1,14 +1,13 @@
 -- One bit for each position and word: on where the word begins a reading of the rest. They are set from the last bit down, so that whatever a position asks about
 -- lies among the bits that are set already.
 use mathlib.Core.Path.{_≡_, sym, _∙_}
-use mathlib.Core.Bool.{true, false}
+use mathlib.Core.Bool.{true, false, false≢true}
 use mathlib.Core.List.{List}
 use Prim.Native.Nat.{ℕ, _+_, _*_, _≤_, _<_}
 use native.Mathlib.Decide.{decLt, ℕ-discrete}
 use native.Mathlib.Omega.{arith}
 use lib.ListN.{replicate}
 use Rattle.bits.specs.Bits.{bitAt, SetBit, bit-zero}
-use Rattle.reading.specs.Tests.{not-both}
 use Rattle.reading.specs.Text.{Text, Bounded, Begins}
 use Rattle.reading.specs.Flat.{stride}
 
@@ -29,7 +28,7 @@ Narrow K = (p x : ℕ) → K .stands p x → x < stride
 -- Past the end no word begins, so nothing is to be marked.
 pub marked-none : {K : Text} → Bounded K → Narrow K → (n : ℕ) → Marked K (replicate n 0) (bitOfWord (K .end) 0)
 marked-none {K} bounded narrow n = record {
-  sound = λ p x hx h e. not-both (bit-zero n (bitOfWord p x)) e;
+  sound = λ p x hx h e. absurd (false≢true (sym (bit-zero n (bitOfWord p x)) ∙ e));
   full = λ p x h o. absurd (omega (arith, bounded .some p x (o .here), bounded .fits p x (o .here), narrow p x (o .here)));
   off = λ k h. bit-zero n k;
 }
@@ -38,7 +37,7 @@ module _ {K : Text} {work : List ℕ} where
   -- Bits where no word begins need no mark.
   pub marked-down : {b : ℕ} (d : ℕ) → Marked K work b → d ≤ b → ((p x : ℕ) → d ≤ bitOfWord p x → bitOfWord p x < b → Begins K p x → ⊥) → Marked K work d
   marked-down {b} d m h none = record {
-    sound = λ p x hx g e. by-bit p x (λ k. not-both (m .off _ k) e) (λ k. m .sound p x hx k e);
+    sound = λ p x hx g e. by-bit p x (λ k. absurd (false≢true (sym (m .off _ k) ∙ e))) (λ k. m .sound p x hx k e);
     full = λ p x g o. by-bit p x (λ k. absurd (none p x g k o)) (λ k. m .full p x k o);
     off = λ k g. m .off k (omega arith);
   }

@@ -7,7 +7,7 @@ use native.Mathlib.Numerals.{add-one}
 use native.Mathlib.Omega.{arith}
 use lib.ListN.{length, take, drop, getD, length-drop}
 use lib.Seq.{take-suc, getD-take, getD-drop}
-use Rattle.reading.specs.Tests.{Decides, says-yes, says-no}
+use Rattle.table.specs.Exactly.{Exactly, exactly-true, exactly-false}
 use Rattle.reading.specs.Flat.{lengthAt, Stands}
 
 -- From p in a and from q in b the first j symbols are the same.
@@ -24,15 +24,15 @@ pub not-alike : (a b : List ℕ) (p q j n : ℕ) → j < n → (getD a (p + j) 0
 not-alike a b p q j n h ne e = ne (simp (getD-take, getD-drop, h) at (ap (λ (l : List ℕ). getD l j 0) e))
 
 module _ {symbols base m : List ℕ} {p x : ℕ} where
-  pub too-short : p ≤ length m → length m - p < lengthAt base x → Decides false (Stands symbols base m p x)
-  too-short h s = says-no λ w. omega (arith, w .within)
+  pub too-short : p ≤ length m → length m - p < lengthAt base x → Exactly false (Stands symbols base m p x)
+  too-short h s = exactly-false λ w. omega (arith, w .within)
 
-  pub differs : {j : ℕ} → j < lengthAt base x → (getD m (p + j) 0 ≡ getD symbols (getD base x 0 + j) 0 → ⊥) → Decides false (Stands symbols base m p x)
-  differs {j} h ne = says-no λ w. not-alike m symbols p (getD base x 0) j (lengthAt base x) h ne (w .equal)
+  pub differs : {j : ℕ} → j < lengthAt base x → (getD m (p + j) 0 ≡ getD symbols (getD base x 0 + j) 0 → ⊥) → Exactly false (Stands symbols base m p x)
+  differs {j} h ne = exactly-false λ w. not-alike m symbols p (getD base x 0) j (lengthAt base x) h ne (w .equal)
 
   pub matches : {j : ℕ} → p ≤ length m → lengthAt base x ≤ length m - p → j ≤ lengthAt base x → lengthAt base x ≤ j → Alike m symbols p (getD base x 0) j
-      → Decides true (Stands symbols base m p x)
-  matches {j} h l a b e = says-yes (record { within = omega arith; equal = rw f at e })
+      → Exactly true (Stands symbols base m p x)
+  matches {j} h l a b e = exactly-true (record { within = omega arith; equal = rw f at e })
     where
       f : j ≡ lengthAt base x
       f = omega arith

@@ -12,6 +12,7 @@ use lib.ListN.{length, take, drop, getD, length-append, length-drop, take-append
 use lib.Seq.{length-take-le, take-at, drop-at, drop-drop}
 use Rattle.code.specs.Definitions.Tables.{Table, size, word, Permitted, none, one, more, message}
 use Rattle.code.specs.Definitions.Readings.{Reads}
+use Rattle.code.specs.Laws.Sequences.{first-word, second-follows, rest-permitted}
 use Rattle.reading.specs.Text.{Text, Bounded, From, done, word as first}
 use Rattle.reading.specs.Flat.{stride, lengthAt, wordAt, mayAfter, Flat, Lays, Stands, text}
 
@@ -34,8 +35,7 @@ module _ {t : Table} {symbols base follow : List ℕ} {n : ℕ} (l : Lays t symb
     joined : message t s ≡ drop p m
 
   head-known : {x : ℕ} {s : List ℕ} → Permitted t (x ∷ s) → x < n
-  head-known (one h) = rw (← l .count) h
-  head-known (more h f r) = rw (← l .count) h
+  head-known r = rw (← l .count) (first-word r)
 
   -- x may come after y in the flat lists just where it may in the table.
   may-table : (x y : ℕ) → x < n → y < n → mayAfter follow n x y ≡ t .follow x y
@@ -47,11 +47,7 @@ module _ {t : Table} {symbols base follow : List ℕ} {n : ℕ} (l : Lays t symb
 
   after-word : {x : ℕ} (s : List ℕ) → Permitted t (x ∷ s) → After x s
   after-word [] r = tt
-  after-word {x} (z ∷ s) (more h f r) = may-table z x (head-known r) (head-known (more h f r)) ∙ f
-
-  tail : {x : ℕ} (s : List ℕ) → Permitted t (x ∷ s) → Permitted t s
-  tail [] r = none
-  tail (z ∷ s) (more h f r) = r
+  after-word {x} (z ∷ s) r = may-table z x (head-known (rest-permitted r)) (head-known r) ∙ second-follows r
 
   cons : {x : ℕ} (s : List ℕ) → x < n → Permitted t s → After x s → Permitted t (x ∷ s)
   cons {x} [] h r a = one {x = x} (rw (l .count) h)
@@ -80,7 +76,7 @@ module _ {t : Table} {symbols base follow : List ℕ} {n : ℕ} (l : Lays t symb
 
     rest-after : Rest (p + lengthAt base x) x s
     rest-after = record {
-      permitted = tail s (r .permitted);
+      permitted = rest-permitted (r .permitted);
       after = after-word s (r .permitted);
       joined = rw (← drop-drop (lengthAt base x) p m, ← r .joined) (sym (drop-at (word t x) (message t s) (lengthAt base x) (length-word x (head-known (r .permitted)))));
     }

@@ -1,12 +1,11 @@
 -- Once every position is marked, the marks alone show the message: the text in which a word stands where its bit is on has the same readings.
 use mathlib.Core.Path.{_≡_}
-use mathlib.Core.Bool.{true}
+use mathlib.Core.Bool.{true, and-eq-true-iff}
 use mathlib.Core.List.{List, _∷_}
 use Prim.Native.Nat.{ℕ, _+_, _≤_, _<_}
 use native.Mathlib.Omega.{arith}
 use lib.ListN.{length}
 use Rattle.bits.specs.Bits.{bitAt}
-use Rattle.reading.specs.Tests.{both-true}
 use Rattle.reading.specs.Text.{Text, Bounded, From, done, word, Can, Begins}
 use Rattle.reading.specs.Flat.{stride, lengthAt, mayAfter, Flat, text}
 use Rattle.reading.specs.Readings.{flat-bounded}
@@ -30,7 +29,7 @@ pub record Sure (base follow work : List ℕ) (n end : ℕ) : Type 0 where
 pub sure-tells : {base follow work : List ℕ} {n end : ℕ} → Sure base follow work n end → (p : ℕ) → Tells (shown base follow work n end) work follow n p
 unfolding usable
 sure-tells {follow = follow} {work = work} {n = n} s p = record {
-  opens = λ y x k u. let b = both-true (bitAt work (bitOfWord p x)) (mayAfter follow n x y) u in record { begins = s .begins p x k (b .0); after = b .1 };
+  opens = λ y x k u. let b = and-eq-true-iff (bitAt work (bitOfWord p x)) (mayAfter follow n x y) .0 u in record { begins = s .begins p x k (b .0); after = b .1 };
   known = λ y x o. o .begins .here .0;
   uses = λ y x o. rw (o .begins .here .1) (o .after);
 }

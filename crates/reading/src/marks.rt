@@ -6,7 +6,7 @@ use code::Code;
 ghost use mathlib.Core.Path.{_≡_};
 ghost use Prim.Native.Nat.{_+_, _*_, _≤_, _<_};
 ghost use lib.ListN.{length};
-ghost use Rattle.reading.specs.Tests.{Decides};
+ghost use Rattle.table.specs.Exactly.{Exactly};
 ghost use Rattle.reading.specs.Text.{Begins};
 ghost use Rattle.reading.specs.Flat.{stride, mayAfter, HasWord, Stands, text};
 ghost use Rattle.reading.specs.Marks.{bitOfWord, Marked};
@@ -16,7 +16,7 @@ ghost use Rattle.reading.specs.Marking.{Ready};
 // Whether word `x` stands at position `pos` of the message.
 fn stands(symbols: &[u8], base: &[usize], message: &[u8], pos: usize, x: usize) -> bool
     requires { ⌜ HasWord (now symbols) (now base) x × (pos ≤ length (now message)) ⌝ }
-    ensures { λ r. ⌜ Decides r (Stands (now (symbols .entry)) (now (base .entry)) (now (message .entry)) pos x) ⌝ }
+    ensures { λ r. ⌜ Exactly r (Stands (now (symbols .entry)) (now (base .entry)) (now (message .entry)) pos x) ⌝ }
 {
     let start = base[x];
     let len = base[x + 1] - start;
@@ -73,7 +73,7 @@ pub fn seek(follow: &[u8], n: usize, work: &[u64], pos: usize, y: usize, from: u
 // Whether the marks let the message be read from `pos` to its end, after `y`.
 pub fn continues(follow: &[u8], n: usize, end: usize, work: &[u64], pos: usize, y: usize) -> bool
     requires { ⌜ Asks (now work) (now follow) n pos y ⌝ }
-    ensures { λ r. ⌜ Decides r (Continues (now (work .entry)) (now (follow .entry)) n end pos y) ⌝ }
+    ensures { λ r. ⌜ Exactly r (Continues (now (work .entry)) (now (follow .entry)) n end pos y) ⌝ }
 {
     if pos == end {
         return true;
@@ -94,7 +94,7 @@ fn begins(
 ) -> bool
     requires { ⌜ Ready (now symbols) (now base) (now follow) n (now message) (now work) × (pos < length (now message)) × (x < n) × HasWord (now symbols) (now base) x
         × Marked (text (now symbols) (now base) (now follow) n (now message)) (now work) (bitOfWord pos x + 1) ⌝ }
-    ensures { λ r. ⌜ Decides r (Begins (text (now (symbols .entry)) (now (base .entry)) (now (follow .entry)) n (now (message .entry))) pos x) ⌝ }
+    ensures { λ r. ⌜ Exactly r (Begins (text (now (symbols .entry)) (now (base .entry)) (now (follow .entry)) n (now (message .entry))) pos x) ⌝ }
 {
     if stands(symbols, base, message, pos, x) {
         let after = pos + (base[x + 1] - base[x]);

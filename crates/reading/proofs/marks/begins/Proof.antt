@@ -1,6 +1,6 @@
 -- `marks::begins` meets its contract: where the word stands, the marks after it decide (`begins-where`); where it does not, it does not begin.
 use borrow.Author.Needs.{needs}
-use Rattle.reading.specs.Tests.{says-no}
+use Rattle.table.specs.Exactly.{exactly-false}
 use Rattle.reading.specs.Marking.{begins-where}
 use Rattle.reading.proofs.marks.begins.Statement.{statement}
 use Rattle.reading.proofs.marks.begins.Tie as tie
@@ -30,14 +30,14 @@ add-after-2 : tie.Need-add-after-2
 add-after-2 c = search needs
 
 continues-requires : tie.Need-continues-requires
-continues-requires c κs = let s = c .before .before .before .stands .ensures .yes-is (c .before .before .if1 .taken) in search needs
+continues-requires c κs = let s = c .before .before .before .stands .ensures .yes (c .before .before .if1 .taken) in search needs
 
 returns : tie.Need-returns
 returns c = let p = c .before .before .before .before .before .before .before .before .before .before .pre in
-    begins-where _ (p .0) (p .2) (p .4) (c .before .before .before .before .stands .ensures .yes-is (c .before .before .before .if1 .taken)) (c .continues .ensures)
+    begins-where _ (p .0) (p .2) (p .4) (c .before .before .before .before .stands .ensures .yes (c .before .before .before .if1 .taken)) (c .continues .ensures)
 
 returns-2 : tie.Need-returns-2
-returns-2 c = says-no λ b. c .before .stands .ensures .no-is (c .if1 .left) (b .here .1)
+returns-2 c = exactly-false λ b. c .before .stands .ensures .no (c .if1 .left) (b .here .1)
 
 pub begins-spec : {M : Type 1} → statement M
 begins-spec =

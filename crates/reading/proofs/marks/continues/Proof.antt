@@ -1,12 +1,12 @@
 -- `marks::continues` meets its contract: at the end by its first case, before it by what the search found (`sought-continues`).
 use borrow.Author.Needs.{needs}
-use Rattle.reading.specs.Tests.{says-yes}
+use Rattle.table.specs.Exactly.{exactly-true}
 use Rattle.reading.specs.Choices.{at-end, sought-continues}
 use Rattle.reading.proofs.marks.continues.Statement.{statement}
 use Rattle.reading.proofs.marks.continues.Tie as tie
 
 returns : tie.Need-returns
-returns c = says-yes (at-end (c .if1 .taken))
+returns c = exactly-true (at-end (c .if1 .taken))
 
 seek-requires : tie.Need-seek-requires
 seek-requires c κs = search needs

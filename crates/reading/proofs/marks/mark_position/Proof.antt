@@ -40,14 +40,14 @@ loop-less c = search needs
 
 loop-again : tie.Need-loop-again Inv-loop μ-loop
 loop-again c = let p = c .before .before .before .before .before .before .before .before .before .before .before .before .before .before .pre in let l = c .before .before .before .before .before .before .before .before .loop in let s = c .before .before .set .ensures in
-    (omega arith, s .long ∙ l .inv .1, mark-on _ (ready-kept (p .0) (l .inv .1)) (omega arith) (mark-next _ (omega arith) (l .inv .2)) (c .before .before .before .before .before .begins .ensures .yes-is (c .before .before .before .before .if1 .taken)) s)
+    (omega arith, s .long ∙ l .inv .1, mark-on _ (ready-kept (p .0) (l .inv .1)) (omega arith) (mark-next _ (omega arith) (l .inv .2)) (c .before .before .before .before .before .begins .ensures .yes (c .before .before .before .before .if1 .taken)) s)
 
 loop-less-2 : tie.Need-loop-less-2 Inv-loop μ-loop
 loop-less-2 c = search needs
 
 loop-again-2 : tie.Need-loop-again-2 Inv-loop μ-loop
 loop-again-2 c = let p = c .before .before .before .before .before .before .before .before .before .before .pre in let l = c .before .before .before .before .loop in
-    (omega arith, l .inv .1, mark-off _ (ready-kept (p .0) (l .inv .1)) (omega arith) (mark-next _ (omega arith) (l .inv .2)) (c .before .begins .ensures .no-is (c .if1 .left)))
+    (omega arith, l .inv .1, mark-off _ (ready-kept (p .0) (l .inv .1)) (omega arith) (mark-next _ (omega arith) (l .inv .2)) (c .before .begins .ensures .no (c .if1 .left)))
 
 same-length : tie.Need-same-length Inv-loop μ-loop
 same-length c = c .before .loop .inv .1

@@ -13,7 +13,7 @@ continues-requires c κs = search needs
 
 least-reading-requires : tie.Need-least-reading-requires
 least-reading-requires c κs = let p = c .before .before .before .before .before .before .before .before .pre in
-    (p .0, continues-can (sure-tells (p .0 .sure) 0) (c .before .before .continues .ensures .yes-is (c .before .if1 .taken)), omega arith, omega arith, omega arith, p .1)
+    (p .0, continues-can (sure-tells (p .0 .sure) 0) (c .before .before .continues .ensures .yes (c .before .if1 .taken)), omega arith, omega arith, omega arith, p .1)
 
 same-length : tie.Need-same-length
 same-length c = search needs
@@ -35,7 +35,7 @@ returns-2 : tie.Need-returns-2
 returns-2 c = let e = c .before .before .before .before .before .before .before .before .before .least-reading .ensures in answer-two e (branched e (c .before .before .before .before .before .if2 .left) .known) (c .before .before .second-reading .ensures)
 
 returns-3 : tie.Need-returns-3
-returns-3 c = let p = c .before .before .before .before .before .before .before .pre in answer-none λ r. c .before .continues .ensures .no-is (c .if1 .left) (can-continues (sure-tells (p .0 .sure) 0) r)
+returns-3 c = let p = c .before .before .before .before .before .before .before .pre in answer-none λ r. c .before .continues .ensures .no (c .if1 .left) (can-continues (sure-tells (p .0 .sure) 0) r)
 
 pub first-readings-spec : {M : Type 1} → statement M
 first-readings-spec =
