@@ -1,3 +1,4 @@
 pub mod Members
 pub mod Comparing
 pub mod Layers
+pub mod Verdicts
