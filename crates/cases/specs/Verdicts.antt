@@ -10,7 +10,7 @@ use native.Mathlib.Omega.{arith}
 use lib.Dec.{leb, eqb}
 use lib.ListN.{length}
 use borrow.Author.Tests.{leb-true, eqb-true, eq-eqb, not-true}
-use Rattle.code.specs.Definitions.Lists.{every}
+use Rattle.code.specs.Definitions.Lists.{every, sum}
 use Rattle.code.specs.Definitions.Tables.{Table, size}
 use Rattle.code.specs.Definitions.Orders.{Shortlex, shorter, earlier}
 use Rattle.code.specs.Definitions.Readings.{FirstTwo, Ambiguous, Decipherable}
@@ -58,7 +58,7 @@ module _ (t : Table) where
   delayIs (suc r) = leb 2 (size t) && longestIs r
 
   unfoldable pub isWithoutBound : Bool
-  unfolding quiet empty layer pairCount
+  unfolding quiet empty layer pairCount sum
   isWithoutBound = quiet (pairCount t) && not (empty (layer t (pairCount t)))
 
   -- The pair is not one of two ends, or its symbols are m or come after m.
