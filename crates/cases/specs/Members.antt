@@ -1,7 +1,7 @@
 -- Members of the lists that the checks compute: of what a test keeps, of lists joined to one, and of the numbers below a bound.
 use mathlib.Core.Path.{_≡_, refl, sym, ap, _∙_}
 use mathlib.Core.Bool.{Bool, true, false, false≢true, and-eq-true-iff}
-use mathlib.Core.List.{List, [], _∷_, flatMap, List·Memᴰ, List·Memᴰ·head, List·Memᴰ·tail, List·Memᴰ·not-nil, List·Memᴰ·cases-cons, List·Memᴰ·append-cases, List·Memᴰ·eq-of-singleton, Memᴰ·append-left, Memᴰ·append-right, Memᴰ·cast}
+use mathlib.Core.List.{List, [], _∷_, flatMap, List·Memᴰ, List·Memᴰ·head, List·Memᴰ·tail, List·Memᴰ·not-nil, List·Memᴰ·append-cases, List·Memᴰ·eq-of-singleton, Memᴰ·append-left, Memᴰ·append-right, Memᴰ·cast}
 use mathlib.Core.Logic.{_⊎_, inl, inr}
 use Prim.Native.Nat.{ℕ, zero, suc, _<_}
 use native.Mathlib.Decide.{ℕ-discrete}
@@ -24,10 +24,10 @@ module _ {A : Type 0} where
   empty-none e (List·Memᴰ·tail m) = false≢true e
 
   -- Another list has a member.
-  pub filled-some : (l : List A) → empty l ≡ false → Member l
+  pub some-member : (l : List A) → empty l ≡ false → Member l
   unfolding empty
-  filled-some [] e = absurd (false≢true (sym e))
-  filled-some (a ∷ l) e = record { a = a; member = List·Memᴰ·head refl }
+  some-member [] e = absurd (false≢true (sym e))
+  some-member (a ∷ l) e = record { a = a; member = List·Memᴰ·head refl }
 
   -- Where every member passes a test, each does.
   pub every-member : (f : A → Bool) {a : A} {l : List A} → every f l ≡ true → List·Memᴰ a l → f a ≡ true
