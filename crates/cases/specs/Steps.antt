@@ -32,20 +32,6 @@ module _ (t : Table) where
   unfolding keep numbers
   steps p = stepsInside p ++ stepsAcross p
 
-  inside-in : (p : Place) {q : Place} → suc (p .k) < length (word t (p .w)) → q ≡ nextPlace p → List·Memᴰ q (stepsInside p)
-  inside-in p h e = keep-in (λ q. isInside p) {l = nextPlace p ∷ []} (List·Memᴰ·head e) (lt-ltb _ _ h)
-
-  across-in : (p : Place) {q : Place} {x : ℕ} → Ends t p → x < size t → t .follow x (p .w) ≡ true → q ≡ firstPlace x → List·Memᴰ q (stepsAcross p)
-  across-in p {x = x} d h f e =
-      let on = and-eq-true-iff (isEnd t p) (t .follow x (p .w)) .1 (eq-eqb _ _ d, f) in
-      Memᴰ·cast e (Memᴰ·map firstPlace (keep-in (goesOn p) (numbers-in (size t) h) on))
-
-  -- Each place to which a step leads is in the list.
-  pub step-in : {p q : Place} → Step t p q → List·Memᴰ q (steps p)
-  unfolding steps
-  step-in {p} (inside h e) = Memᴰ·append-left (stepsAcross p) (inside-in p h e)
-  step-in {p} (across d h f e) = Memᴰ·append-right (stepsInside p) (across-in p d h f e)
-
   inside-out : (p : Place) {q : Place} → List·Memᴰ q (stepsInside p) → Step t p q
   inside-out p m = let o = keep-out (λ q. isInside p) (nextPlace p ∷ []) m in inside (ltb-true _ _ (o .1)) (List·Memᴰ·eq-of-singleton (o .0))
 
@@ -67,3 +53,17 @@ module _ (t : Table) where
       by : List·Memᴰ q (stepsInside p) ⊎ List·Memᴰ q (stepsAcross p) → Step t p q
       by (inl n) = inside-out p n
       by (inr n) = across-out p n
+
+  inside-in : (p : Place) {q : Place} → suc (p .k) < length (word t (p .w)) → q ≡ nextPlace p → List·Memᴰ q (stepsInside p)
+  inside-in p h e = keep-in (λ q. isInside p) {l = nextPlace p ∷ []} (List·Memᴰ·head e) (lt-ltb _ _ h)
+
+  across-in : (p : Place) {q : Place} {x : ℕ} → Ends t p → x < size t → t .follow x (p .w) ≡ true → q ≡ firstPlace x → List·Memᴰ q (stepsAcross p)
+  across-in p {x = x} d h f e =
+      let on = and-eq-true-iff (isEnd t p) (t .follow x (p .w)) .1 (eq-eqb _ _ d, f) in
+      Memᴰ·cast e (Memᴰ·map firstPlace (keep-in (goesOn p) (numbers-in (size t) h) on))
+
+  -- Each place to which a step leads is in the list.
+  pub step-in : {p q : Place} → Step t p q → List·Memᴰ q (steps p)
+  unfolding steps
+  step-in {p} (inside h e) = Memᴰ·append-left (stepsAcross p) (inside-in p h e)
+  step-in {p} (across d h f e) = Memᴰ·append-right (stepsInside p) (across-in p d h f e)
