@@ -32,14 +32,14 @@ pub record Case : Type 0 where
 abbrev pub caseTable : Case → Table
 caseTable c = record { words = c .words; follow = λ x y. eqb (getD (getD (c .rows) x []) y 0) 1 }
 
--- a verdict's meaning is that of 01: a delay, and no bound, go with a decipherable code
+-- What is expected, by the definitions. 01: "decipherable with its delay; decipherable without bound"
 abbrev pub Means : Table → Expected → Type 0
 Means t (delay N) = Decipherable t × Delay t N
 Means t withoutBound = Decipherable t × WithoutBound t
 Means t (ambiguous m s u) = Ambiguous t m s u
 Means t (onlyReading m s) = OnlyReading t m s
 
--- What is expected of the code holds, by the definitions.
+-- What is expected of the case's code holds.
 abbrev pub Holds : Case → Type 0
 Holds c = Means (caseTable c) (c .expected)
 
