@@ -11,7 +11,8 @@ use Rattle.code.specs.Definitions.Readings.{OnlyReading, Ambiguous, Decipherabl
 use Rattle.code.specs.Definitions.Delays.{Delay, WithoutBound}
 use Rattle.code.specs.Laws.Sequences.{NonEmpty}
 use Rattle.theory.specs.Bounded.{everyBelow, every-below}
-use Rattle.cases.specs.Verdicts.{delayIs, isWithoutBound, leastIs, delay-means, without-bound-means, ambiguous-means}
+use Rattle.cases.specs.Delays.{delayIs, isWithoutBound, delay-means, without-bound-means}
+use Rattle.cases.specs.Messages.{leastIs, ambiguous-means}
 use Rattle.cases.specs.Enumeration.{readings}
 use Rattle.cases.specs.Readings.{onlyOf, firstTwoOf, only-means, first-two-means}
 
@@ -28,18 +29,19 @@ pub record Case : Type 0 where
   pub expected : Expected
 
 -- 01: "The entry in row X, column Y is 1 if X may come immediately after Y, else 0"
-abbrev pub tableOf : Case → Table
-tableOf c = record { words = c .words; follow = λ x y. eqb (getD (getD (c .rows) x []) y 0) 1 }
+abbrev pub caseTable : Case → Table
+caseTable c = record { words = c .words; follow = λ x y. eqb (getD (getD (c .rows) x []) y 0) 1 }
 
+-- What is expected, by the definitions. 01: "decipherable with its delay; decipherable without bound"
 abbrev pub Means : Table → Expected → Type 0
 Means t (delay N) = Decipherable t × Delay t N
 Means t withoutBound = Decipherable t × WithoutBound t
 Means t (ambiguous m s u) = Ambiguous t m s u
 Means t (onlyReading m s) = OnlyReading t m s
 
--- What is expected of the code holds, by the definitions.
+-- What is expected of the case's code holds.
 abbrev pub Holds : Case → Type 0
-Holds c = Means (tableOf c) (c .expected)
+Holds c = Means (caseTable c) (c .expected)
 
 unfoldable pub isNonEmpty : Table → Bool
 unfolding everyBelow
@@ -55,7 +57,7 @@ isMeant t (onlyReading m s) = onlyOf (readings t m) s
 -- The words are not empty, and the layers of pairs and the lists of readings show what is expected.
 unfoldable pub check : Case → Bool
 unfolding isNonEmpty isMeant
-check c = isNonEmpty (tableOf c) && isMeant (tableOf c) (c .expected)
+check c = isNonEmpty (caseTable c) && isMeant (caseTable c) (c .expected)
 
 non-empty : (t : Table) → isNonEmpty t ≡ true → NonEmpty t
 unfolding isNonEmpty
@@ -74,5 +76,5 @@ meant t ne (onlyReading m s) e = only-means ne m s e
 pub sound : (c : Case) → check c ≡ true → Holds c
 unfolding check
 sound c e =
-    let a = and-eq-true-iff (isNonEmpty (tableOf c)) (isMeant (tableOf c) (c .expected)) .0 e in
-    meant (tableOf c) (non-empty (tableOf c) (a .0)) (c .expected) (a .1)
+    let a = and-eq-true-iff (isNonEmpty (caseTable c)) (isMeant (caseTable c) (c .expected)) .0 e in
+    meant (caseTable c) (non-empty (caseTable c) (a .0)) (c .expected) (a .1)

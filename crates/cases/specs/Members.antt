@@ -1,7 +1,7 @@
 -- Members of the lists that the checks compute: of what a test keeps, of lists joined to one, and of the numbers below a bound.
 use mathlib.Core.Path.{_≡_, refl, sym, ap, _∙_}
 use mathlib.Core.Bool.{Bool, true, false, false≢true, and-eq-true-iff}
-use mathlib.Core.List.{List, [], _∷_, flatMap, List·Memᴰ, List·Memᴰ·head, List·Memᴰ·tail, List·Memᴰ·not-nil, List·Memᴰ·cases-cons, List·Memᴰ·append-cases, List·Memᴰ·eq-of-singleton, Memᴰ·append-left, Memᴰ·append-right, Memᴰ·cast}
+use mathlib.Core.List.{List, [], _∷_, flatMap, List·Memᴰ, List·Memᴰ·head, List·Memᴰ·tail, List·Memᴰ·not-nil, List·Memᴰ·append-cases, List·Memᴰ·eq-of-singleton, Memᴰ·append-left, Memᴰ·append-right, Memᴰ·cast}
 use mathlib.Core.Logic.{_⊎_, inl, inr}
 use Prim.Native.Nat.{ℕ, zero, suc, _<_}
 use native.Mathlib.Decide.{ℕ-discrete}
@@ -24,10 +24,10 @@ module _ {A : Type 0} where
   empty-none e (List·Memᴰ·tail m) = false≢true e
 
   -- Another list has a member.
-  pub filled-some : (l : List A) → empty l ≡ false → Member l
+  pub some-member : (l : List A) → empty l ≡ false → Member l
   unfolding empty
-  filled-some [] e = absurd (false≢true (sym e))
-  filled-some (a ∷ l) e = record { a = a; member = List·Memᴰ·head refl }
+  some-member [] e = absurd (false≢true (sym e))
+  some-member (a ∷ l) e = record { a = a; member = List·Memᴰ·head refl }
 
   -- Where every member passes a test, each does.
   pub every-member : (f : A → Bool) {a : A} {l : List A} → every f l ≡ true → List·Memᴰ a l → f a ≡ true
@@ -45,7 +45,7 @@ module _ {A B : Type 0} (f : A → List B) where
   -- Lists joined to one have the members of each.
   pub flatMap-in : {a : A} {b : B} {l : List A} → List·Memᴰ a l → List·Memᴰ b (f a) → List·Memᴰ b (flatMap f l)
   unfolding flatMap
-  flatMap-in {b = b} (List·Memᴰ·head {xs = xs} h) m = Memᴰ·append-left (flatMap f xs) (rw h at m)
+  flatMap-in (List·Memᴰ·head {xs = xs} h) m = Memᴰ·append-left (flatMap f xs) (rw h at m)
   flatMap-in (List·Memᴰ·tail {x} n) m = Memᴰ·append-right (f x) (flatMap-in n m)
 
   source-later : {b : B} {x : A} {l : List A} → Source b l → Source b (x ∷ l)
@@ -55,13 +55,14 @@ module _ {A B : Type 0} (f : A → List B) where
   source-cases {x = x} ih (inl m) = record { a = x; member = List·Memᴰ·head refl; gives = m }
   source-cases ih (inr m) = source-later (ih m)
 
-  -- And no others.
+  -- A member of the joined list is a member of one of them.
   pub flatMap-out : {b : B} (l : List A) → List·Memᴰ b (flatMap f l) → Source b l
   unfolding flatMap
   flatMap-out [] m = absurd (List·Memᴰ·not-nil m)
   flatMap-out (x ∷ l) m = source-cases (λ n. flatMap-out l n) (List·Memᴰ·append-cases (f x) m)
 
 module _ {A : Type 0} (f : A → Bool) where
+  -- a, if it passes the test
   abbrev pub single : A → List A
   single a = if f a then a ∷ [] else []
 
@@ -97,6 +98,7 @@ unfolding numbers
 last-in {n = n} ih h (yes e) = Memᴰ·append-right (numbers n) (List·Memᴰ·head e)
 last-in {n = n} ih h (no e) = Memᴰ·append-left (n ∷ []) (ih (omega arith))
 
+-- The list has every number below n,
 pub numbers-in : {x : ℕ} (n : ℕ) → x < n → List·Memᴰ x (numbers n)
 numbers-in zero h = absurd (omega arith)
 numbers-in {x} (suc n) h = last-in (λ l. numbers-in n l) h (ℕ-discrete x n)
@@ -105,6 +107,7 @@ below-cases : {x n : ℕ} → (List·Memᴰ x (numbers n) → x < n) → List·M
 below-cases ih (inl m) = omega (arith, ih m)
 below-cases ih (inr m) = omega (arith, List·Memᴰ·eq-of-singleton m)
 
+-- and no other.
 pub numbers-out : {x : ℕ} (n : ℕ) → List·Memᴰ x (numbers n) → x < n
 unfolding numbers
 numbers-out zero m = absurd (List·Memᴰ·not-nil m)

@@ -1,5 +1,5 @@
 -- What the list of all readings of a message says of its only reading, and of its first two.
-use mathlib.Core.Path.{_≡_, refl, ap, ap₂}
+use mathlib.Core.Path.{_≡_, refl, ap}
 use mathlib.Core.Bool.{Bool, true, false, _&&_, false≢true, and-eq-true-iff}
 use mathlib.Core.List.{List, [], _∷_, List·Memᴰ, List·Memᴰ·head, List·Memᴰ·tail, List·Memᴰ·cases-cons, List·Memᴰ·eq-of-singleton}
 use mathlib.Core.Logic.{_⊎_, inl, inr}
@@ -59,15 +59,15 @@ module _ {t : Table} (ne : NonEmpty t) where
   pub only-means : (m s : List ℕ) → onlyOf (readings t m) s ≡ true → OnlyReading t m s
   only-means m s e =
       let l = only-list (readings t m) s e in
-      record { reads = reading-out t ne m (rw l (List·Memᴰ·head refl)); only = λ u r. List·Memᴰ·eq-of-singleton (rw l at (reading-in t ne r)) }
+      record { reads = reading-out t m (rw l (List·Memᴰ·head refl)); only = λ u r. List·Memᴰ·eq-of-singleton (rw l at (reading-in t ne r)) }
 
   -- What opens the list in order, before all the rest, are the first two readings.
   pub first-two-means : (m s u : List ℕ) → firstTwoOf (readings t m) s u ≡ true → FirstTwo t m s u
   first-two-means m s u e =
       let a = ascending (readings t m) s u e in
       record {
-        first = reading-out t ne m (rw (a .opens) (List·Memᴰ·head refl));
-        second = reading-out t ne m (rw (a .opens) (List·Memᴰ·tail (List·Memᴰ·head refl)));
+        first = reading-out t m (rw (a .opens) (List·Memᴰ·head refl));
+        second = reading-out t m (rw (a .opens) (List·Memᴰ·tail (List·Memᴰ·head refl)));
         order = a .order;
         later = λ v r d f. by a v d f (List·Memᴰ·cases-cons (rw (a .opens) at (reading-in t ne r)));
       }

@@ -1,4 +1,4 @@
--- The codes that 01 marks with a star, as one table. One statement, by computation, is the check of the whole table, and from it every entry holds.
+-- The codes that 01 marks with a star, as one table. A lone statement, proved by computation, says that the whole table passes the check; so every entry holds.
 use mathlib.Core.Path.{_≡_, refl}
 use mathlib.Core.Bool.{true}
 use mathlib.Core.List.{List, [], _∷_, List·Memᴰ}
@@ -12,14 +12,15 @@ use Rattle.cases.specs.Cases.{Case, delay, withoutBound, ambiguous, only
 abbrev pub allOne : ℕ → List (List ℕ)
 allOne n = replicate n (replicate n 1)
 
--- the words of codes T and U of 000, and U's rows
+-- the words of codes T and U of 000
 abbrev pub fourWords : List (List ℕ)
 fourWords = (0 ∷ []) ∷ (1 ∷ 0 ∷ []) ∷ (0 ∷ 1 ∷ []) ∷ (1 ∷ 0 ∷ 1 ∷ []) ∷ []
 
+-- the rows of code U
 abbrev pub rowsU : List (List ℕ)
 rowsU = (1 ∷ 1 ∷ 0 ∷ 0 ∷ []) ∷ (1 ∷ 1 ∷ 1 ∷ 1 ∷ []) ∷ (1 ∷ 1 ∷ 0 ∷ 0 ∷ []) ∷ (1 ∷ 1 ∷ 1 ∷ 1 ∷ []) ∷ []
 
--- 01, "Codes to hold it against", 1 to 10
+-- 01, "Codes to hold it against": 1 to 10, in this order
 abbrev pub starred : List Case
 starred =
     record { words = (0 ∷ []) ∷ []; rows = allOne 1; expected = delay 0 }
@@ -39,6 +40,6 @@ pub starred-checked : every check starred ≡ true
 unfolding every check
 starred-checked = refl
 
--- Every entry of the table holds.
+-- Every entry of the table holds, by the definitions.
 pub starred-hold : {c : Case} → List·Memᴰ c starred → Holds c
 starred-hold {c} m = sound c (every-member check starred-checked m)
