@@ -11,3 +11,4 @@ pub mod Shown
 pub mod Steps
 pub mod Answers
 pub mod Core
+pub mod Layout

@@ -1,5 +1,7 @@
 // Reading a message: whether no, one or several permitted sequences of words have it, and the first two of them.
 
+mod copies;
+mod layout;
 mod marks;
 mod walks;
 
