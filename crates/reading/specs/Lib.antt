@@ -12,3 +12,4 @@ pub mod Steps
 pub mod Answers
 pub mod Core
 pub mod Layout
+pub mod Public
