@@ -1,25 +1,28 @@
--- `walks::copy_first` meets its contract. The loop's invariant: the first `i` entries are copied. The measure is what is left.
+-- `copies::copy_at` meets its contract. The loop's invariant: the first `i` entries are copied. The measure is what is left.
 use Prim.Native.Nat.{_-_, _≤_}
 use borrow.Author.Needs.{needs}
-use lib.ListN.{length, take, drop, length-set}
-use mathlib.Core.List.{_++_}
-use mathlib.Core.Path.{_≡_, refl}
+use lib.ListN.{length, length-set}
+use lib.Seq.{paste, paste-zero, paste-suc}
+use mathlib.Core.Path.{_≡_}
+use native.Mathlib.Numerals.{add-one}
 use native.Mathlib.Omega.{arith}
-use Rattle.reading.specs.Answers.{copy-more}
-use Rattle.reading.proofs.walks.copy_first.Statement.{statement}
-use Rattle.reading.proofs.walks.copy_first.Tie as tie
+use Rattle.reading.proofs.copies.copy_at.Statement.{statement}
+use Rattle.reading.proofs.copies.copy_at.Tie as tie
 
 abbrev Inv-loop : tie.InvT-loop
-Inv-loop to₀ from count i₀ to i = (i ≤ count) × (length to ≡ length to₀) × (to ≡ take i from ++ drop i to₀)
+Inv-loop to₀ at from count i₀ to i = (i ≤ count) × (length to ≡ length to₀) × (to ≡ paste to₀ at from i)
 
 abbrev μ-loop : tie.MeasureT-loop
-μ-loop to₀ from count i₀ to i = count - i
+μ-loop to₀ at from count i₀ to i = count - i
 
 loop-holds : tie.Need-loop-holds Inv-loop μ-loop
-loop-holds c = (search needs, search needs, refl)
+loop-holds c = (search needs, search needs, let a = c .args in paste-zero (a .to .now) (a .at) (a .from .now))
 
 shared-slice-read-to : tie.Need-shared-slice-read-to Inv-loop μ-loop
 shared-slice-read-to c = search needs
+
+add-to : tie.Need-add-to Inv-loop μ-loop
+add-to c = search needs
 
 slice-write-to : tie.Need-slice-write-to Inv-loop μ-loop
 slice-write-to c = search needs
@@ -32,7 +35,7 @@ loop-less c = search needs
 
 loop-again : tie.Need-loop-again Inv-loop μ-loop
 loop-again c = let a = c .before .before .before .args in let l = c .before .before .loop in
-    (omega arith, simp length-set (l .inv .1), rw (l .inv .2) (copy-more (a .to .now) (a .from .now) (l .i) (omega arith) (omega arith)))
+    (omega arith, simp length-set (l .inv .1), rw (l .inv .2, add-one) (paste-suc (a .to .now) (a .at) (a .from .now) (l .i) 0 (omega arith) (omega arith)))
 
 same-length : tie.Need-same-length Inv-loop μ-loop
 same-length c = c .before .loop .inv .1
@@ -40,14 +43,15 @@ same-length c = c .before .loop .inv .1
 returns : tie.Need-returns Inv-loop μ-loop
 returns c = let l = c .before .loop in let e : l .i ≡ c .before .before .args .count = omega arith in rw e at (l .inv .2)
 
-pub copy-first-spec : {M : Type 1} → statement M
-copy-first-spec =
+pub copy-at-spec : {M : Type 1} → statement M
+copy-at-spec =
     tie.close
     (tie.spec
     Inv-loop
     μ-loop
     loop-holds
     shared-slice-read-to
+    add-to
     slice-write-to
     add-i
     loop-less
