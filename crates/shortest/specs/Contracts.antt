@@ -22,7 +22,7 @@ use Rattle.shortest.specs.Entries.{nodeAt, fromAt}
 use Rattle.shortest.specs.Labels.{Label, Labelled}
 use Rattle.shortest.specs.Pairs.{toward}
 use Rattle.shortest.specs.Queue.{Between}
-use Rattle.shortest.specs.Turns.{Row}
+use Rattle.shortest.specs.Turns.{SlotStage}
 
 -- The two places of a number, a node's or the source's.
 pub record PlacesOf (v : ℕ) (r : Pair) : Type 0 where
@@ -50,7 +50,7 @@ pub data Seen (f ms : List ℕ) (v t : ℕ) : Arrival → Type 0 where
 
 -- The search over the pairs of f stands at the slot c of member k, by symbol t, in the group a to b - 1.
 abbrev pub Stands : (f ms q : List ℕ) (tail a b t k c : ℕ) → Type 0
-Stands f ms q tail a b t k c = Row (pairGraph f) (toward f) ms q tail a b t k c
+Stands f ms q tail a b t k c = SlotStage (pairGraph f) (toward f) ms q tail a b t k c
 
 -- The lengths and numbers that a step reads.
 pub record Ready (ms q : List ℕ) (tail a b t k : ℕ) : Type 0 where
@@ -64,24 +64,24 @@ pub record Ready (ms q : List ℕ) (tail a b t k : ℕ) : Type 0 where
   pub node : nodeAt q k ≤ 16384
 
 -- A goal comes next after the group that begins at a, by symbol t, and no other has a message before that.
-pub record Met (f q : List ℕ) (a t : ℕ) : Type 0 where
+pub record GoalNext (f q : List ℕ) (a t : ℕ) : Type 0 where
   pub small : a < 8256
   pub low : t < 16
   pub labelled : Labelled (pairGraph f) q a
   pub least : (l : List ℕ) → Label (pairGraph f) q a l → Least (pairGraph f) (reverse (t ∷ l))
 
 pub data Progressed (f ms q : List ℕ) (a b t k c : ℕ) : Progress → Type 0 where
-  met : {x : ℕ} → Met f q a x → Progressed f ms q a b t k c (Goal x)
+  met : {x : ℕ} → GoalNext f q a x → Progressed f ms q a b t k c (Goal x)
   went : {e : ℕ} → Stands f ms q e a b t k c → Progressed f ms q a b t k c (Tail e)
 
 -- After the group that begins at a.
 pub data Expanded (f ms q : List ℕ) (a : ℕ) : Expansion → Type 0 where
-  ended : {x : ℕ} → Met f q a x → Expanded f ms q a (Ended x)
+  ended : {x : ℕ} → GoalNext f q a x → Expanded f ms q a (Ended x)
   moved : {b e : ℕ} → a < b → Between (pairGraph f) ms q e b → Expanded f ms q a (Next b e)
 
 -- After all groups.
 pub data Explored (f q : List ℕ) : Exploration → Type 0 where
-  reached : {a x : ℕ} → Met f q a x → Explored f q (Reached a x)
+  reached : {a x : ℕ} → GoalNext f q a x → Explored f q (Reached a x)
   exhausted : Without (pairGraph f) → Explored f q Exhausted
 
 -- The source stands at the front of the queue.

@@ -11,13 +11,13 @@ use Rattle.shortest.specs.declared.Progress.the-variants.{Goal, Tail}
 use Rattle.shortest.specs.declared.Expansion.{Expansion}
 use Rattle.shortest.specs.declared.Expansion.the-variants.{Goal as Ended, Next}
 use Rattle.shortest.specs.declared.Exploration.the-variants.{Goal as Reached, Exhausted}
-use Rattle.shortest.specs.Contracts.{Stands, Met, Progressed, Expanded, ended, moved, Explored, reached, exhausted}
+use Rattle.shortest.specs.Contracts.{Stands, GoalNext, Progressed, Expanded, ended, moved, Explored, reached, exhausted}
 use Rattle.shortest.specs.Entries.{nodeOf, fromOf}
 use Rattle.shortest.specs.Frontier.{no-goal}
 use Rattle.shortest.specs.Queue.{key, Ascending, IsGroup, Between}
 use Rattle.shortest.specs.Room.{tail-most}
-use Rattle.shortest.specs.Rows.{was-goal, was-tail}
-use Rattle.shortest.specs.Turns.{Run, run-more, run-end, row-begin, enter, next-group}
+use Rattle.shortest.specs.Parts.{was-goal, was-tail}
+use Rattle.shortest.specs.Turns.{Run, run-more, run-end, slots-begin, enter, next-group}
 
 -- The key of an entry, as the code has it.
 abbrev pub keyOf : List ℕ → ℕ → ℕ
@@ -35,7 +35,7 @@ module _ {f q : List ℕ} {tail a b : ℕ} (laid : Laid f) (s : Ascending (pairG
 
 -- A group that was found is entered.
 pub entered : {f ms q : List ℕ} {tail a b : ℕ} → Laid f → Between (pairGraph f) ms q tail a → IsGroup (pairGraph f) q tail a b → Stands f ms q tail a b 0 a 0
-entered laid s p = row-begin (enter s p)
+entered laid s p = slots-begin (enter s p)
 
 pub expand-goal : {f ms q : List ℕ} {a b t k c x : ℕ} {r : Progress} → Progressed f ms q a b t k c r → r ≡ Goal x → Expanded f ms q a (Ended x)
 expand-goal h e = ended (was-goal h e)
@@ -45,7 +45,7 @@ expand-next h d = let s = was-tail h d in moved (s .stage .group .some) (next-gr
 
 -- What each expansion says.
 module _ {f ms q : List ℕ} {a : ℕ} where
-  was-ended : {x : ℕ} {r : Expansion} → Expanded f ms q a r → r ≡ Ended x → Met f q a x
+  was-ended : {x : ℕ} {r : Expansion} → Expanded f ms q a r → r ≡ Ended x → GoalNext f q a x
   was-ended {x} (ended {x = y} h) e = let z : y ≡ x = cc in rw z at h
   was-ended (moved l h) e = let z : _≡_ {A = ℕ} 0 1 = cc in absurd (omega arith)
 

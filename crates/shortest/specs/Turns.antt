@@ -25,17 +25,17 @@ pub record Slots (g : Graph) (to width : ℕ → ℕ → ℕ) : Type 0 where
   pub complete : (v w : ℕ) → Link g v w → Slot to (width v (g .symbol w)) v w
 
 -- At member k, symbol t is done for the slots below c.
-pub record Row (g : Graph) (to : ℕ → ℕ → ℕ) (ms q : List ℕ) (tail a b t k c : ℕ) : Type 0 where
+pub record SlotStage (g : Graph) (to : ℕ → ℕ → ℕ) (ms q : List ℕ) (tail a b t k c : ℕ) : Type 0 where
   pub stage : Stage g ms q tail a b t k
   pub now : (j : ℕ) → j < c → to (nodeAt q k) j < g .nodes → g .symbol (to (nodeAt q k) j) ≡ t → Met q tail k (to (nodeAt q k) j)
 
 module _ {g : Graph} {to : ℕ → ℕ → ℕ} {ms q : List ℕ} {tail a b t k : ℕ} where
-  pub row-begin : Stage g ms q tail a b t k → Row g to ms q tail a b t k 0
-  row-begin s = record { stage = s; now = λ j l. absurd (omega arith) }
+  pub slots-begin : Stage g ms q tail a b t k → SlotStage g to ms q tail a b t k 0
+  slots-begin s = record { stage = s; now = λ j l. absurd (omega arith) }
 
-  module _ {c : ℕ} (r : Row g to ms q tail a b t k c) where
+  module _ {c : ℕ} (r : SlotStage g to ms q tail a b t k c) where
     -- A slot is done where it leads to no node by t that was not met.
-    pub pass : (to (nodeAt q k) c < g .nodes → g .symbol (to (nodeAt q k) c) ≡ t → Met q tail k (to (nodeAt q k) c)) → Row g to ms q tail a b t k (c + 1)
+    pub pass : (to (nodeAt q k) c < g .nodes → g .symbol (to (nodeAt q k) c) ≡ t → Met q tail k (to (nodeAt q k) c)) → SlotStage g to ms q tail a b t k (c + 1)
     pass m =
         record {
           stage = r .stage;
@@ -52,7 +52,7 @@ module _ {g : Graph} {to : ℕ → ℕ → ℕ} {ms q : List ℕ} {tail a b t k 
 
     -- A node that was not met is queued.
     pub push : (w e : ℕ) → tail < length q → k < b → Link g (nodeAt q k) w → g .symbol w ≡ t → g .goal w ≡ false → getD ms w 0 ≡ 0
-        → nodeOf e ≡ w → fromOf e ≡ a + 1 → to (nodeAt q k) c ≡ w → Row g to (set ms w 1) (set q tail e) (tail + 1) a b t k (c + 1)
+        → nodeOf e ≡ w → fromOf e ≡ a + 1 → to (nodeAt q k) c ≡ w → SlotStage g to (set ms w 1) (set q tail e) (tail + 1) a b t k (c + 1)
     push w e wide inside link symbol plain clear node from leads =
         let s = r .stage in
         let u = s .group .ends in

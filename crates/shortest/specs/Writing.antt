@@ -13,12 +13,13 @@ use Rattle.shortest.specs.declared.Exploration.{Exploration}
 use Rattle.shortest.specs.declared.Exploration.the-variants.{Goal as Reached, Exhausted}
 use Rattle.shortest.specs.declared.Search.the-variants.{Found, Nothing}
 use Rattle.shortest.specs.Answer.{Without}
-use Rattle.shortest.specs.Contracts.{PlacesOf, Met, Explored, reached, exhausted, Seeded, Clear, Message, Answers, found, nothing}
+use Rattle.shortest.specs.Contracts.{PlacesOf, GoalNext, Explored, reached, exhausted, Seeded, Clear, Message, Answers, found, nothing}
+use Rattle.shortest.specs.Depth.{Depth, HasDepth, label-depth, depth-unique}
 use Rattle.shortest.specs.Entries.{entryOf, nodeOf, fromOf, node-entry, from-entry}
 use Rattle.shortest.specs.Leaves.{places-symbol}
 use Rattle.shortest.specs.Pairs.{pair-bounded}
 use Rattle.shortest.specs.Queue.{Between}
-use Rattle.shortest.specs.Spelling.{Depth, HasDepth, Spelled, Stored, Filled, label-depth, depth-unique, depth-most, fill-some, fill-next}
+use Rattle.shortest.specs.Spelling.{Spelled, Stored, Filled, fill-some, fill-next}
 use Rattle.shortest.specs.Turns.{begun}
 
 -- fill
@@ -31,7 +32,7 @@ module _ {f q o p : List ℕ} {start count place at : ℕ} (laid : Laid f) (t : 
   fill-store u e = fill-next t e l (places-symbol f u)
 
 -- write
-module _ {f q : List ℕ} {a t : ℕ} (m : Met f q a t) where
+module _ {f q : List ℕ} {a t : ℕ} (m : GoalNext f q a t) where
   pub met-depth : HasDepth q a
   met-depth = record { count = length (m .labelled .word); depth = label-depth (m .labelled .label) }
 
@@ -67,7 +68,7 @@ pub started : {f ms q : List ℕ} → Laid f → Numbered f → Clear ms → See
 started laid n c s = begun (pair-bounded laid n) (c .long) (c .clear) (s .node) (s .from)
 
 module _ {f q : List ℕ} where
-  pub was-reached : {a x : ℕ} {r : Exploration} → Explored f q r → r ≡ Reached a x → Met f q a x
+  pub was-reached : {a x : ℕ} {r : Exploration} → Explored f q r → r ≡ Reached a x → GoalNext f q a x
   was-reached {a} {x} (reached {a = b} {x = y} m) e = let z : b ≡ a = cc in let w : y ≡ x = cc in rw (z, w) at m
   was-reached (exhausted h) e = let z : _≡_ {A = ℕ} 0 1 = cc in absurd (omega arith)
 

@@ -9,14 +9,15 @@ use code::Word;
 use places::Layout;
 use places::Pair;
 ghost use mathlib.Core.Path.{_≡_};
-ghost use Prim.Native.Nat.{_+_, _*_, _%_, _≤_, _<_};
+ghost use Prim.Native.Nat.{_+_, _*_, _%_, _^_, _≤_, _<_};
 ghost use lib.ListN.{length, getD};
 ghost use Rattle.places.specs.Flat.{Laid, symbolAt, pairGraph};
 ghost use Rattle.places.specs.Roots.{Numbered};
 ghost use Rattle.places.specs.Steps.{Arrives};
-ghost use Rattle.shortest.specs.Contracts.{PlacesOf, Seen, Stands, Ready, Met, Progressed, Expanded, Explored, Seeded, Clear, Message, Answers};
+ghost use Rattle.shortest.specs.Contracts.{PlacesOf, Seen, Stands, Ready, GoalNext, Progressed, Expanded, Explored, Seeded, Clear, Message, Answers};
 ghost use Rattle.shortest.specs.Queue.{Ascending, IsGroup, Between};
-ghost use Rattle.shortest.specs.Spelling.{HasDepth, Depth, Spelled, Stored};
+ghost use Rattle.shortest.specs.Spelling.{Spelled, Stored};
+ghost use Rattle.shortest.specs.Depth.{HasDepth, Depth};
 ghost use Rattle.shortest.specs.Entries.{entryOf, nodeOf, fromOf};
 ghost use Rattle.shortest.specs.Pairs.{firstFrom, toward, innerOf, width};
 
@@ -27,9 +28,9 @@ pub enum Search {
 }
 
 // A group of the queue: places `start` to `end` - 1.
-pub struct Group {
-    pub start: usize,
-    pub end: usize,
+struct Group {
+    start: usize,
+    end: usize,
 }
 
 // Where a slot leads: to nothing new, to a pair that was not met before, or to a pair of two ends.
@@ -87,7 +88,7 @@ fn pair_of(entry: u64) -> Pair
 
 // One more than where the group of an entry's predecessor begins; 0 for the source.
 fn from_of(entry: u64) -> usize
-    ensures { λ r. ⌜ (r ≡ fromOf entry) × (r < 562949953421312) ⌝ }
+    ensures { λ r. ⌜ (r ≡ fromOf entry) × (r < 2 ^ 49) ⌝ }
 {
     (entry >> 15) as usize
 }
@@ -214,7 +215,7 @@ fn step(
 }
 
 // Deals with all slots of a member for one symbol.
-fn row(
+fn expand_member(
     places: &[u8],
     marks: &mut [u16],
     queue: &mut [u64],
@@ -240,7 +241,7 @@ fn row(
 }
 
 // Deals with all members of a group for one symbol.
-fn rows(
+fn expand_symbol(
     places: &[u8],
     marks: &mut [u16],
     queue: &mut [u64],
@@ -254,7 +255,7 @@ fn rows(
     let mut member = group.start;
     let mut tail = tail;
     while member < group.end {
-        match row(places, marks, queue, group, symbol, member, tail) {
+        match expand_member(places, marks, queue, group, symbol, member, tail) {
             Progress::Goal(x) => return Progress::Goal(x),
             Progress::Tail(e) => tail = e,
         }
@@ -264,7 +265,7 @@ fn rows(
 }
 
 // Deals with a group, symbol after symbol.
-fn symbols(
+fn expand_group(
     places: &[u8],
     marks: &mut [u16],
     queue: &mut [u64],
@@ -277,7 +278,7 @@ fn symbols(
     let mut symbol: usize = 0;
     let mut tail = tail;
     while symbol < Word::ALPHABET as usize {
-        match rows(places, marks, queue, group, symbol, tail) {
+        match expand_symbol(places, marks, queue, group, symbol, tail) {
             Progress::Goal(x) => return Progress::Goal(x),
             Progress::Tail(e) => tail = e,
         }
@@ -303,7 +304,7 @@ fn group_end(places: &[u8], queue: &[u64], start: usize, tail: usize) -> usize
 }
 
 // Deals with the group that starts at a place.
-fn expand(
+fn advance(
     places: &[u8],
     marks: &mut [u16],
     queue: &mut [u64],
@@ -318,7 +319,7 @@ fn expand(
         start: start,
         end: end,
     };
-    match symbols(places, marks, queue, group, tail) {
+    match expand_group(places, marks, queue, group, tail) {
         Progress::Goal(x) => Expansion::Goal(x),
         Progress::Tail(e) => Expansion::Next(end, e),
     }
@@ -332,7 +333,7 @@ fn explore(places: &[u8], marks: &mut [u16], queue: &mut [u64]) -> Exploration
     let mut start: usize = 0;
     let mut tail: usize = 1;
     while start < tail {
-        match expand(places, marks, queue, start, tail) {
+        match advance(places, marks, queue, start, tail) {
             Expansion::Goal(x) => return Exploration::Goal(start, x),
             Expansion::Next(b, e) => {
                 start = b;
@@ -394,7 +395,7 @@ fn write(
     start: usize,
     symbol: usize,
 ) -> usize
-    requires { ⌜ Laid (now places) × Met (now places) (now queue) start symbol × (16384 ≤ length (now queue)) × (8256 ≤ length (now message)) ⌝ }
+    requires { ⌜ Laid (now places) × GoalNext (now places) (now queue) start symbol × (16384 ≤ length (now queue)) × (8256 ≤ length (now message)) ⌝ }
     ensures { λ r. ⌜ Message (now (places .entry)) (now (message .entry)) (now (message .exit)) r ⌝ }
 {
     let count = depth(queue, start);
