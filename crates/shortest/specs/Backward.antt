@@ -1,8 +1,8 @@
--- Shortlex order of words written from the back, the last symbol first: a word grows at its head, and the order needs no length. Reversed, it is `Shortlex`.
-use mathlib.Core.Path.{_≡_, refl, sym, ap, _∙_}
+-- Shortlex order of messages written from the back, the last symbol first: a message grows at its head, and the order needs no length. Reversed, it is `Shortlex`.
+use mathlib.Core.Path.{_≡_, refl, ap, _∙_}
 use mathlib.Core.List.{List, [], _∷_, _++_, reverse, reverse-cons}
 use mathlib.Core.Logic.{_⊎_, inl, inr, ⊎-elim}
-use Prim.Native.Nat.{ℕ, suc, _+_, _≤_, _<_}
+use Prim.Native.Nat.{ℕ, _≤_, _<_}
 use native.Mathlib.Nat.{eq-or-lt-of-le, lt-trans}
 use native.Mathlib.Omega.{arith}
 use lib.ListN.{length, length-append, length-reverse}
@@ -33,7 +33,7 @@ pub sooner-no-later : {r s t : List ℕ} → Sooner r s → NoLater s t → Soon
 sooner-no-later p (inl e) = rw e at p
 sooner-no-later p (inr q) = sooner-trans p q
 
--- A longer word comes later.
+-- A longer message comes later.
 pub sooner-longer : (x : ℕ) (s : List ℕ) → Sooner s (x ∷ s)
 sooner-longer x [] = empty
 sooner-longer x (y ∷ s) = ahead (sooner-longer y s)
@@ -70,7 +70,7 @@ shortlex-last x y s t e l =
     rw (e, reverse-cons x t, reverse-cons y t)
     (earlier (omega (arith, length-append (reverse t) (x ∷ []), length-append (reverse t) (y ∷ []))) (lex-last (reverse t) l))
 
--- The order of words from the back is the shortlex order of the words reversed.
+-- The order of messages from the back is the shortlex order of the messages reversed.
 pub sooner-shortlex : {s t : List ℕ} → Sooner s t → Shortlex (reverse s) (reverse t)
 sooner-shortlex (empty {y = y} {t = t}) = shortlex-empty y t
 sooner-shortlex (ahead {x = x} {y = y} {s = s} {t = t} p) = shortlex-more x y s t (sooner-shortlex p)

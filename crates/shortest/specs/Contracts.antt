@@ -4,7 +4,6 @@ use mathlib.Core.Bool.{true, false}
 use mathlib.Core.List.{List, _∷_, reverse, _++_}
 use Prim.Native.Nat.{ℕ, _+_, _*_, _≤_, _<_}
 use lib.ListN.{length, getD, drop}
-use Rattle.graph.specs.Graph.{Graph}
 use Rattle.places.specs.declared.Pair.{Pair}
 use Rattle.places.specs.Flat.{pairGraph}
 use Rattle.shortest.specs.declared.Arrival.{Arrival}

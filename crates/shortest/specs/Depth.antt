@@ -8,7 +8,7 @@ use Rattle.graph.specs.Graph.{Graph}
 use Rattle.shortest.specs.Entries.{fromAt}
 use Rattle.shortest.specs.Labels.{Label, source, grown}
 
--- `from` leads from place k to the source in n steps.
+-- `from` leads from index k to the source in n steps.
 pub data Depth (q : List ℕ) : ℕ → ℕ → Type 0 where
   none : {k : ℕ} → k ≡ 0 → Depth q k zero
   more : {k f n : ℕ} → f < k → fromAt q k ≡ f + 1 → Depth q f n → Depth q k (suc n)
@@ -32,13 +32,13 @@ module _ {q : List ℕ} where
   depth-most (none z) = omega arith
   depth-most (more l e x) = let r = depth-most x in omega arith
 
--- One step from a place that is not the source.
-pub record Step (q : List ℕ) (place n : ℕ) : Type 0 where
-  pub some : 1 ≤ fromAt q place
-  pub falls : fromAt q place - 1 < place
+-- One step from a index that is not the source.
+pub record Step (q : List ℕ) (index n : ℕ) : Type 0 where
+  pub some : 1 ≤ fromAt q index
+  pub falls : fromAt q index - 1 < index
   pub rest : ℕ
   pub count : n ≡ rest + 1
-  pub depth : Depth q (fromAt q place - 1) rest
+  pub depth : Depth q (fromAt q index - 1) rest
 
 module _ {q : List ℕ} where
   step-more : {k f n : ℕ} → f < k → fromAt q k ≡ f + 1 → Depth q f n → Step q k (suc n)
@@ -54,12 +54,12 @@ module _ {q : List ℕ} where
   depth-source (none z) l = refl
   depth-source (more h e x) l = absurd (omega arith)
 
--- Of the steps from `start` to the source, `count` lead to `place`.
-pub record Counted (q : List ℕ) (start place count : ℕ) : Type 0 where
+-- Of the steps from `start` to the source, `count` lead to `index`.
+pub record Counted (q : List ℕ) (start index count : ℕ) : Type 0 where
   pub rest : ℕ
-  pub here : Depth q place rest
+  pub here : Depth q index rest
   pub whole : Depth q start (count + rest)
-  pub low : place ≤ start
+  pub low : index ≤ start
 
 pub record HasDepth (q : List ℕ) (start : ℕ) : Type 0 where
   pub count : ℕ
@@ -71,26 +71,26 @@ module _ {q : List ℕ} {start : ℕ} where
       let z : 0 + h .count ≡ h .count = omega arith in
       record { rest = h .count; here = h .depth; whole = rw z (h .depth); low = omega arith }
 
-  module _ {place count : ℕ} (c : Counted q start place count) where
-    -- `from` of a place that is not the source.
-    module _ {r : ℕ} (e : r ≡ fromAt q place) (l : 0 < place) where
+  module _ {index count : ℕ} (c : Counted q start index count) where
+    -- `from` of a index that is not the source.
+    module _ {r : ℕ} (e : r ≡ fromAt q index) (l : 0 < index) where
       pub count-some : 1 ≤ r
       count-some = let h = depth-step (c .here) l .some in omega arith
 
-      pub count-falls : r - 1 < place
+      pub count-falls : r - 1 < index
       count-falls = let h = depth-step (c .here) l .falls in omega arith
 
       pub count-next : Counted q start (r - 1) (count + 1)
       count-next =
           let s = depth-step (c .here) l in
           let z : count + c .rest ≡ count + 1 + s .rest = let d = s .count in omega arith in
-          let y : r - 1 ≡ fromAt q place - 1 = omega arith in
+          let y : r - 1 ≡ fromAt q index - 1 = omega arith in
           record { rest = s .rest; here = rw y (s .depth); whole = rw z at (c .whole); low = let h = s .falls in let k = c .low in omega arith }
 
     pub count-most : count ≤ start
     count-most = let h = depth-most (c .whole) in omega arith
 
-    pub count-end : place ≤ 0 → Depth q start count
+    pub count-end : index ≤ 0 → Depth q start count
     count-end l =
         let z : count + c .rest ≡ count = let e = depth-source (c .here) l in omega arith in
         rw z at (c .whole)

@@ -3,7 +3,7 @@ use mathlib.Core.Path.{_≡_, sym, _∙_}
 use mathlib.Core.List.{List}
 use Prim.Native.Nat.{ℕ, _+_, _*_, _-_, _%_, _≤_, _<_}
 use native.Mathlib.Omega.{arith}
-use lib.ListN.{length, getD}
+use lib.ListN.{getD}
 use Rattle.places.specs.Flat.{Laid, symbolAt, pairGraph}
 use Rattle.places.specs.Roots.{Numbered}
 use Rattle.shortest.specs.declared.Progress.{Progress}
@@ -14,7 +14,7 @@ use Rattle.shortest.specs.declared.Exploration.the-variants.{Goal as Rea
 use Rattle.shortest.specs.Contracts.{Stands, GoalNext, Progressed, Expanded, ended, moved, Explored, reached, exhausted}
 use Rattle.shortest.specs.Entries.{nodeOf, fromOf}
 use Rattle.shortest.specs.Frontier.{no-goal}
-use Rattle.shortest.specs.Queue.{key, Ascending, IsGroup, Between}
+use Rattle.shortest.specs.Queue.{Ascending, IsGroup, Between}
 use Rattle.shortest.specs.Room.{tail-most}
 use Rattle.shortest.specs.Parts.{was-goal, was-tail}
 use Rattle.shortest.specs.Turns.{Run, run-more, run-end, slots-begin, enter, next-group}

@@ -9,7 +9,6 @@ use native.Mathlib.Omega.{arith}
 use lib.Dec.{ltb, eqb}
 use borrow.Author.Tests.{lt-ltb, le-ltb, eq-eqb}
 use Rattle.code.specs.Definitions.Lists.{if_then_else_}
-use Rattle.graph.specs.Graph.{Edge}
 use Rattle.places.specs.Flat.{symbolAt, endAt, firstAt, wordCount, Laid, onward, slotsOf, arcFrom, pairGraph}
 use Rattle.places.specs.Nodes.{NodeOf, Leads, node-of, of-node, node-high, node-pair, edge-leads, slots-few}
 use Rattle.places.specs.Onward.{inside, arc-within, arc-past}

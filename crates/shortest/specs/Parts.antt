@@ -1,5 +1,5 @@
 -- The loops of one group: the slots of a member, the members, the symbols.
-use mathlib.Core.Path.{_≡_, refl, sym, ap, _∙_}
+use mathlib.Core.Path.{_≡_, sym, ap, _∙_}
 use mathlib.Core.List.{List}
 use Prim.Native.Nat.{ℕ, _+_, _*_, _≤_, _<_}
 use native.Mathlib.Omega.{arith}
@@ -11,7 +11,7 @@ use Rattle.shortest.specs.declared.Progress.{Progress}
 use Rattle.shortest.specs.declared.Progress.the-variants.{Goal, Tail}
 use Rattle.shortest.specs.Contracts.{PlacesOf, Stands, Ready, GoalNext, Progressed, met, went}
 use Rattle.shortest.specs.Entries.{nodeOf, nodeAt}
-use Rattle.shortest.specs.Pairs.{toward, width, pair-slots}
+use Rattle.shortest.specs.Pairs.{width, pair-slots}
 use Rattle.shortest.specs.Queue.{entry-most}
 use Rattle.shortest.specs.Room.{tail-most}
 use Rattle.shortest.specs.Turns.{slots-begin, next-member, next-symbol}

@@ -21,22 +21,22 @@ pub record Bounded (g : Graph) : Type 0 where
   pub symbols : (v : ℕ) → g .symbol v < 16
   pub nodes : g .nodes ≤ 16384
 
--- The group of place i: where the group of its predecessor begins, and its own symbol.
+-- The group of index i: where the group of its predecessor begins, and its own symbol.
 abbrev pub key : Graph → List ℕ → ℕ → ℕ
 key g q i = fromAt q i * 16 + g .symbol (nodeAt q i)
 
--- Node v stands at some place below tail.
+-- Node v stands at some index below tail.
 pub record Queued (q : List ℕ) (tail v : ℕ) : Type 0 where
-  pub place : ℕ
-  pub below : place < tail
-  pub node : nodeAt q place ≡ v
+  pub index : ℕ
+  pub below : index < tail
+  pub node : nodeAt q index ≡ v
 
--- Node w stands at some place below tail, after a group that begins at place i or before it.
+-- Node w stands at some index below tail, after a group that begins at index i or before it.
 pub record Met (q : List ℕ) (tail i w : ℕ) : Type 0 where
-  pub place : ℕ
-  pub below : place < tail
-  pub node : nodeAt q place ≡ w
-  pub soon : fromAt q place ≤ i + 1
+  pub index : ℕ
+  pub below : index < tail
+  pub node : nodeAt q index ≡ w
+  pub soon : fromAt q index ≤ i + 1
 
 -- Why node v is queued with `from` x: it comes next after the node of a member of the group that begins at `first`.
 pub record Origin (g : Graph) (q : List ℕ) (tail i v x : ℕ) : Type 0 where
@@ -60,13 +60,13 @@ pub record Queue (g : Graph) (ms q : List ℕ) (tail : ℕ) : Type 0 where
   pub some : 1 ≤ tail
   pub found : (v : ℕ) → 1 ≤ getD ms v 0 → Queued q tail v
   pub room : tail ≤ total mark ms + 1
-  pub source : nodeAt q 0 ≡ g .nodes
-  pub before : fromAt q 0 ≡ 0
-  pub fair : (i : ℕ) → 1 ≤ i → i < tail → g .goal (nodeAt q i) ≡ false
+  pub source-node : nodeAt q 0 ≡ g .nodes
+  pub source-from : fromAt q 0 ≡ 0
+  pub plain : (i : ℕ) → 1 ≤ i → i < tail → g .goal (nodeAt q i) ≡ false
   pub ascending : Ascending g q tail
   pub origin : (i : ℕ) → 1 ≤ i → i < tail → Origin g q tail i (nodeAt q i) (fromAt q i)
 
--- Places a to b - 1 are one group.
+-- Entries a to b - 1 are one group.
 pub record IsGroup (g : Graph) (q : List ℕ) (tail a b : ℕ) : Type 0 where
   pub some : a < b
   pub ends : b ≤ tail
@@ -86,7 +86,7 @@ pub record Stage (g : Graph) (ms q : List ℕ) (tail a b t k : ℕ) : Type 0 whe
   pub part : (i w : ℕ) → i < b → g .symbol w < t → Link g (nodeAt q i) w → Met q tail i w
   pub here : (i w : ℕ) → i < k → g .symbol w ≤ t → Link g (nodeAt q i) w → Met q tail i w
 
--- All groups before place a are done.
+-- All groups before index a are done.
 pub record Between (g : Graph) (ms q : List ℕ) (tail a : ℕ) : Type 0 where
   pub queue : Queue g ms q tail
   pub order : a ≤ tail
@@ -100,7 +100,7 @@ module _ {g : Graph} {ms q : List ℕ} {tail : ℕ} (s : Queue g ms q tail) wher
   from-early i l = go (ℕ-discrete i 0)
     where
       go : Dec (i ≡ 0) → fromAt q i ≤ i
-      go (yes z) = let d : fromAt q i ≡ 0 = rw z (s .before) in omega arith
+      go (yes z) = let d : fromAt q i ≡ 0 = rw z (s .source-from) in omega arith
       go (no n) = let o = s .origin i (omega arith) l in let f = o .from in let h = o .early in omega arith
 
   -- Every entry but the source holds a node.
@@ -111,13 +111,13 @@ module _ {g : Graph} {ms q : List ℕ} {tail : ℕ} (s : Queue g ms q tail) wher
   entry-most i l = go (ℕ-discrete i 0)
     where
       go : Dec (i ≡ 0) → nodeAt q i ≤ g .nodes
-      go (yes z) = let d : nodeAt q i ≡ g .nodes = rw z (s .source) in omega arith
+      go (yes z) = let d : nodeAt q i ≡ g .nodes = rw z (s .source-node) in omega arith
       go (no n) = let h = entry-node i (omega arith) l in omega arith
 
-  -- Only the source stands at place 0.
+  -- Only the source stands at index 0.
   pub after-source : (i : ℕ) → nodeAt q i < g .nodes → 1 ≤ i
   after-source i l = go (ℕ-discrete i 0)
     where
       go : Dec (i ≡ 0) → 1 ≤ i
-      go (yes z) = let d : nodeAt q i ≡ g .nodes = rw z (s .source) in absurd (omega arith)
+      go (yes z) = let d : nodeAt q i ≡ g .nodes = rw z (s .source-node) in absurd (omega arith)
       go (no n) = omega arith

@@ -1,4 +1,4 @@
--- A label is stored back to front: its last symbols stand in the list, and the label of the place that is reached comes before them.
+-- A label is stored back to front: its last symbols stand in the list, and the label of the index that is reached comes before them.
 use mathlib.Core.Path.{_≡_, refl, sym, ap, _∙_}
 use mathlib.Core.List.{List, [], _∷_, _++_, append-assoc, append-nil, reverse, reverse-cons}
 use Prim.Native.Nat.{ℕ, suc, _+_, _-_, _≤_, _<_}
@@ -12,29 +12,29 @@ use Rattle.shortest.specs.Labels.{Label, source, grown}
 
 -- The label of `start` has `count` symbols.
 pub record Spelled (g : Graph) (q : List ℕ) (start count : ℕ) : Type 0 where
-  pub word : List ℕ
-  pub label : Label g q start word
-  pub long : length word ≡ count
+  pub message : List ℕ
+  pub label : Label g q start message
+  pub long : length message ≡ count
 
--- The label of `start`, of `count` symbols, stands at the front of p in place of what o has there.
+-- The label of `start`, of `count` symbols, stands at the front of p in index of what o has there.
 pub record Stored (g : Graph) (q : List ℕ) (start count : ℕ) (o p : List ℕ) : Type 0 where
-  pub word : List ℕ
-  pub label : Label g q start word
-  pub long : length word ≡ count
-  pub list : p ≡ reverse word ++ drop count o
+  pub message : List ℕ
+  pub label : Label g q start message
+  pub long : length message ≡ count
+  pub list : p ≡ reverse message ++ drop count o
 
--- The last symbols of the label of `start` are stored, from `at` on; before them comes the label of `place`. The list was o at first.
-pub record Filled (g : Graph) (q : List ℕ) (start count : ℕ) (o : List ℕ) (place at : ℕ) (p : List ℕ) : Type 0 where
-  pub word : List ℕ
-  pub label : Label g q start word
-  pub long : length word ≡ count
+-- The last symbols of the label of `start` are stored, from `at` on; before them comes the label of `index`. The list was o at first.
+pub record Filled (g : Graph) (q : List ℕ) (start count : ℕ) (o : List ℕ) (index at : ℕ) (p : List ℕ) : Type 0 where
+  pub message : List ℕ
+  pub label : Label g q start message
+  pub long : length message ≡ count
   pub rest : List ℕ
-  pub here : Label g q place rest
+  pub here : Label g q index rest
   pub before : length rest ≡ at
   pub stored : List ℕ
-  pub joined : reverse rest ++ stored ≡ reverse word
+  pub joined : reverse rest ++ stored ≡ reverse message
   pub list : p ≡ take at o ++ (stored ++ drop count o)
-  pub low : place ≤ start
+  pub low : index ≤ start
   pub within : at ≤ count
   pub room : count ≤ length o
 
@@ -49,30 +49,30 @@ module _ {g : Graph} {q : List ℕ} {start count : ℕ} {o : List ℕ} where
   pub fill-begin : count ≤ length o → Spelled g q start count → Filled g q start count o start count o
   fill-begin h s =
       record {
-        word = s .word;
+        message = s .message;
         label = s .label;
         long = s .long;
-        rest = s .word;
+        rest = s .message;
         here = s .label;
         before = s .long;
         stored = [];
-        joined = append-nil (reverse (s .word));
+        joined = append-nil (reverse (s .message));
         list = sym (take-append-drop count o);
         low = omega arith;
         within = omega arith;
         room = h;
       }
 
-  fill-more : {place at f c : ℕ} {m p : List ℕ} (t : Filled g q start count o place at p) → t .rest ≡ c ∷ m → f < place → fromAt q place ≡ f + 1
-      → g .symbol (nodeAt q place) ≡ c → Label g q f m
-      → Filled g q start count o (fromAt q place - 1) (at - 1) (set p (at - 1) (g .symbol (nodeAt q place)))
-  fill-more {place} {at} {f} {c} {m} {p} t e l d s x =
-      let z : fromAt q place - 1 ≡ f = omega arith in
+  fill-more : {index at f c : ℕ} {m p : List ℕ} (t : Filled g q start count o index at p) → t .rest ≡ c ∷ m → f < index → fromAt q index ≡ f + 1
+      → g .symbol (nodeAt q index) ≡ c → Label g q f m
+      → Filled g q start count o (fromAt q index - 1) (at - 1) (set p (at - 1) (g .symbol (nodeAt q index)))
+  fill-more {index} {at} {f} {c} {m} {p} t e l d s x =
+      let z : fromAt q index - 1 ≡ f = omega arith in
       let n : length m + 1 ≡ at = let y = t .before in let k = ap length e in omega arith in
       let w = t .within in
       let y : suc (at - 1) ≡ at = omega arith in
       record {
-        word = t .word;
+        message = t .message;
         label = t .label;
         long = t .long;
         rest = m;
@@ -92,37 +92,37 @@ module _ {g : Graph} {q : List ℕ} {start count : ℕ} {o : List ℕ} where
         room = t .room;
       }
 
-  module _ {place at : ℕ} {p : List ℕ} (t : Filled g q start count o place at p) where
-    fill-by : {r : List ℕ} → t .rest ≡ r → Label g q place r → 0 < place
-        → Filled g q start count o (fromAt q place - 1) (at - 1) (set p (at - 1) (g .symbol (nodeAt q place)))
+  module _ {index at : ℕ} {p : List ℕ} (t : Filled g q start count o index at p) where
+    fill-by : {r : List ℕ} → t .rest ≡ r → Label g q index r → 0 < index
+        → Filled g q start count o (fromAt q index - 1) (at - 1) (set p (at - 1) (g .symbol (nodeAt q index)))
     fill-by e (source z) l = absurd (omega arith)
     fill-by e (grown h d s x) l = fill-more t e h d s x
 
-    fill-depth : Depth q place at
+    fill-depth : Depth q index at
     fill-depth = rw (t .before) at (label-depth (t .here))
 
-    pub fill-some : 0 < place → 1 ≤ at
+    pub fill-some : 0 < index → 1 ≤ at
     fill-some l = let s = depth-step fill-depth l .count in omega arith
 
-    -- `from` of a place that is not the source.
-    module _ {r : ℕ} (e : r ≡ fromAt q place) (l : 0 < place) where
+    -- `from` of a index that is not the source.
+    module _ {r : ℕ} (e : r ≡ fromAt q index) (l : 0 < index) where
       pub fill-from : 1 ≤ r
       fill-from = let h = depth-step fill-depth l .some in omega arith
 
-      pub fill-falls : r - 1 < place
+      pub fill-falls : r - 1 < index
       fill-falls = let h = depth-step fill-depth l .falls in omega arith
 
       -- One symbol more is stored.
-      pub fill-next : {x : ℕ} → x ≡ g .symbol (nodeAt q place) → Filled g q start count o (r - 1) (at - 1) (set p (at - 1) x)
+      pub fill-next : {x : ℕ} → x ≡ g .symbol (nodeAt q index) → Filled g q start count o (r - 1) (at - 1) (set p (at - 1) x)
       fill-next d = rw (e, d) (fill-by refl (t .here) l)
 
-    fill-all : {r : List ℕ} → t .rest ≡ r → Label g q place r → place ≤ 0 → p ≡ reverse (t .word) ++ drop count o
+    fill-all : {r : List ℕ} → t .rest ≡ r → Label g q index r → index ≤ 0 → p ≡ reverse (t .message) ++ drop count o
     fill-all e (source z) l =
         let a : at ≡ 0 = let y = t .before in let k = ap length e in omega arith in
-        let b : t .stored ≡ reverse (t .word) = ap (λ (r : List ℕ). reverse r ++ t .stored) (sym e) ∙ t .joined in
+        let b : t .stored ≡ reverse (t .message) = ap (λ (r : List ℕ). reverse r ++ t .stored) (sym e) ∙ t .joined in
         t .list ∙ rw (a, b)
     fill-all e (grown h d s x) l = absurd (omega arith)
 
     -- At the source the whole label is stored.
-    pub fill-end : place ≤ 0 → Stored g q start count o p
-    fill-end l = record { word = t .word; label = t .label; long = t .long; list = fill-all refl (t .here) l }
+    pub fill-end : index ≤ 0 → Stored g q start count o p
+    fill-end l = record { message = t .message; label = t .label; long = t .long; list = fill-all refl (t .here) l }

@@ -2,7 +2,7 @@
 use mathlib.Core.Path.{_≡_}
 use mathlib.Core.Bool.{false}
 use mathlib.Core.List.{List}
-use Prim.Native.Nat.{ℕ, _+_, _*_, _≤_, _<_}
+use Prim.Native.Nat.{ℕ, _+_, _≤_, _<_}
 use native.Mathlib.Decide.{decLt}
 use native.Mathlib.Omega.{arith}
 use borrow.Author.Count.{below-more}
@@ -46,9 +46,9 @@ module _ {g : Graph} {to : ℕ → ℕ → ℕ} {ms q : List ℕ} {tail a b t k 
     pub met-marked : t < 16 → (w : ℕ) → 1 ≤ getD ms w 0 → Met q tail k w
     met-marked low w h =
         let m = r .stage .queue .found w h in
-        let n = r .stage .near (m .place) (m .below) in
+        let n = r .stage .near (m .index) (m .below) in
         let l = r .stage .from in
-        record { place = m .place; below = m .below; node = m .node; soon = omega arith }
+        record { index = m .index; below = m .below; node = m .node; soon = omega arith }
 
     -- A node that was not met is queued.
     pub push : (w e : ℕ) → tail < length q → k < b → Link g (nodeAt q k) w → g .symbol w ≡ t → g .goal w ≡ false → getD ms w 0 ≡ 0
@@ -133,7 +133,7 @@ module _ {g : Graph} {ms q : List ℕ} {tail a b t k : ℕ} (s : Stage g ms q ta
       before l i d (yes e) = let x = s .begins i e in let v = s .group .after b (omega arith) l in omega arith
       before l i d (no n) = let x = s .group .same i (omega arith) d in let v = s .group .after b (omega arith) l in omega arith
 
--- A group of places that were not dealt with is entered at symbol 0, first member.
+-- A group of indices that were not dealt with is entered at symbol 0, first member.
 pub enter : {g : Graph} {ms q : List ℕ} {tail a b : ℕ} → Between g ms q tail a → IsGroup g q tail a b → Stage g ms q tail a b 0 a
 enter s p =
     let l = p .some in
@@ -151,7 +151,7 @@ enter s p =
       here = λ i w d c. s .done i w d;
     }
 
--- Places a to b - 1 have one key.
+-- Entries a to b - 1 have one key.
 pub record Run (g : Graph) (q : List ℕ) (tail a b : ℕ) : Type 0 where
   pub some : a < b
   pub ends : b ≤ tail
@@ -197,9 +197,9 @@ begun {g} {ms} {q} u n clear e z =
             some = omega arith;
             found = λ v h. let d = clear v in absurd (omega arith);
             room = omega arith;
-            source = e;
-            before = z;
-            fair = λ i p l. absurd (omega arith);
+            source-node = e;
+            source-from = z;
+            plain = λ i p l. absurd (omega arith);
             ascending = record { keys = λ i j p l. let d : i ≡ j = omega arith in rw d (omega arith) };
             origin = λ i p l. absurd (omega arith);
           };

@@ -1,19 +1,19 @@
 -- From the goal that was met to the message in its buffer, and the whole search from its start to its answer.
-use mathlib.Core.Path.{_≡_, refl, sym, ap, _∙_}
-use mathlib.Core.List.{List, [], _∷_, _++_, append-assoc, reverse, reverse-cons}
-use Prim.Native.Nat.{ℕ, suc, _+_, _*_, _-_, _%_, _≤_, _<_}
+use mathlib.Core.Path.{_≡_, refl, ap, _∙_}
+use mathlib.Core.List.{List, _∷_, _++_, append-assoc, reverse, reverse-cons}
+use Prim.Native.Nat.{ℕ, suc, _+_, _-_, _≤_, _<_}
 use native.Mathlib.Numerals.{add-one}
 use native.Mathlib.Omega.{arith}
 use lib.ListN.{length, getD, drop, set, length-set, length-reverse}
 use lib.Seq.{drop-cons, drop-set-lt, getD-set-same}
 use Rattle.places.specs.declared.Pair.{Pair}
-use Rattle.places.specs.Flat.{Laid, symbolAt, pairGraph}
+use Rattle.places.specs.Flat.{Laid, pairGraph}
 use Rattle.places.specs.Roots.{Numbered}
 use Rattle.shortest.specs.declared.Exploration.{Exploration}
 use Rattle.shortest.specs.declared.Exploration.the-variants.{Goal as Reached, Exhausted}
-use Rattle.shortest.specs.declared.Search.the-variants.{Found, Nothing}
+use Rattle.shortest.specs.declared.Search.the-variants.{Nothing}
 use Rattle.shortest.specs.Answer.{Without}
-use Rattle.shortest.specs.Contracts.{PlacesOf, GoalNext, Explored, reached, exhausted, Seeded, Clear, Message, Answers, found, nothing}
+use Rattle.shortest.specs.Contracts.{PlacesOf, GoalNext, Explored, reached, exhausted, Seeded, Clear, Message, Answers, nothing}
 use Rattle.shortest.specs.Depth.{Depth, HasDepth, label-depth, depth-unique}
 use Rattle.shortest.specs.Entries.{entryOf, nodeOf, fromOf, node-entry, from-entry}
 use Rattle.shortest.specs.Leaves.{places-symbol}
@@ -23,22 +23,22 @@ use Rattle.shortest.specs.Spelling.{Spelled, Stored, Filled, fill-some, 
 use Rattle.shortest.specs.Turns.{begun}
 
 -- fill
-module _ {f q o p : List ℕ} {start count place at : ℕ} (laid : Laid f) (t : Filled (pairGraph f) q start count o place at p) (l : 0 < place) where
+module _ {f q o p : List ℕ} {start count index at : ℕ} (laid : Laid f) (t : Filled (pairGraph f) q start count o index at p) (l : 0 < index) where
   pub fill-within : length p ≡ length o → at - 1 < length p
   fill-within e = let h = fill-some t l in let k = t .within in let n = t .room in omega arith
 
-  pub fill-store : {r : ℕ} {d : Pair} → PlacesOf (nodeOf (getD q place 0)) d → r ≡ fromOf (getD q place 0)
+  pub fill-store : {r : ℕ} {d : Pair} → PlacesOf (nodeOf (getD q index 0)) d → r ≡ fromOf (getD q index 0)
       → Filled (pairGraph f) q start count o (r - 1) (at - 1) (set p (at - 1) (getD f (d .high) 0))
   fill-store u e = fill-next t e l (places-symbol f u)
 
 -- write
 module _ {f q : List ℕ} {a t : ℕ} (m : GoalNext f q a t) where
   pub met-depth : HasDepth q a
-  met-depth = record { count = length (m .labelled .word); depth = label-depth (m .labelled .label) }
+  met-depth = record { count = length (m .labelled .message); depth = label-depth (m .labelled .label) }
 
   pub met-spelled : {n : ℕ} → Depth q a n → Spelled (pairGraph f) q a n
   met-spelled d =
-      record { word = m .labelled .word; label = m .labelled .label; long = depth-unique (label-depth (m .labelled .label)) d }
+      record { message = m .labelled .message; label = m .labelled .label; long = depth-unique (label-depth (m .labelled .label)) d }
 
   -- A label and the symbol after it are the label's symbols with one more.
   written-list : (w o : List ℕ) (n : ℕ) → n < length o → reverse w ++ drop n (set o n t) ≡ reverse (t ∷ w) ++ drop (n + 1) o
@@ -50,10 +50,10 @@ module _ {f q : List ℕ} {a t : ℕ} (m : GoalNext f q a t) where
   pub met-message : {o p : List ℕ} {n : ℕ} → Stored (pairGraph f) q a n (set o n t) p → n ≤ a → 8256 ≤ length o → Message f o p (n + 1)
   met-message {o} {p} {n} s h k =
       record {
-        symbols = reverse (t ∷ s .word);
-        long = length-reverse (t ∷ s .word) ∙ (let e = s .long in omega arith);
-        least = m .least (s .word) (s .label);
-        list = s .list ∙ written-list (s .word) o n (let l = m .small in omega arith);
+        symbols = reverse (t ∷ s .message);
+        long = length-reverse (t ∷ s .message) ∙ (let e = s .long in omega arith);
+        least = m .least (s .message) (s .label);
+        list = s .list ∙ written-list (s .message) o n (let l = m .small in omega arith);
       }
 
 -- shortest

@@ -361,29 +361,29 @@ fn depth(queue: &[u64], start: usize) -> usize
     requires { ⌜ HasDepth (now queue) start × (start < length (now queue)) × (start < 16384) ⌝ }
     ensures { λ r. ⌜ Depth (now (queue .entry)) start r × (r ≤ start) ⌝ }
 {
-    let mut place = start;
+    let mut index = start;
     let mut count: usize = 0;
-    while 0 < place {
-        place = from_of(queue[place]) - 1;
+    while 0 < index {
+        index = from_of(queue[index]) - 1;
         count += 1;
     }
     count
 }
 
-// Writes the label of a place, of `count` symbols, to the front of the message, the last symbol first.
+// Writes the label of a index, of `count` symbols, to the front of the message, the last symbol first.
 fn fill(places: &[u8], queue: &[u64], message: &mut [u8], start: usize, count: usize)
     requires { ⌜ Laid (now places) × Spelled (pairGraph (now places)) (now queue) start count × (start < length (now queue)) × (count ≤ length (now message)) ⌝ }
     ensures { λ _. ⌜ Stored (pairGraph (now (places .entry))) (now (queue .entry)) start count (now (message .entry)) (now (message .exit)) ⌝ }
 {
-    let mut place = start;
+    let mut index = start;
     let mut at = count;
-    while 0 < place {
-        let entry = queue[place];
+    while 0 < index {
+        let entry = queue[index];
         let pair = pair_of(entry);
         let high = pair.high;
         at -= 1;
         message[at] = places[high];
-        place = from_of(entry) - 1;
+        index = from_of(entry) - 1;
     }
 }
 

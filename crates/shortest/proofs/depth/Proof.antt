@@ -5,10 +5,10 @@ use Rattle.shortest.proofs.depth.Statement.{statement}
 use Rattle.shortest.proofs.depth.Tie as tie
 
 abbrev Inv-loop : tie.InvT-loop
-Inv-loop queue start place₀ count₀ place count = Counted queue start place count
+Inv-loop queue start index₀ count₀ index count = Counted queue start index count
 
 abbrev μ-loop : tie.MeasureT-loop
-μ-loop queue start place₀ count₀ place count = place
+μ-loop queue start index₀ count₀ index count = index
 
 loop-holds : tie.Need-loop-holds Inv-loop μ-loop
 loop-holds c = search count-begin
@@ -22,8 +22,8 @@ shared-slice-read-from-of c = search needs
 from-of-requires : tie.Need-from-of-requires Inv-loop μ-loop
 from-of-requires c κs = search needs
 
-sub-place : tie.Need-sub-place Inv-loop μ-loop
-sub-place c = search count-some
+sub-index : tie.Need-sub-index Inv-loop μ-loop
+sub-index c = search count-some
 
 add-count : tie.Need-add-count Inv-loop μ-loop
 add-count c = let h = count-most (c .before .before .before .loop .inv) in omega arith
@@ -47,7 +47,7 @@ depth-spec =
     mul-from-of
     shared-slice-read-from-of
     from-of-requires
-    sub-place
+    sub-index
     add-count
     loop-less
     loop-again

@@ -1,6 +1,6 @@
 use borrow.Author.Needs.{needs}
 use mathlib.Core.Path.{_≡_}
-use Prim.Native.Nat.{_≤_, _-_}
+use Prim.Native.Nat.{_-_}
 use lib.ListN.{length, getD}
 use Rattle.shortest.specs.Contracts.{Stands}
 use Rattle.shortest.specs.Parts.{was-tail, goal-again, ready-again, member-end}

@@ -8,10 +8,10 @@ use Rattle.shortest.proofs.fill.Statement.{statement}
 use Rattle.shortest.proofs.fill.Tie as tie
 
 abbrev Inv-loop : tie.InvT-loop
-Inv-loop places queue message₀ start count place₀ at₀ message place at = Filled (pairGraph places) queue start count message₀ place at message × (length message ≡ length message₀)
+Inv-loop places queue message₀ start count index₀ at₀ message index at = Filled (pairGraph places) queue start count message₀ index at message × (length message ≡ length message₀)
 
 abbrev μ-loop : tie.MeasureT-loop
-μ-loop places queue message₀ start count place₀ at₀ message place at = place
+μ-loop places queue message₀ start count index₀ at₀ message index at = index
 
 loop-holds : tie.Need-loop-holds Inv-loop μ-loop
 loop-holds c = (search fill-begin, search needs)
@@ -37,8 +37,8 @@ slice-write-message c = search fill-within
 from-of-requires : tie.Need-from-of-requires Inv-loop μ-loop
 from-of-requires c κs = search needs
 
-sub-place : tie.Need-sub-place Inv-loop μ-loop
-sub-place c = search fill-from
+sub-index : tie.Need-sub-index Inv-loop μ-loop
+sub-index c = search fill-from
 
 loop-less : tie.Need-loop-less Inv-loop μ-loop
 loop-less c = search fill-falls
@@ -66,7 +66,7 @@ fill-spec =
     shared-slice-read-message
     slice-write-message
     from-of-requires
-    sub-place
+    sub-index
     loop-less
     loop-again
     same-length
