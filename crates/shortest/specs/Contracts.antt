@@ -1,11 +1,11 @@
--- What the functions of the search promise one another.
+-- What the functions of the search promise: the answer, and how a search stands after a part of it.
 use mathlib.Core.Path.{_≡_}
 use mathlib.Core.Bool.{true, false}
 use mathlib.Core.List.{List, _∷_, reverse, _++_}
-use Prim.Native.Nat.{ℕ, _+_, _*_, _≤_, _<_}
+use Prim.Native.Nat.{ℕ, _+_, _*_, _%_, _≤_, _<_}
 use lib.ListN.{length, getD, drop}
 use Rattle.places.specs.declared.Pair.{Pair}
-use Rattle.places.specs.Flat.{pairGraph}
+use Rattle.places.specs.Flat.{symbolAt, pairGraph}
 use Rattle.shortest.specs.declared.Arrival.{Arrival}
 use Rattle.shortest.specs.declared.Arrival.the-variants.{Passed, Fresh, Goal as Final}
 use Rattle.shortest.specs.declared.Progress.{Progress}
@@ -17,16 +17,20 @@ use Rattle.shortest.specs.declared.Exploration.the-variants.{Goal as Rea
 use Rattle.shortest.specs.declared.Search.{Search}
 use Rattle.shortest.specs.declared.Search.the-variants.{Found, Nothing}
 use Rattle.shortest.specs.Answer.{Least, Without}
-use Rattle.shortest.specs.Entries.{nodeAt, fromAt}
+use Rattle.shortest.specs.Entries.{nodeOf, fromOf, nodeAt, fromAt}
 use Rattle.shortest.specs.Labels.{Label, Labelled}
 use Rattle.shortest.specs.Pairs.{toward}
 use Rattle.shortest.specs.Queue.{Between}
-use Rattle.shortest.specs.Turns.{SlotStage}
+use Rattle.shortest.specs.Slots.{SlotStage}
 
 -- The two places of a number, a node's or the source's.
 pub record PlacesOf (v : ℕ) (r : Pair) : Type 0 where
   pub node : r .low * 128 + r .high ≡ v
   pub high : r .high < 128
+
+-- The key of an entry.
+abbrev pub keyOf : List ℕ → ℕ → ℕ
+keyOf f e = fromOf e * 16 + symbolAt f (nodeOf e % 128)
 
 -- Number v is a node of symbol t that is no goal and not marked.
 pub record IsFresh (f ms : List ℕ) (v t : ℕ) : Type 0 where

@@ -32,7 +32,7 @@ module _ {q : List ℕ} where
   depth-most (none z) = omega arith
   depth-most (more l e x) = let r = depth-most x in omega arith
 
--- One step from a index that is not the source.
+-- One step from an index that is not the source.
 pub record Step (q : List ℕ) (index n : ℕ) : Type 0 where
   pub some : 1 ≤ fromAt q index
   pub falls : fromAt q index - 1 < index
@@ -72,7 +72,7 @@ module _ {q : List ℕ} {start : ℕ} where
       record { rest = h .count; here = h .depth; whole = rw z (h .depth); low = omega arith }
 
   module _ {index count : ℕ} (c : Counted q start index count) where
-    -- `from` of a index that is not the source.
+    -- `from` of an index that is not the source.
     module _ {r : ℕ} (e : r ≡ fromAt q index) (l : 0 < index) where
       pub count-some : 1 ≤ r
       count-some = let h = depth-step (c .here) l .some in omega arith

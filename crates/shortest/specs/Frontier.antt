@@ -1,5 +1,5 @@
--- Every walk ends at a index of the queue whose label comes no later than its message, or runs past the frontier, where the search stands. So the first goal that is
--- met has the least message, and an empty queue leaves no walk to a goal.
+-- Every walk ends at a node that is queued with a label no later than the walk's message, or its message lies past the frontier, where the search stands. So the
+-- first goal that is met has the least message, and a queue that is done leaves no walk to a goal.
 use mathlib.Core.Path.{_≡_, refl, sym, _∙_}
 use mathlib.Core.Bool.{Bool, true, false}
 use mathlib.Core.List.{List, [], _∷_, reverse, reverse-reverse}
@@ -17,7 +17,7 @@ use Rattle.shortest.specs.Entries.{nodeAt}
 use Rattle.shortest.specs.Queue.{Met, Queue, Stage, Between, after-source}
 use Rattle.shortest.specs.Labels.{Label, source, grown, label-of, same-label, sooner-label, no-later-label, label-walk}
 
--- Number v stands at a index whose label comes no later than m.
+-- Number v is queued with a label that comes no later than m.
 pub record Reached (g : Graph) (q : List ℕ) (tail : ℕ) (m : List ℕ) (v : ℕ) : Type 0 where
   pub index : ℕ
   pub below : index < tail
@@ -27,7 +27,7 @@ pub record Reached (g : Graph) (q : List ℕ) (tail : ℕ) (m : List ℕ) (v : �
   pub early : NoLater message m
 
 module _ {g : Graph} {ms q : List ℕ} {tail : ℕ} (s : Queue g ms q tail) where
-  -- A node that was met from index k has a label that comes no later than one symbol after that of k.
+  -- A node that was met from entry k has a label that comes no later than one symbol after that of k.
   met-reached : {k w : ℕ} {l m : List ℕ} → k < tail → Label g q k l → NoLater l m → Met q tail k w → w < g .nodes → Reached g q tail (g .symbol w ∷ m) w
   met-reached {k} {w} {l} {m} u x n r inside =
       let p = r .index in
@@ -76,6 +76,7 @@ module _ {g : Graph} {ms q : List ℕ} {tail : ℕ} (s : Queue g ms q tail) wher
     goal-past : {m : List ℕ} {v : ℕ} → Walk g m v → v < g .nodes → g .goal v ≡ true → Past m
     goal-past p l e = ⊎-elim (λ r. absurd (not-queued l e r)) (λ x. x) (walk-reached p)
 
+-- The order from the back, turned round.
 no-later-reach : (m n : List ℕ) → NoLater m (reverse n) → (reverse m ≡ n) ⊎ Shortlex (reverse m) n
 no-later-reach m n (inl e) = inl (rw e (reverse-reverse n))
 no-later-reach m n (inr p) = inr (rw (reverse-reverse n) at (sooner-shortlex p))

@@ -1,5 +1,5 @@
--- The label of a index of the queue: the message of its group, read off the entries along `from`. One group has one label, labels ascend with keys, and a walk to
--- each queued node reads its label.
+-- The label of a queue entry: the message of its group, from the back, read off the entries along `from`. One group has one label, labels ascend with keys, and
+-- a walk to each queued node reads its label.
 use mathlib.Core.Path.{_≡_, refl, sym, ap₂, _∙_}
 use mathlib.Core.List.{List, [], _∷_}
 use mathlib.Core.Logic.{inl, inr, ⊎-elim}
@@ -13,6 +13,7 @@ use Rattle.shortest.specs.Links.{Walk, none, more}
 use Rattle.shortest.specs.Entries.{nodeAt, fromAt}
 use Rattle.shortest.specs.Queue.{key, Queue, from-early}
 
+-- m is the label of entry k.
 pub data Label (g : Graph) (q : List ℕ) : ℕ → List ℕ → Type 0 where
   source : {k : ℕ} → k ≡ 0 → Label g q k []
   grown : {k f c : ℕ} {m : List ℕ} → f < k → fromAt q k ≡ f + 1 → g .symbol (nodeAt q k) ≡ c → Label g q f m → Label g q k (c ∷ m)
@@ -33,7 +34,7 @@ module _ {g : Graph} {ms q : List ℕ} {tail : ℕ} (s : Queue g ms q tail) wher
   label-below zero k h l = absurd (omega arith)
   label-below (suc n) k h l = label-more k l (λ f d. label-below n f (omega arith) (omega arith)) (ℕ-discrete k 0)
 
-  -- Every index has a label.
+  -- Every entry has a label.
   pub label-of : (k : ℕ) → k < tail → Labelled g q k
   label-of k l = label-below (k + 1) k (omega arith) l
 
@@ -55,14 +56,14 @@ module _ {g : Graph} {ms q : List ℕ} {tail : ℕ} (s : Queue g ms q tail) wher
       let z : f ≡ h = let p = same-from i j e in omega arith in
       ap₂ _∷_ (sym b ∙ same-symbol i j e ∙ y) (r (rw z))
 
-  -- Places with one key have one label.
+  -- Entries with one key have one label.
   pub same-label : {i j : ℕ} {l m : List ℕ} → key g q i ≡ key g q j → Label g q i l → Label g q j m → l ≡ m
   same-label e (source x) (source y) = refl
   same-label {i} {j} e (source x) (grown p a b y) = let c = source-key i x in absurd (omega arith)
   same-label {i} {j} e (grown p a b x) (source y) = let c = source-key j y in absurd (omega arith)
   same-label {i} {j} e (grown {f = f} p a b x) (grown {f = h} r c d y) = same-cons i j f h e a b c d (λ z. same-label z x y)
 
-  -- The indices before the group from which a index comes have smaller keys.
+  -- The entries before the group from which an entry comes have smaller keys.
   from-begins : (i f j : ℕ) → f < i → i < tail → fromAt q i ≡ f + 1 → j < f → key g q j < key g q f
   from-begins i f j p l e h =
       let o = s .origin i (omega arith) l in

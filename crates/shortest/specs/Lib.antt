@@ -13,6 +13,8 @@ pub mod Parts
 pub mod Push
 pub mod Queue
 pub mod Room
+pub mod Runs
+pub mod Slots
 pub mod Spelling
 pub mod Steps
 pub mod Triangle

@@ -16,7 +16,7 @@ use Rattle.places.specs.Roots.{Numbered, Starts, symbol-low, root-starts, start
 use Rattle.places.specs.Steps.{startNode}
 use Rattle.shortest.specs.Links.{Link, begin, along}
 use Rattle.shortest.specs.Queue.{Bounded}
-use Rattle.shortest.specs.Turns.{Slot, Slots}
+use Rattle.shortest.specs.Slots.{Slot, Slots}
 
 module _ (f : List ℕ) where
   -- Slot j of the source stands for the words j / 32 and j % 32.

@@ -14,7 +14,8 @@ use Rattle.shortest.specs.Entries.{nodeOf, nodeAt}
 use Rattle.shortest.specs.Pairs.{width, pair-slots}
 use Rattle.shortest.specs.Queue.{entry-most}
 use Rattle.shortest.specs.Room.{tail-most}
-use Rattle.shortest.specs.Turns.{slots-begin, next-member, next-symbol}
+use Rattle.shortest.specs.Slots.{slots-begin, next-member}
+use Rattle.shortest.specs.Turns.{next-symbol}
 
 -- What each progress says.
 module _ {f ms q : List ℕ} {a b t k c : ℕ} where

@@ -1,4 +1,4 @@
--- The queue of a search over pairs has at most 8,257 entries, the source and every pair with the lower index first; and where a goal is met, which is never queued,
+-- The queue of a search over pairs has at most 8,257 entries, the source and every pair with the lower place first; and where a goal is met, which is never queued,
 -- at most 8,256.
 use mathlib.Core.Path.{_≡_, sym, _∙_}
 use mathlib.Core.Bool.{Bool, true, false}
@@ -16,9 +16,9 @@ use Rattle.shortest.specs.Pairs.{link-order}
 use Rattle.shortest.specs.Triangle.{marks-few}
 
 module _ {f ms q : List ℕ} {tail : ℕ} (laid : Laid f) (n : Numbered f) (s : Queue (pairGraph f) ms q tail) where
-  -- A marked node stands at a index after the source.
-  marked-place : (v : ℕ) → 1 ≤ getD ms v 0 → (m : Queued q tail v) → 1 ≤ m .index
-  marked-place v h m =
+  -- A marked node stands at an index after the source.
+  marked-index : (v : ℕ) → 1 ≤ getD ms v 0 → (m : Queued q tail v) → 1 ≤ m .index
+  marked-index v h m =
       let l = inside ms v h in
       let z = s .size in
       after-source s (m .index) (let e = m .node in omega arith)
@@ -26,7 +26,7 @@ module _ {f ms q : List ℕ} {tail : ℕ} (laid : Laid f) (n : Numbered f) (s : 
   marked-order : (v : ℕ) → 1 ≤ getD ms v 0 → v / 128 ≤ v % 128
   marked-order v h =
       let m = s .found v h in
-      rw (m .node) at (link-order laid n (s .origin (m .index) (marked-place v h m) (m .below) .link))
+      rw (m .node) at (link-order laid n (s .origin (m .index) (marked-index v h m) (m .below) .link))
 
   pub tail-most : tail ≤ 8257
   tail-most = let r = s .room in omega (arith, marks-few ms (s .size) marked-order)
@@ -40,7 +40,7 @@ module _ {f ms q : List ℕ} {tail : ℕ} (laid : Laid f) (n : Numbered f) (s : 
       go (no x) =
           let h : 1 ≤ getD ms w 0 = omega arith in
           let m = s .found w h in
-          let d : pairGraph f .goal w ≡ false = rw (m .node) at (s .plain (m .index) (marked-place w h m) (m .below)) in
+          let d : pairGraph f .goal w ≡ false = rw (m .node) at (s .plain (m .index) (marked-index w h m) (m .below)) in
           let y : _≡_ {A = Bool} true false = sym e ∙ d in
           let z : _≡_ {A = ℕ} 0 1 = cc in
           absurd (omega arith)

@@ -16,23 +16,19 @@ pub record Spelled (g : Graph) (q : List ℕ) (start count : ℕ) : Type 0 where
   pub label : Label g q start message
   pub long : length message ≡ count
 
--- The label of `start`, of `count` symbols, stands at the front of p in index of what o has there.
+-- The label of `start`, of `count` symbols, stands at the front of p in place of what o has there.
 pub record Stored (g : Graph) (q : List ℕ) (start count : ℕ) (o p : List ℕ) : Type 0 where
-  pub message : List ℕ
-  pub label : Label g q start message
-  pub long : length message ≡ count
-  pub list : p ≡ reverse message ++ drop count o
+  pub spelled : Spelled g q start count
+  pub list : p ≡ reverse (spelled .message) ++ drop count o
 
 -- The last symbols of the label of `start` are stored, from `at` on; before them comes the label of `index`. The list was o at first.
 pub record Filled (g : Graph) (q : List ℕ) (start count : ℕ) (o : List ℕ) (index at : ℕ) (p : List ℕ) : Type 0 where
-  pub message : List ℕ
-  pub label : Label g q start message
-  pub long : length message ≡ count
+  pub spelled : Spelled g q start count
   pub rest : List ℕ
   pub here : Label g q index rest
   pub before : length rest ≡ at
   pub stored : List ℕ
-  pub joined : reverse rest ++ stored ≡ reverse message
+  pub joined : reverse rest ++ stored ≡ reverse (spelled .message)
   pub list : p ≡ take at o ++ (stored ++ drop count o)
   pub low : index ≤ start
   pub within : at ≤ count
@@ -49,9 +45,7 @@ module _ {g : Graph} {q : List ℕ} {start count : ℕ} {o : List ℕ} where
   pub fill-begin : count ≤ length o → Spelled g q start count → Filled g q start count o start count o
   fill-begin h s =
       record {
-        message = s .message;
-        label = s .label;
-        long = s .long;
+        spelled = s;
         rest = s .message;
         here = s .label;
         before = s .long;
@@ -72,9 +66,7 @@ module _ {g : Graph} {q : List ℕ} {start count : ℕ} {o : List ℕ} where
       let w = t .within in
       let y : suc (at - 1) ≡ at = omega arith in
       record {
-        message = t .message;
-        label = t .label;
-        long = t .long;
+        spelled = t .spelled;
         rest = m;
         here = rw z x;
         before = omega arith;
@@ -104,7 +96,7 @@ module _ {g : Graph} {q : List ℕ} {start count : ℕ} {o : List ℕ} where
     pub fill-some : 0 < index → 1 ≤ at
     fill-some l = let s = depth-step fill-depth l .count in omega arith
 
-    -- `from` of a index that is not the source.
+    -- `from` of an index that is not the source.
     module _ {r : ℕ} (e : r ≡ fromAt q index) (l : 0 < index) where
       pub fill-from : 1 ≤ r
       fill-from = let h = depth-step fill-depth l .some in omega arith
@@ -116,13 +108,13 @@ module _ {g : Graph} {q : List ℕ} {start count : ℕ} {o : List ℕ} where
       pub fill-next : {x : ℕ} → x ≡ g .symbol (nodeAt q index) → Filled g q start count o (r - 1) (at - 1) (set p (at - 1) x)
       fill-next d = rw (e, d) (fill-by refl (t .here) l)
 
-    fill-all : {r : List ℕ} → t .rest ≡ r → Label g q index r → index ≤ 0 → p ≡ reverse (t .message) ++ drop count o
+    fill-all : {r : List ℕ} → t .rest ≡ r → Label g q index r → index ≤ 0 → p ≡ reverse (t .spelled .message) ++ drop count o
     fill-all e (source z) l =
         let a : at ≡ 0 = let y = t .before in let k = ap length e in omega arith in
-        let b : t .stored ≡ reverse (t .message) = ap (λ (r : List ℕ). reverse r ++ t .stored) (sym e) ∙ t .joined in
+        let b : t .stored ≡ reverse (t .spelled .message) = ap (λ (r : List ℕ). reverse r ++ t .stored) (sym e) ∙ t .joined in
         t .list ∙ rw (a, b)
     fill-all e (grown h d s x) l = absurd (omega arith)
 
     -- At the source the whole label is stored.
     pub fill-end : index ≤ 0 → Stored g q start count o p
-    fill-end l = record { message = t .message; label = t .label; long = t .long; list = fill-all refl (t .here) l }
+    fill-end l = record { spelled = t .spelled; list = fill-all refl (t .here) l }

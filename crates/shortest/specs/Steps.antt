@@ -19,7 +19,7 @@ use Rattle.shortest.specs.Links.{Link}
 use Rattle.shortest.specs.Pairs.{toward, pair-slots}
 use Rattle.shortest.specs.Push.{entry-old}
 use Rattle.shortest.specs.Room.{tail-before-goal}
-use Rattle.shortest.specs.Turns.{pass, met-marked, push}
+use Rattle.shortest.specs.Slots.{pass, met-marked, push}
 
 -- What each arrival says.
 module _ {f ms : List ℕ} {v t : ℕ} where

@@ -2,9 +2,10 @@
 use mathlib.Core.Path.{_≡_, refl, ap, _∙_}
 use mathlib.Core.List.{List, _∷_, _++_, append-assoc, reverse, reverse-cons}
 use Prim.Native.Nat.{ℕ, suc, _+_, _-_, _≤_, _<_}
+use native.Mathlib.Decide.{decLt}
 use native.Mathlib.Numerals.{add-one}
 use native.Mathlib.Omega.{arith}
-use lib.ListN.{length, getD, drop, set, length-set, length-reverse}
+use lib.ListN.{length, getD, drop, set, replicate, length-set, length-reverse, length-replicate, getD-replicate, List·getD-eq-default}
 use lib.Seq.{drop-cons, drop-set-lt, getD-set-same}
 use Rattle.places.specs.declared.Pair.{Pair}
 use Rattle.places.specs.Flat.{Laid, pairGraph}
@@ -50,19 +51,30 @@ module _ {f q : List ℕ} {a t : ℕ} (m : GoalNext f q a t) where
   pub met-message : {o p : List ℕ} {n : ℕ} → Stored (pairGraph f) q a n (set o n t) p → n ≤ a → 8256 ≤ length o → Message f o p (n + 1)
   met-message {o} {p} {n} s h k =
       record {
-        symbols = reverse (t ∷ s .message);
-        long = length-reverse (t ∷ s .message) ∙ (let e = s .long in omega arith);
-        least = m .least (s .message) (s .label);
-        list = s .list ∙ written-list (s .message) o n (let l = m .small in omega arith);
+        symbols = reverse (t ∷ s .spelled .message);
+        long = length-reverse (t ∷ s .spelled .message) ∙ (let e = s .spelled .long in omega arith);
+        least = m .least (s .spelled .message) (s .spelled .label);
+        list = s .list ∙ written-list (s .spelled .message) o n (let l = m .small in omega arith);
       }
 
 -- shortest
+zeros : (n v : ℕ) → _≡_ {A = ℕ} (getD (replicate n 0) v 0) 0
+zeros n v = go (decLt v n)
+  where
+    go : Dec (v < n) → _≡_ {A = ℕ} (getD (replicate n 0) v 0) 0
+    go (yes l) = getD-replicate n v 0 0 l
+    go (no h) = List·getD-eq-default {A = ℕ} (replicate n 0) 0 (let e = length-replicate {A = ℕ} n 0 in omega arith)
+
 pub seeded : (q : List ℕ) {e : ℕ} → 16384 ≤ length q → e ≡ entryOf 0 16384 → Seeded (set q 0 e)
 seeded q {e} l d =
     record {
       node = ap nodeOf (getD-set-same q 0 e 0 (omega arith) ∙ d) ∙ node-entry 0 16384 (omega arith);
       from = ap fromOf (getD-set-same q 0 e 0 (omega arith) ∙ d) ∙ from-entry 0 16384 (omega arith);
     }
+
+-- A list of zeros has no mark.
+pub clear-zeros : Clear (replicate 16384 0)
+clear-zeros = record { long = length-replicate {A = ℕ} 16384 0; clear = λ v. zeros 16384 v }
 
 pub started : {f ms q : List ℕ} → Laid f → Numbered f → Clear ms → Seeded q → Between (pairGraph f) ms q 1 0
 started laid n c s = begun (pair-bounded laid n) (c .long) (c .clear) (s .node) (s .from)

@@ -9,12 +9,12 @@ use code::Word;
 use places::Layout;
 use places::Pair;
 ghost use mathlib.Core.Path.{_≡_};
-ghost use Prim.Native.Nat.{_+_, _*_, _%_, _^_, _≤_, _<_};
+ghost use Prim.Native.Nat.{_+_, _*_, _^_, _≤_, _<_};
 ghost use lib.ListN.{length, getD};
-ghost use Rattle.places.specs.Flat.{Laid, symbolAt, pairGraph};
+ghost use Rattle.places.specs.Flat.{Laid, pairGraph};
 ghost use Rattle.places.specs.Roots.{Numbered};
 ghost use Rattle.places.specs.Steps.{Arrives};
-ghost use Rattle.shortest.specs.Contracts.{PlacesOf, Seen, Stands, Ready, GoalNext, Progressed, Expanded, Explored, Seeded, Clear, Message, Answers};
+ghost use Rattle.shortest.specs.Contracts.{PlacesOf, keyOf, Seen, Stands, Ready, GoalNext, Progressed, Expanded, Explored, Seeded, Clear, Message, Answers};
 ghost use Rattle.shortest.specs.Queue.{Ascending, IsGroup, Between};
 ghost use Rattle.shortest.specs.Spelling.{Spelled, Stored};
 ghost use Rattle.shortest.specs.Depth.{HasDepth, Depth};
@@ -96,7 +96,7 @@ fn from_of(entry: u64) -> usize
 // The group of an entry, as a number: where the group of its predecessor begins, and its symbol.
 fn key(places: &[u8], entry: u64) -> usize
     requires { ⌜ Laid (now places) ⌝ }
-    ensures { λ r. ⌜ r ≡ fromOf entry * 16 + symbolAt (now (places .entry)) (nodeOf entry % 128) ⌝ }
+    ensures { λ r. ⌜ r ≡ keyOf (now (places .entry)) entry ⌝ }
 {
     let pair = pair_of(entry);
     (from_of(entry) << 4) + places::symbol(places, pair.high)
@@ -370,7 +370,7 @@ fn depth(queue: &[u64], start: usize) -> usize
     count
 }
 
-// Writes the label of a index, of `count` symbols, to the front of the message, the last symbol first.
+// Writes the label of an entry, of `count` symbols, to the front of the message, the last symbol first.
 fn fill(places: &[u8], queue: &[u64], message: &mut [u8], start: usize, count: usize)
     requires { ⌜ Laid (now places) × Spelled (pairGraph (now places)) (now queue) start count × (start < length (now queue)) × (count ≤ length (now message)) ⌝ }
     ensures { λ _. ⌜ Stored (pairGraph (now (places .entry))) (now (queue .entry)) start count (now (message .entry)) (now (message .exit)) ⌝ }

@@ -2,7 +2,7 @@ use borrow.Author.Needs.{needs}
 use Prim.Native.Nat.{_-_}
 use Rattle.places.specs.Flat.{pairGraph}
 use Rattle.shortest.specs.Groups.{group-more, group-differs, group-last}
-use Rattle.shortest.specs.Turns.{Run, run-one}
+use Rattle.shortest.specs.Runs.{Run, run-one}
 use Rattle.shortest.proofs.group_end.Statement.{statement}
 use Rattle.shortest.proofs.group_end.Tie as tie
 
