@@ -11,7 +11,8 @@ use Rattle.places.specs.Flat.{Laid, symbolAt, endAt, wordCount, slotsOf, arcFro
 use Rattle.places.specs.Steps.{Arrives, startNode, nowhere}
 use Rattle.shortest.specs.declared.Arrival.the-variants.{Passed, Fresh, Goal}
 use Rattle.shortest.specs.Contracts.{PlacesOf, Seen, passed, fresh, final}
-use Rattle.shortest.specs.Pairs.{firstFrom, toward, innerOf, width, toward-node, toward-source, first-words, first-disorder, first-past, width-on, width-off, width-source}
+use Rattle.shortest.specs.Pairs.{firstFrom, toward, innerOf, width, toward-node, toward-source, width-on, width-off, width-source}
+use Rattle.shortest.specs.Pairs.{first-words, first-disorder, first-past}
 
 -- The places of a node.
 pub low-of : (low high : ℕ) → high < 128 → (low * 128 + high) / 128 ≡ low

@@ -1,5 +1,5 @@
--- The slots of a pair of places, and of the source, as the search goes through them: they lead along the links of the graph of pairs, along every link, and only to
--- pairs with the lower place first.
+-- The slots of a pair of places, and of the source, as the search goes through them. They lead along the links of the graph of pairs, along every link, and only
+-- to pairs with the lower place first.
 use mathlib.Core.Path.{_≡_, refl, sym, ap, _∙_}
 use mathlib.Core.Bool.{Bool, true, false, _&&_}
 use mathlib.Core.List.{List}
@@ -135,6 +135,7 @@ module _ {f : List ℕ} (laid : Laid f) (n : Numbered f) where
     where
       s : (symbolAt f (onward f p j) ≡ symbolAt f (w % 128)) × (symbolAt f (onward f q j) ≡ symbolAt f (w % 128))
       s = arrival-symbol m (decLe (onward f p j) (onward f q j))
+
       go : (a : Bool) → endAt f p ≡ a → (b : Bool) → endAt f q ≡ b → leadsOn f p q (symbolAt f (w % 128)) ≡ true
       go false x b y = on-left p q x (ap (symbolAt f) (sym (inside f p j x)) ∙ s .0)
       go true x false y = on-right p q x (ap (symbolAt f) (sym (inside f q j y)) ∙ s .1)

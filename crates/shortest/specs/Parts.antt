@@ -28,7 +28,8 @@ module _ {f ms q : List ℕ} {a b t k c : ℕ} where
   was-tail {e} (went {e = y} h) d = let z : y ≡ e = cc in rw z at h
 
 -- A goal that a part of a group meets, the group meets.
-pub goal-again : {f ms q : List ℕ} {a b t k c t′ k′ c′ x : ℕ} {r : Progress} → Progressed f ms q a b t k c r → r ≡ Goal x → Progressed f ms q a b t′ k′ c′ (Goal x)
+pub goal-again : {f ms q : List ℕ} {a b t k c t′ k′ c′ x : ℕ} {r : Progress} → Progressed f ms q a b t k c r → r ≡ Goal x
+    → Progressed f ms q a b t′ k′ c′ (Goal x)
 goal-again h e = met (was-goal h e)
 
 module _ {f ms q : List ℕ} {tail a b t k c : ℕ} (laid : Laid f) (n : Numbered f) (s : Stands f ms q tail a b t k c) where

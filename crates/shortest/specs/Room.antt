@@ -1,5 +1,5 @@
--- The queue of a search over pairs has at most 8,257 entries, the source and every pair with the lower place first; and where a goal is met, which is never queued,
--- at most 8,256.
+-- The queue of a search over pairs has at most 8,257 entries, for the source and for every pair with the lower place first; and at most 8,256 where a goal is met,
+-- which is never queued. So no message is longer.
 use mathlib.Core.Path.{_≡_, sym, _∙_}
 use mathlib.Core.Bool.{Bool, true, false}
 use mathlib.Core.List.{List}
@@ -51,5 +51,9 @@ module _ {f ms q : List ℕ} {tail : ℕ} (laid : Laid f) (n : Numbered f) (s : 
       let z = s .size in
       let r = s .room in
       let l : w < length ms = let k = link-node d in omega arith in
-      omega (arith, goal-clear w e, total-set mark ms w 1 l,
-      marks-few (set ms w 1) (length-set ms w 1 ∙ z) (on-set ms w 1 l (λ u x. 1 ≤ x → u / 128 ≤ u % 128) (λ h. link-order laid n d) (λ u ne. marked-order u)))
+      omega (
+        arith,
+        goal-clear w e,
+        total-set mark ms w 1 l,
+        marks-few (set ms w 1) (length-set ms w 1 ∙ z) (on-set ms w 1 l (λ u x. 1 ≤ x → u / 128 ≤ u % 128) (λ h. link-order laid n d) (λ u ne. marked-order u)),
+      )

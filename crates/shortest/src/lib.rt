@@ -14,7 +14,8 @@ ghost use lib.ListN.{length, getD};
 ghost use Rattle.places.specs.Flat.{Laid, pairGraph};
 ghost use Rattle.places.specs.Roots.{Numbered};
 ghost use Rattle.places.specs.Steps.{Arrives};
-ghost use Rattle.shortest.specs.Contracts.{PlacesOf, keyOf, Seen, Stands, Ready, GoalNext, Progressed, Expanded, Explored, Seeded, Clear, Message, Answers};
+ghost use Rattle.shortest.specs.Contracts.{PlacesOf, keyOf, Seen, Stands, Ready, Progressed};
+ghost use Rattle.shortest.specs.Contracts.{GoalNext, Expanded, Explored, Seeded, Clear, Message, Answers};
 ghost use Rattle.shortest.specs.Queue.{Ascending, IsGroup, Between};
 ghost use Rattle.shortest.specs.Spelling.{Spelled, Stored};
 ghost use Rattle.shortest.specs.Depth.{HasDepth, Depth};
@@ -199,8 +200,13 @@ fn step(
     slot: usize,
     tail: usize,
 ) -> Progress
-    requires { ⌜ Laid (now places) × Numbered (now places) × Stands (now places) (now marks) (now queue) tail (group .start) (group .end) symbol member slot × Ready (now marks) (now queue) tail (group .start) (group .end) symbol member ⌝ }
-    ensures { λ r. ⌜ Progressed (now (places .entry)) (now (marks .exit)) (now (queue .exit)) (group .start) (group .end) symbol member (slot + 1) r × (getD (now (queue .exit)) member 0 ≡ getD (now (queue .entry)) member 0) ⌝ }
+    requires { ⌜ Laid (now places)
+        × Numbered (now places)
+        × Stands (now places) (now marks) (now queue) tail (group .start) (group .end) symbol member slot
+        × Ready (now marks) (now queue) tail (group .start) (group .end) symbol member ⌝ }
+    ensures { λ r. ⌜ Progressed (now (places .entry)) (now (marks .exit)) (now (queue .exit))
+        (group .start) (group .end) symbol member (slot + 1) r
+        × (getD (now (queue .exit)) member 0 ≡ getD (now (queue .entry)) member 0) ⌝ }
 {
     let pair = next(places, pair_of(queue[member]), slot);
     match look(places, marks, pair, symbol) {
@@ -224,8 +230,12 @@ fn expand_member(
     member: usize,
     tail: usize,
 ) -> Progress
-    requires { ⌜ Laid (now places) × Numbered (now places) × Stands (now places) (now marks) (now queue) tail (group .start) (group .end) symbol member 0 × Ready (now marks) (now queue) tail (group .start) (group .end) symbol member ⌝ }
-    ensures { λ r. ⌜ Progressed (now (places .entry)) (now (marks .exit)) (now (queue .exit)) (group .start) (group .end) symbol (member + 1) 0 r ⌝ }
+    requires { ⌜ Laid (now places)
+        × Numbered (now places)
+        × Stands (now places) (now marks) (now queue) tail (group .start) (group .end) symbol member 0
+        × Ready (now marks) (now queue) tail (group .start) (group .end) symbol member ⌝ }
+    ensures { λ r. ⌜ Progressed (now (places .entry)) (now (marks .exit)) (now (queue .exit))
+        (group .start) (group .end) symbol (member + 1) 0 r ⌝ }
 {
     let end = width(places, pair_of(queue[member]), symbol);
     let mut slot: usize = 0;
@@ -249,8 +259,13 @@ fn expand_symbol(
     symbol: usize,
     tail: usize,
 ) -> Progress
-    requires { ⌜ Laid (now places) × Numbered (now places) × (16384 ≤ length (now queue)) × (symbol < 16) × Stands (now places) (now marks) (now queue) tail (group .start) (group .end) symbol (group .start) 0 ⌝ }
-    ensures { λ r. ⌜ Progressed (now (places .entry)) (now (marks .exit)) (now (queue .exit)) (group .start) (group .end) (symbol + 1) (group .start) 0 r ⌝ }
+    requires { ⌜ Laid (now places)
+        × Numbered (now places)
+        × (16384 ≤ length (now queue))
+        × (symbol < 16)
+        × Stands (now places) (now marks) (now queue) tail (group .start) (group .end) symbol (group .start) 0 ⌝ }
+    ensures { λ r. ⌜ Progressed (now (places .entry)) (now (marks .exit)) (now (queue .exit))
+        (group .start) (group .end) (symbol + 1) (group .start) 0 r ⌝ }
 {
     let mut member = group.start;
     let mut tail = tail;
@@ -272,8 +287,12 @@ fn expand_group(
     group: Group,
     tail: usize,
 ) -> Progress
-    requires { ⌜ Laid (now places) × Numbered (now places) × (16384 ≤ length (now queue)) × Stands (now places) (now marks) (now queue) tail (group .start) (group .end) 0 (group .start) 0 ⌝ }
-    ensures { λ r. ⌜ Progressed (now (places .entry)) (now (marks .exit)) (now (queue .exit)) (group .start) (group .end) 16 (group .start) 0 r ⌝ }
+    requires { ⌜ Laid (now places)
+        × Numbered (now places)
+        × (16384 ≤ length (now queue))
+        × Stands (now places) (now marks) (now queue) tail (group .start) (group .end) 0 (group .start) 0 ⌝ }
+    ensures { λ r. ⌜ Progressed (now (places .entry)) (now (marks .exit)) (now (queue .exit))
+        (group .start) (group .end) 16 (group .start) 0 r ⌝ }
 {
     let mut symbol: usize = 0;
     let mut tail = tail;
@@ -311,7 +330,12 @@ fn advance(
     start: usize,
     tail: usize,
 ) -> Expansion
-    requires { ⌜ Laid (now places) × Numbered (now places) × (16384 ≤ length (now queue)) × (start < tail) × (tail ≤ 8257) × Between (pairGraph (now places)) (now marks) (now queue) tail start ⌝ }
+    requires { ⌜ Laid (now places)
+        × Numbered (now places)
+        × (16384 ≤ length (now queue))
+        × (start < tail)
+        × (tail ≤ 8257)
+        × Between (pairGraph (now places)) (now marks) (now queue) tail start ⌝ }
     ensures { λ r. ⌜ Expanded (now (places .entry)) (now (marks .exit)) (now (queue .exit)) start r ⌝ }
 {
     let end = group_end(places, queue, start, tail);
@@ -327,7 +351,10 @@ fn advance(
 
 // Deals with group after group.
 fn explore(places: &[u8], marks: &mut [u16], queue: &mut [u64]) -> Exploration
-    requires { ⌜ Laid (now places) × Numbered (now places) × (16384 ≤ length (now queue)) × Between (pairGraph (now places)) (now marks) (now queue) 1 0 ⌝ }
+    requires { ⌜ Laid (now places)
+        × Numbered (now places)
+        × (16384 ≤ length (now queue))
+        × Between (pairGraph (now places)) (now marks) (now queue) 1 0 ⌝ }
     ensures { λ r. ⌜ Explored (now (places .entry)) (now (queue .exit)) r ⌝ }
 {
     let mut start: usize = 0;
@@ -372,7 +399,10 @@ fn depth(queue: &[u64], start: usize) -> usize
 
 // Writes the label of an entry, of `count` symbols, to the front of the message, the last symbol first.
 fn fill(places: &[u8], queue: &[u64], message: &mut [u8], start: usize, count: usize)
-    requires { ⌜ Laid (now places) × Spelled (pairGraph (now places)) (now queue) start count × (start < length (now queue)) × (count ≤ length (now message)) ⌝ }
+    requires { ⌜ Laid (now places)
+        × Spelled (pairGraph (now places)) (now queue) start count
+        × (start < length (now queue))
+        × (count ≤ length (now message)) ⌝ }
     ensures { λ _. ⌜ Stored (pairGraph (now (places .entry))) (now (queue .entry)) start count (now (message .entry)) (now (message .exit)) ⌝ }
 {
     let mut index = start;
@@ -388,14 +418,11 @@ fn fill(places: &[u8], queue: &[u64], message: &mut [u8], start: usize, count: u
 }
 
 // Writes the label of a group and one symbol more.
-fn write(
-    places: &[u8],
-    queue: &[u64],
-    message: &mut [u8],
-    start: usize,
-    symbol: usize,
-) -> usize
-    requires { ⌜ Laid (now places) × GoalNext (now places) (now queue) start symbol × (16384 ≤ length (now queue)) × (8256 ≤ length (now message)) ⌝ }
+fn write(places: &[u8], queue: &[u64], message: &mut [u8], start: usize, symbol: usize) -> usize
+    requires { ⌜ Laid (now places)
+        × GoalNext (now places) (now queue) start symbol
+        × (16384 ≤ length (now queue))
+        × (8256 ≤ length (now message)) ⌝ }
     ensures { λ r. ⌜ Message (now (places .entry)) (now (message .entry)) (now (message .exit)) r ⌝ }
 {
     let count = depth(queue, start);
@@ -406,13 +433,12 @@ fn write(
 
 // The length of the shortest message of a walk from a first pair to a pair of two ends, the earliest in symbol order among equals; the
 // message stands at the front of its buffer. The marks are clear at first. What the queue then holds is of no use to the caller.
-pub fn shortest(
-    places: &[u8],
-    marks: &mut [u16],
-    queue: &mut [u64],
-    message: &mut [u8],
-) -> Search
-    requires { ⌜ Laid (now places) × Numbered (now places) × Clear (now marks) × (16384 ≤ length (now queue)) × (8256 ≤ length (now message)) ⌝ }
+pub fn shortest(places: &[u8], marks: &mut [u16], queue: &mut [u64], message: &mut [u8]) -> Search
+    requires { ⌜ Laid (now places)
+        × Numbered (now places)
+        × Clear (now marks)
+        × (16384 ≤ length (now queue))
+        × (8256 ≤ length (now message)) ⌝ }
     ensures { λ r. ⌜ Answers (now (places .entry)) (now (message .entry)) (now (message .exit)) r ⌝ }
 {
     seed(queue);

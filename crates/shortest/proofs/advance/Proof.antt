@@ -1,3 +1,4 @@
+-- `advance` finds the group and deals with it, so the search stands before the next group.
 use borrow.Author.Needs.{needs}
 use Rattle.shortest.specs.Groups.{entered, expand-goal, expand-next}
 use Rattle.shortest.proofs.advance.Statement.{statement}

@@ -1,3 +1,4 @@
+-- `depth` counts the steps to the source. The invariant: `count` steps lead from `start` to `index`. The measure is `index`, since `from` leads back.
 use borrow.Author.Needs.{needs}
 use Rattle.shortest.specs.Depth.{Counted, count-begin, count-some, count-falls, count-next, count-most, count-end}
 use native.Mathlib.Omega.{arith}

@@ -1,3 +1,5 @@
+-- `expand_group` deals with a group symbol by symbol. The invariant: the symbols before `symbol` are done for every member. The measure is what is left of the
+-- alphabet.
 use borrow.Author.Needs.{needs}
 use mathlib.Core.Path.{_≡_}
 use Prim.Native.Nat.{_≤_, _-_}
@@ -8,7 +10,11 @@ use Rattle.shortest.proofs.expand_group.Statement.{statement}
 use Rattle.shortest.proofs.expand_group.Tie as tie
 
 abbrev Inv-loop : tie.InvT-loop
-Inv-loop places marks₀ queue₀ group tail symbol₀ tail₀ marks queue symbol tail' = Stands places marks queue tail' (group .start) (group .end) symbol (group .start) 0 × (16384 ≤ length queue) × (length marks ≡ length marks₀) × (length queue ≡ length queue₀)
+Inv-loop places marks₀ queue₀ group tail symbol₀ tail₀ marks queue symbol tail'
+    =
+    Stands places marks queue tail' (group .start) (group .end) symbol (group .start) 0 × (16384 ≤ length queue)
+    × (length marks ≡ length marks₀)
+    × (length queue ≡ length queue₀)
 
 abbrev μ-loop : tie.MeasureT-loop
 μ-loop places marks₀ queue₀ group tail symbol₀ tail₀ marks queue symbol tail' = 16 - symbol

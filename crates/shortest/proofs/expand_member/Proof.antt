@@ -1,3 +1,5 @@
+-- `expand_member` deals with the slots of a member. The invariant: the slots before `slot` are done and the member's entry stands. The measure is what is left
+-- of the slots.
 use borrow.Author.Needs.{needs}
 use mathlib.Core.Path.{_≡_}
 use Prim.Native.Nat.{_-_}
@@ -8,7 +10,11 @@ use Rattle.shortest.proofs.expand_member.Statement.{statement}
 use Rattle.shortest.proofs.expand_member.Tie as tie
 
 abbrev Inv-loop : tie.InvT-loop
-Inv-loop places marks₀ queue₀ group symbol member tail end slot₀ tail₀ marks queue slot tail' = Stands places marks queue tail' (group .start) (group .end) symbol member slot × (getD queue member 0 ≡ getD queue₀ member 0) × (length marks ≡ length marks₀) × (length queue ≡ length queue₀)
+Inv-loop places marks₀ queue₀ group symbol member tail end slot₀ tail₀ marks queue slot tail'
+    =
+    Stands places marks queue tail' (group .start) (group .end) symbol member slot × (getD queue member 0 ≡ getD queue₀ member 0)
+    × (length marks ≡ length marks₀)
+    × (length queue ≡ length queue₀)
 
 abbrev μ-loop : tie.MeasureT-loop
 μ-loop places marks₀ queue₀ group symbol member tail end slot₀ tail₀ marks queue slot tail' = end - slot

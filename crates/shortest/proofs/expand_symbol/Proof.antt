@@ -1,3 +1,5 @@
+-- `expand_symbol` deals with the members of a group for one symbol. The invariant: the members before `member` are done. The measure is what is left of the
+-- group.
 use borrow.Author.Needs.{needs}
 use mathlib.Core.Path.{_≡_}
 use Prim.Native.Nat.{_≤_, _-_}
@@ -8,7 +10,11 @@ use Rattle.shortest.proofs.expand_symbol.Statement.{statement}
 use Rattle.shortest.proofs.expand_symbol.Tie as tie
 
 abbrev Inv-loop : tie.InvT-loop
-Inv-loop places marks₀ queue₀ group symbol tail member₀ tail₀ marks queue member tail' = Stands places marks queue tail' (group .start) (group .end) symbol member 0 × (16384 ≤ length queue) × (length marks ≡ length marks₀) × (length queue ≡ length queue₀)
+Inv-loop places marks₀ queue₀ group symbol tail member₀ tail₀ marks queue member tail'
+    =
+    Stands places marks queue tail' (group .start) (group .end) symbol member 0 × (16384 ≤ length queue)
+    × (length marks ≡ length marks₀)
+    × (length queue ≡ length queue₀)
 
 abbrev μ-loop : tie.MeasureT-loop
 μ-loop places marks₀ queue₀ group symbol tail member₀ tail₀ marks queue member tail' = group .end - member

@@ -1,3 +1,5 @@
+-- `explore` deals with group after group. The invariant: all groups before `start` are done. The measure falls as `start` rises: the queue has at most 8,257
+-- entries.
 use borrow.Author.Needs.{needs}
 use mathlib.Core.Path.{_≡_}
 use Prim.Native.Nat.{_≤_, _-_}
@@ -9,7 +11,11 @@ use Rattle.shortest.proofs.explore.Statement.{statement}
 use Rattle.shortest.proofs.explore.Tie as tie
 
 abbrev Inv-loop : tie.InvT-loop
-Inv-loop places marks₀ queue₀ start₀ tail₀ marks queue start tail = Between (pairGraph places) marks queue tail start × (16384 ≤ length queue) × (tail ≤ 8257) × (length marks ≡ length marks₀) × (length queue ≡ length queue₀)
+Inv-loop places marks₀ queue₀ start₀ tail₀ marks queue start tail
+    =
+    Between (pairGraph places) marks queue tail start × (16384 ≤ length queue) × (tail ≤ 8257)
+    × (length marks ≡ length marks₀)
+    × (length queue ≡ length queue₀)
 
 abbrev μ-loop : tie.MeasureT-loop
 μ-loop places marks₀ queue₀ start₀ tail₀ marks queue start tail = 8257 - start

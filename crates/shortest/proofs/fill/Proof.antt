@@ -1,3 +1,5 @@
+-- `fill` stores a label back to front. The invariant: the last symbols are stored from `at` on, and the label of `index` comes before them. The measure is
+-- `index`.
 use borrow.Author.Needs.{needs}
 use mathlib.Core.Path.{_≡_}
 use lib.ListN.{length}
@@ -8,7 +10,9 @@ use Rattle.shortest.proofs.fill.Statement.{statement}
 use Rattle.shortest.proofs.fill.Tie as tie
 
 abbrev Inv-loop : tie.InvT-loop
-Inv-loop places queue message₀ start count index₀ at₀ message index at = Filled (pairGraph places) queue start count message₀ index at message × (length message ≡ length message₀)
+Inv-loop places queue message₀ start count index₀ at₀ message index at
+    =
+    Filled (pairGraph places) queue start count message₀ index at message × (length message ≡ length message₀)
 
 abbrev μ-loop : tie.MeasureT-loop
 μ-loop places queue message₀ start count index₀ at₀ message index at = index

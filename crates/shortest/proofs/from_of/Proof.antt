@@ -1,3 +1,4 @@
+-- `from_of` unpacks the other part of an entry: a shift is a quotient, and a 64-bit number has few.
 use native.Mathlib.Omega.{arith}
 use Rattle.shortest.specs.Entries.{fromOf}
 use Rattle.shortest.proofs.from_of.Statement.{statement}

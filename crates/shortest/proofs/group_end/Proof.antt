@@ -1,3 +1,4 @@
+-- `group_end` scans for the end of a group. The invariant: the entries from `start` to `end` have one key. The measure is what is left of the queue.
 use borrow.Author.Needs.{needs}
 use Prim.Native.Nat.{_-_}
 use Rattle.places.specs.Flat.{pairGraph}
@@ -37,7 +38,10 @@ key-requires-2 : tie.Need-key-requires-2 Inv-loop μ-loop
 key-requires-2 c κs = search needs
 
 returns : tie.Need-returns Inv-loop μ-loop
-returns c = let l = c .before .before .before .before in let s = l .before .before .before .before .before in group-differs (s .pre .0) (s .pre .1) (l .loop .inv) (c .before .key2 .ensures) (l .before .key .ensures) (c .if1 .taken)
+returns c =
+    let l = c .before .before .before .before in
+    let s = l .before .before .before .before .before in
+    group-differs (s .pre .0) (s .pre .1) (l .loop .inv) (c .before .key2 .ensures) (l .before .key .ensures) (c .if1 .taken)
 
 add-end-2 : tie.Need-add-end-2 Inv-loop μ-loop
 add-end-2 c = search needs
@@ -46,7 +50,10 @@ loop-less : tie.Need-loop-less Inv-loop μ-loop
 loop-less c = search needs
 
 loop-again : tie.Need-loop-again Inv-loop μ-loop
-loop-again c = let l = c .before .before .before .before in let s = l .before .before .before .before .before in group-more (s .pre .0) (s .pre .1) (l .loop .inv) (c .before .key2 .ensures) (l .before .key .ensures) (c .if1 .left) (search needs)
+loop-again c =
+    let l = c .before .before .before .before in
+    let s = l .before .before .before .before .before in
+    group-more (s .pre .0) (s .pre .1) (l .loop .inv) (c .before .key2 .ensures) (l .before .key .ensures) (c .if1 .left) (search needs)
 
 returns-2 : tie.Need-returns-2 Inv-loop μ-loop
 returns-2 c = search group-last

@@ -1,3 +1,4 @@
+-- `inner` is the place that is not an end, by the cases of `innerOf`.
 use borrow.Author.Needs.{needs}
 use Rattle.shortest.specs.Leaves.{inner-end, inner-inside}
 use Rattle.shortest.proofs.inner.Statement.{statement}

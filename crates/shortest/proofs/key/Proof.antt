@@ -1,3 +1,4 @@
+-- `key` is the key of an entry: what `from_of` and `pair_of` unpack, and the symbol of the higher place, which is a byte.
 use borrow.Author.Needs.{needs}
 use native.Mathlib.Omega.{arith}
 use Rattle.shortest.specs.Leaves.{places-symbol}

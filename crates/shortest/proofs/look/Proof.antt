@@ -1,3 +1,4 @@
+-- `look` tells what stands where a slot leads; each way out is one case of `Seen`.
 use borrow.Author.Needs.{needs}
 use Rattle.shortest.specs.Leaves.{seen-nowhere, seen-other, seen-marked, seen-goal, seen-fresh}
 use Rattle.shortest.proofs.look.Statement.{statement}

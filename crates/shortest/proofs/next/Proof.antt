@@ -1,3 +1,4 @@
+-- `next` leads from a pair as `successor` does, and from the source as `first` does: the two cases of `toward`.
 use borrow.Author.Needs.{needs}
 use Rattle.shortest.specs.Leaves.{arrives-pair, arrives-first}
 use Rattle.shortest.proofs.next.Statement.{statement}

@@ -1,3 +1,4 @@
+-- `pair_of` unpacks a node: linear arithmetic on the quotients and remainders by which `nodeOf` reads an entry.
 use borrow.Author.Needs.{needs}
 use native.Mathlib.Omega.{arith}
 use Rattle.shortest.specs.Entries.{nodeOf}

@@ -1,3 +1,4 @@
+-- `seed` stores the entry of the source, which is read back as such.
 use borrow.Author.Needs.{needs}
 use Rattle.shortest.specs.Writing.{seeded}
 use Rattle.shortest.proofs.seed.Statement.{statement}

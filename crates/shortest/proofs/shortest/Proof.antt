@@ -1,3 +1,4 @@
+-- `shortest` starts with the source alone and no mark, and answers as the exploration ends.
 use borrow.Author.Needs.{needs}
 use Rattle.shortest.specs.Contracts.{found}
 use Rattle.shortest.specs.Writing.{started, was-reached, answer-nothing}
@@ -14,7 +15,10 @@ enum-known-a : tie.Need-enum-known-a
 enum-known-a c = search needs
 
 write-requires : tie.Need-write-requires
-write-requires c κs = let x = c .before .before .before in (search needs, was-reached (x .before .before .before .before .before .before .explore .ensures) (x .a .given .1), search needs, search needs)
+write-requires c κs =
+    let x = c .before .before .before in
+    let e = x .before .before .before .before .before .before in
+    (search needs, was-reached (e .explore .ensures) (x .a .given .1), search needs, search needs)
 
 enum-told : tie.Need-enum-told
 enum-told c = search needs

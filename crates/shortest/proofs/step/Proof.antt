@@ -1,3 +1,4 @@
+-- `step` deals with one slot: it is passed, a goal is met, or the new node is marked and queued. Each way out is one lemma of Steps.
 use borrow.Author.Needs.{needs}
 use Rattle.shortest.specs.Steps.{step-passed, step-goal, step-fresh, fresh-within, member-kept}
 use Rattle.shortest.proofs.step.Statement.{statement}

@@ -1,3 +1,4 @@
+-- `two_ends` is the goal of the graph of pairs, by whether the lower place is an end.
 use borrow.Author.Needs.{needs}
 use Rattle.shortest.specs.Leaves.{ends-both, ends-inside}
 use Rattle.shortest.proofs.two_ends.Statement.{statement}

@@ -1,3 +1,4 @@
+-- `width` counts the slots by its three cases: the source, a symbol that leads on, a symbol that does not.
 use borrow.Author.Needs.{needs}
 use Prim.Native.Nat.{_+_}
 use native.Mathlib.Omega.{arith}
@@ -9,7 +10,9 @@ word-count-requires : tie.Need-word-count-requires
 word-count-requires c κs = search needs
 
 returns : tie.Need-returns
-returns c = let s = c .before .before .before .before in width-words (s .pre .0) (s .args .pair .low) (s .args .pair .high) (s .args .symbol) (omega arith) (c .before .if1 .taken)
+returns c =
+    let s = c .before .before .before .before in
+    width-words (s .pre .0) (s .args .pair .low) (s .args .pair .high) (s .args .symbol) (omega arith) (c .before .if1 .taken)
 
 inner-requires : tie.Need-inner-requires
 inner-requires c κs = search needs
