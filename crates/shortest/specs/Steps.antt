@@ -1,6 +1,5 @@
 -- One slot of a member, way by way: it leads to nothing new, to a goal, or to a node that is then queued.
-use mathlib.Core.Path.{_≡_, refl, sym, ap, _∙_}
-use mathlib.Core.Bool.{true, false}
+use mathlib.Core.Path.{_≡_, sym, ap, _∙_}
 use mathlib.Core.List.{List}
 use Prim.Native.Nat.{ℕ, _+_, _*_, _≤_, _<_}
 use native.Mathlib.Omega.{arith}
@@ -20,7 +19,7 @@ use Rattle.shortest.specs.Links.{Link}
 use Rattle.shortest.specs.Pairs.{toward, pair-slots}
 use Rattle.shortest.specs.Push.{entry-old}
 use Rattle.shortest.specs.Room.{tail-before-goal}
-use Rattle.shortest.specs.Turns.{pass, met-marked, push}
+use Rattle.shortest.specs.Slots.{pass, met-marked, push}
 
 -- What each arrival says.
 module _ {f ms : List ℕ} {v t : ℕ} where
@@ -40,8 +39,7 @@ module _ {f ms : List ℕ} {v t : ℕ} where
   was-final (final h) e = h
 
 module _ {f ms q : List ℕ} {tail a b t k c : ℕ} (laid : Laid f) (n : Numbered f) (s : Stands f ms q tail a b t k c) (r : Ready ms q tail a b t k) {p o : Pair}
-  (u : PlacesOf (nodeOf (getD q k 0)) p) (d : Arrives (toward f (p .low * 128 + p .high) c) o) where
-
+    (u : PlacesOf (nodeOf (getD q k 0)) p) (d : Arrives (toward f (p .low * 128 + p .high) c) o) where
   leads : toward f (nodeAt q k) c ≡ o .low * 128 + o .high
   leads = ap (λ (v : ℕ). toward f v c) (sym (u .node)) ∙ sym (d .node)
 
