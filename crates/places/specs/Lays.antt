@@ -16,7 +16,7 @@ unfoldable pub base : Table → ℕ → ℕ
 base t x = sum (table (lengthOf t) x)
 
 -- The entries of word x, whose places start at number `at`.
-pub record WordAt (t : Table) (f : List ℕ) (x at : ℕ) : Type 0 where
+pub record LaysWord (t : Table) (f : List ℕ) (x at : ℕ) : Type 0 where
   pub symbols : (k : ℕ) → k < lengthOf t x → symbolAt f (at + k) ≡ getD (word t x) k 0
   pub owners : (k : ℕ) → k < lengthOf t x → ownerAt f (at + k) ≡ x
   pub ends : (k : ℕ) → k < lengthOf t x → endAt f (at + k) ≡ eqb (suc k) (lengthOf t x)
@@ -25,5 +25,5 @@ pub record WordAt (t : Table) (f : List ℕ) (x at : ℕ) : Type 0 where
 
 pub record Lays (t : Table) (f : List ℕ) : Type 0 where
   pub count : wordCount f ≡ size t
-  pub words : (x : ℕ) → x < size t → WordAt t f x (base t x)
+  pub words : (x : ℕ) → x < size t → LaysWord t f x (base t x)
   pub room : base t (size t) ≤ 128

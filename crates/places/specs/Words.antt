@@ -1,5 +1,5 @@
 -- What laying out one word does to the flat list: its own entries, and no other entry changes.
-use mathlib.Core.Path.{_≡_, sym, _∙_}
+use mathlib.Core.Path.{_≡_, _∙_}
 use mathlib.Core.List.{List}
 use Prim.Native.Nat.{ℕ, _+_, _*_, _-_, _≤_, _<_}
 use native.Mathlib.Omega.{arith}
@@ -27,6 +27,7 @@ pub record Apart (at x len i : ℕ) : Type 0 where
   pub first : i ≡ 384 + x → ⊥
   pub row : 416 + x * 32 ≤ i → i < 416 + x * 32 + 32 → ⊥
 
+-- Word w and row r are laid out as word x, with places from number `at` on.
 pub record WordLaid (at x : ℕ) (w : Word) (r : Row) (f g : List ℕ) : Type 0 where
   pub long : length g ≡ length f
   pub symbols : (k : ℕ) → k < w .len → symbolAt g (at + k) ≡ getD (w .symbols) k 0
@@ -71,6 +72,7 @@ module _ (at x : ℕ) (w : Word) (r : Row) {f f₁ f₂ f₃ f₄ g : List ℕ} 
       let e : 416 + (x * 32 + y) ≡ 416 + x * 32 + y = omega arith in
       rw e (row .within y l)
 
+  -- Together they lay out the word.
   pub word-laid : WordLaid at x w r f g
   word-laid = record {
     long = row .long ∙ first .long ∙ end .long ∙ owners .long ∙ symbols .long;

@@ -1,0 +1,120 @@
+-- What the bits of a position tell of the words that open a reading there: whether there is one, the lowest, the next above it. Where the bits are right, the
+-- least usable word from a number on is the least that opens a reading.
+use mathlib.Core.Path.{_≡_, sym, _∙_}
+use mathlib.Core.Bool.{Bool, true, false, false≢true, _&&_, and-eq-true-iff}
+use mathlib.Core.List.{List, [], _∷_}
+use Prim.Native.Nat.{ℕ, _+_, _*_, _^_, _≤_, _<_}
+use native.Mathlib.Decide.{decLt}
+use native.Mathlib.Omega.{arith}
+use borrow.Author.Tests.{lt-ltb, le-ltb}
+use lib.Dec.{ltb}
+use lib.ListN.{length}
+use Rattle.bits.specs.Bits.{bitAt}
+use Rattle.table.specs.Exactly.{Exactly, exactly-true, exactly-false}
+use Rattle.reading.specs.Firsts.{by-order}
+use Rattle.reading.specs.Text.{Text, Bounded, From, done, word, Can, Begins, Opens, Lowest, Highest, Next}
+use Rattle.reading.specs.Flat.{stride, mayAfter, text}
+use Rattle.reading.specs.Marks.{bitOfWord, Marked}
+
+-- Word x has its bit on at position p, and may come after y.
+unfoldable pub usable : (work follow : List ℕ) (n p y x : ℕ) → Bool
+usable work follow n p y x = bitAt work (bitOfWord p x) && mayAfter follow n x y
+
+-- What asking for the words usable at position p after y needs.
+pub record Asks (work follow : List ℕ) (n p y : ℕ) : Type 0 where
+  pub small : n ≤ stride
+  pub matrix : n * stride ≤ length follow
+  pub room : p < length work
+  pub near : p < 2 ^ 32
+  pub last : y ≤ n
+
+-- No word from a number up to x is usable.
+abbrev pub NoneUsable : (work follow : List ℕ) (n p y from x : ℕ) → Type 0
+NoneUsable work follow n p y from x = (z : ℕ) → from ≤ z → z < x → usable work follow n p y z ≡ false
+
+-- r is the least usable word from a number on, or n where there is none.
+pub record Sought (work follow : List ℕ) (n p y from r : ℕ) : Type 0 where
+  pub low : from ≤ r
+  pub high : r ≤ n
+  pub is : r < n → usable work follow n p y r ≡ true
+  pub none : NoneUsable work follow n p y from r
+
+-- Position p is the end, or some word is usable there.
+pub data Continues (work follow : List ℕ) (n end p y : ℕ) : Type 0 where
+  at-end : p ≡ end → Continues work follow n end p y
+  by-word : (x : ℕ) → x < n → usable work follow n p y x ≡ true → Continues work follow n end p y
+
+-- The bits of position p are right for the text.
+pub record Tells (K : Text) (work follow : List ℕ) (n p : ℕ) : Type 0 where
+  pub opens : (y x : ℕ) → x < n → usable work follow n p y x ≡ true → Opens K p y x
+  pub known : (y x : ℕ) → Opens K p y x → x < n
+  pub uses : (y x : ℕ) → Opens K p y x → usable work follow n p y x ≡ true
+
+pub none-more : (work follow : List ℕ) (n p y from x : ℕ) → NoneUsable work follow n p y from x → usable work follow n p y x ≡ false
+    → NoneUsable work follow n p y from (x + 1)
+none-more work follow n p y from x before at z a b = by-order z x (before z a) (λ e. rw e at) (λ h. absurd (omega arith))
+
+-- Before the end, a search from the first word on decides whether some word is usable.
+pub sought-continues : {work follow : List ℕ} {n end p y r : ℕ} → (p ≡ end → ⊥) → Sought work follow n p y 0 r → Exactly (ltb r n) (Continues work follow n end p y)
+sought-continues {work} {follow} {n} {end} {p} {y} {r} ne s = by (decLt r n)
+  where
+    not-yet : n ≤ r → Continues work follow n end p y → ⊥
+    not-yet h (at-end e) = ne e
+    not-yet h (by-word x k u) = false≢true (sym (s .none x (omega arith) (omega arith)) ∙ u)
+
+    by : Dec (r < n) → Exactly (ltb r n) (Continues work follow n end p y)
+    by (yes h) = rw (lt-ltb r n h) (exactly-true (by-word r h (s .is h)))
+    by (no h) = rw (le-ltb r n (omega arith)) (exactly-false (not-yet (omega arith)))
+
+opens-can : {K : Text} {p y x : ℕ} → Opens K p y x → Can K p y
+opens-can {x = x} o = record { rest = x ∷ o .begins .after .rest; reads = word (o .begins .here) (o .after) (o .begins .after .reads) }
+
+module _ {K : Text} {work follow : List ℕ} {n p : ℕ} (tells : Tells K work follow n p) where
+  pub continues-can : {y : ℕ} → Continues work follow n (K .end) p y → Can K p y
+  continues-can (at-end e) = record { rest = []; reads = done e }
+  continues-can {y} (by-word x h u) = opens-can (tells .opens y x h u)
+
+  reads-continues : {y : ℕ} {s : List ℕ} → From K p y s → Continues work follow n (K .end) p y
+  reads-continues (done e) = at-end e
+  reads-continues {y} (word {x = x} {s = t} g m f) = by-word x (tells .known y x o) (tells .uses y x o)
+    where
+      o : Opens K p y x
+      o = record { begins = record { here = g; after = record { rest = t; reads = f } }; after = m }
+
+  pub can-continues : {y : ℕ} → Can K p y → Continues work follow n (K .end) p y
+  can-continues c = reads-continues (c .reads)
+
+  module _ {y from r : ℕ} (s : Sought work follow n p y from r) where
+    sought-none : (z : ℕ) → from ≤ z → z < r → Opens K p y z → ⊥
+    sought-none z a b o = false≢true (sym (s .none z a b) ∙ tells .uses y z o)
+
+  -- Where the message can be read on before its end, some word is found.
+  pub sought-some : {y r : ℕ} → Sought work follow n p y 0 r → p < K .end → Can K p y → r < n
+  sought-some {y} {r} s h c = by (can-continues c)
+    where
+      by : Continues work follow n (K .end) p y → r < n
+      by (at-end e) = absurd (omega arith)
+      by (by-word x k u) = by-order x r (λ b. absurd (false≢true (sym (s .none x (omega arith) b) ∙ u))) (λ e. omega arith) (λ b. omega arith)
+
+  pub sought-lowest : {y r : ℕ} → Sought work follow n p y 0 r → r < n → Lowest K p y r
+  sought-lowest {y} {r} s h = record { opens = tells .opens y r h (s .is h); low = λ z b o. sought-none s z (omega arith) b o }
+
+  pub sought-next : {y x z : ℕ} → Sought work follow n p y (x + 1) z → z < n → Next K p y x z
+  sought-next {y} {x} {z} s h = record {
+    above = omega (arith, s .low);
+    opens = tells .opens y z h (s .is h);
+    between = λ v a b o. sought-none s v (omega arith) b o;
+  }
+
+  pub sought-highest : {y x z : ℕ} → Sought work follow n p y (x + 1) z → n ≤ z → Highest K p y x
+  sought-highest {y} s h v a o = sought-none s v (omega arith) (omega (arith, tells .known y v o)) o
+
+-- Marks that reach down to position p tell of it.
+pub marked-tells : {symbols base follow m work : List ℕ} {n b : ℕ} (p : ℕ) → n ≤ stride → Marked (text symbols base follow n m) work b → b ≤ p * stride
+    → Tells (text symbols base follow n m) work follow n p
+unfolding usable
+marked-tells {follow = follow} {work = work} {n = n} p small m h = record {
+  opens = λ y x k u. let b = and-eq-true-iff (bitAt work (bitOfWord p x)) (mayAfter follow n x y) .0 u in record { begins = m .sound p x (omega arith) (omega arith) (b .0); after = b .1 };
+  known = λ y x o. o .begins .here .0;
+  uses = λ y x o. rw (m .full p x (omega arith) (o .begins)) (o .after);
+}
