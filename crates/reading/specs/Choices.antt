@@ -12,7 +12,7 @@ use lib.ListN.{length}
 use Rattle.bits.specs.Bits.{bitAt}
 use Rattle.table.specs.Exactly.{Exactly, exactly-true, exactly-false}
 use Rattle.reading.specs.Firsts.{by-order}
-use Rattle.reading.specs.Text.{Text, Bounded, From, done, word, Can, Begins, Opens, Lowest, Highest, Next}
+use Rattle.reading.specs.Text.{Text, From, done, word, Can, Opens, Lowest, Highest, Next}
 use Rattle.reading.specs.Flat.{stride, mayAfter, text}
 use Rattle.reading.specs.Marks.{bitOfWord, Marked}
 

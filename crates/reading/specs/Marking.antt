@@ -2,13 +2,13 @@
 use mathlib.Core.Path.{_≡_}
 use mathlib.Core.Bool.{Bool}
 use mathlib.Core.List.{List}
-use Prim.Native.Nat.{ℕ, _+_, _-_, _*_, _^_, _≤_, _<_}
+use Prim.Native.Nat.{ℕ, _+_, _-_, _^_, _≤_, _<_}
 use native.Mathlib.Omega.{arith}
 use lib.ListN.{length}
 use Rattle.bits.specs.Bits.{SetBit}
 use Rattle.table.specs.Exactly.{Exactly}
 use Rattle.reading.specs.Text.{Text, Begins}
-use Rattle.reading.specs.Flat.{stride, lengthAt, Flat, Stands, text}
+use Rattle.reading.specs.Flat.{lengthAt, Flat, Stands, text}
 use Rattle.reading.specs.Marks.{bitOfWord, Marked, marked-on, marked-down}
 use Rattle.reading.specs.Choices.{Continues, Tells, continues-can, can-continues, marked-tells}
 

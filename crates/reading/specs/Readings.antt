@@ -1,20 +1,18 @@
 -- Where flat lists hold a table, reading the message from its first position, after the start, is reading it by the table. The sequences from any position
 -- are compared: permitted, in order after the word before, and with the rest of the message.
 use mathlib.Core.Path.{_≡_, refl, sym, ap, _∙_}
-use mathlib.Core.Bool.{Bool, true, false, _||_}
-use mathlib.Core.List.{List, [], _∷_, _++_}
-use Prim.Native.Nat.{ℕ, _+_, _-_, _*_, _≤_, _<_}
-use native.Mathlib.Nat.{zero-add}
+use mathlib.Core.Bool.{true}
+use mathlib.Core.List.{List, [], _∷_}
+use Prim.Native.Nat.{ℕ, _+_, _≤_, _<_}
 use native.Mathlib.Omega.{arith}
 use borrow.Author.Tests.{eq-eqb, ne-eqb}
-use lib.Dec.{eqb}
-use lib.ListN.{length, take, drop, getD, length-append, length-drop, take-append-drop, drop-of-length-le}
+use lib.ListN.{length, drop, getD, length-append, length-drop, take-append-drop, drop-of-length-le}
 use lib.Seq.{length-take-le, take-at, drop-at, drop-drop}
-use Rattle.code.specs.Definitions.Tables.{Table, size, word, Permitted, none, one, more, message}
+use Rattle.code.specs.Definitions.Tables.{Table, word, Permitted, none, one, more, message}
 use Rattle.code.specs.Definitions.Readings.{Reads}
 use Rattle.code.specs.Laws.Sequences.{first-word, second-follows, rest-permitted}
-use Rattle.reading.specs.Text.{Text, Bounded, From, done, word as first}
-use Rattle.reading.specs.Flat.{stride, lengthAt, wordAt, mayAfter, Flat, Lays, Stands, text}
+use Rattle.reading.specs.Text.{Bounded, From, done, word as first}
+use Rattle.reading.specs.Flat.{lengthAt, mayAfter, Flat, Lays, Stands, text}
 
 pub flat-bounded : {symbols base follow : List ℕ} {n : ℕ} → Flat symbols base follow n → (m : List ℕ) → Bounded (text symbols base follow n m)
 flat-bounded l m = record { some = λ p x s. omega (arith, l .shaped .rises x (s .0)); fits = λ p x s. s .1 .within }

@@ -4,7 +4,7 @@ use mathlib.Core.Path.{_≡_, refl, sym}
 use mathlib.Core.List.{List, [], _∷_}
 use Prim.Native.Nat.{ℕ, _+_, _≤_, _<_}
 use native.Mathlib.Omega.{arith}
-use Rattle.code.specs.Definitions.Orders.{Lex, less, same}
+use Rattle.code.specs.Definitions.Orders.{less, same}
 use Rattle.reading.specs.Firsts.{Least, Only, FirstPair, by-order}
 
 -- Which words stand where in a message, and which may come after which.
@@ -79,7 +79,7 @@ module _ {K : Text} (bounded : Bounded K) where
   least-word {p} {y} {x} {s} w l = record {
     member = word (w .opens .begins .here) (w .opens .after) (l .member);
     least = λ v f ne. opened v (w .opens .begins .here) f λ z t o g e. rw e
-      (by-order z x (λ h. absurd (w .low z h o)) (λ q. same (sym q) (l .least t (rw q at g) (λ r. ne (cc)))) less);
+        (by-order z x (λ h. absurd (w .low z h o)) (λ q. same (sym q) (l .least t (rw q at g) (λ r. ne (cc)))) less);
   }
 
   -- A reading is the only one where no other word opens one and it is the only one after its first word.
@@ -87,7 +87,7 @@ module _ {K : Text} (bounded : Bounded K) where
   only-word {p} {y} {x} {s} w a l = record {
     member = word (w .opens .begins .here) (w .opens .after) (l .member);
     only = λ v f. opened v (w .opens .begins .here) f λ z t o g e.
-      by-order z x (λ h. absurd (w .low z h o)) (λ q. let r : t ≡ s = l .only t (rw q at g) in cc) (λ h. absurd (a z h o));
+        by-order z x (λ h. absurd (w .low z h o)) (λ q. let r : t ≡ s = l .only t (rw q at g) in cc) (λ h. absurd (a z h o));
   }
 
   -- The first two readings begin with the lowest word, where two go on from it.
@@ -97,7 +97,7 @@ module _ {K : Text} (bounded : Bounded K) where
     second = word (w .opens .begins .here) (w .opens .after) (l .second);
     order = same refl (l .order);
     later = λ v f ns nu. opened v (w .opens .begins .here) f λ z t o g e. rw e
-      (by-order z x (λ h. absurd (w .low z h o)) (λ q. same (sym q) (l .later t (rw q at g) (λ r. ns (cc)) (λ r. nu (cc)))) less);
+        (by-order z x (λ h. absurd (w .low z h o)) (λ q. same (sym q) (l .later t (rw q at g) (λ r. ns (cc)) (λ r. nu (cc)))) less);
   }
 
   -- Where one alone goes on from the lowest word x, the second begins with the next word z, and goes on with the least after it.
@@ -108,6 +108,6 @@ module _ {K : Text} (bounded : Bounded K) where
     second = word (n .opens .begins .here) (n .opens .after) (m .member);
     order = less (n .above);
     later = λ v f ns nu. opened v (w .opens .begins .here) f λ a t o g e. rw e
-      (by-order a x (λ h. absurd (w .low a h o)) (λ q. absurd (ns (let r : t ≡ s = l .only t (rw q at g) in cc)))
-      (λ h. by-order a z (λ k. absurd (n .between a h k o)) (λ q. same (sym q) (m .least t (rw q at g) (λ r. nu (cc)))) less));
+        (by-order a x (λ h. absurd (w .low a h o)) (λ q. absurd (ns (let r : t ≡ s = l .only t (rw q at g) in cc)))
+        (λ h. by-order a z (λ k. absurd (n .between a h k o)) (λ q. same (sym q) (m .least t (rw q at g) (λ r. nu (cc)))) less));
   }

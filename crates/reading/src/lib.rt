@@ -5,9 +5,11 @@ mod layout;
 mod marks;
 mod walks;
 
-use code::{Code, Message, Reading, Refusal, Word};
-
-ghost use mathlib.Core.Path.{_≡_};
+use code::Code;
+use code::Message;
+use code::Reading;
+use code::Refusal;
+use code::Word;
 ghost use Prim.Native.Nat.{_^_, _≤_, _<_};
 ghost use lib.ListN.{length};
 ghost use Rattle.reading.specs.Marking.{Ready};
@@ -58,7 +60,16 @@ pub fn find_readings(
     let mut base = [0usize; Code::WORDS + 1];
     let mut follow = [0u8; Code::WORDS * Code::WORDS];
     layout::lay(code, &mut symbols, &mut base, &mut follow);
-    read_core(&symbols, &base, &follow, code.count, message, first, second, work)
+    read_core(
+        &symbols,
+        &base,
+        &follow,
+        code.count,
+        message,
+        first,
+        second,
+        work,
+    )
 }
 
 // Whether some symbol of the message is above 15.

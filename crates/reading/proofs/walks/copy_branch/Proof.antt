@@ -5,21 +5,17 @@ use Rattle.reading.specs.Answers.{paste-other}
 use Rattle.reading.proofs.walks.copy_branch.Statement.{statement}
 use Rattle.reading.proofs.walks.copy_branch.Tie as tie
 
-copy-at-requires : tie.Need-copy-at-requires
-copy-at-requires c κs = search needs
-
-cast-second : tie.Need-cast-second
-cast-second c = search needs
-
-slice-write-second : tie.Need-slice-write-second
-slice-write-second c = search needs
-
-same-length : tie.Need-same-length
-same-length c = search needs
-
 returns : tie.Need-returns
-returns c = let a = c .before .before .before .before .before .before .args in rw (c .before .before .copy-at .ensures) (paste-other (a .second .now) (a .first .now) (a .at) (a .other) (omega arith) (omega arith))
+returns c =
+    let a = c .before .before .before .before .before .before .args in
+    rw (c .before .before .copy-at .ensures) (paste-other (a .second .now) (a .first .now) (a .at) (a .other) (omega arith) (omega arith))
 
 pub copy-branch-spec : {M : Type 1} → statement M
 copy-branch-spec =
-    tie.close (tie.spec copy-at-requires cast-second slice-write-second same-length returns)
+    tie.close
+    (tie.spec
+    (λ c κs. search needs)
+    (λ c. search needs)
+    (λ c. search needs)
+    (λ c. search needs)
+    returns)
