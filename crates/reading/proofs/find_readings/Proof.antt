@@ -6,8 +6,11 @@ use Rattle.reading.proofs.find_readings.Tie as tie
 
 returns : tie.Need-returns
 returns c =
-    let r = c .before .before .before .before .before .before .read-core .ensures in
-    record { finds = r .finds (tableOf (c .before .before .before .before .before .before .before .before .before .before .before .before .before .before .before .before .before .before .before .before .before .before .before .before .args .code)) (c .before .before .before .before .before .before .before .before .before .before .before .before .before .before .before .before .lay .ensures); work = r .work }
+    let after-read-core = c .before .before .before .before .before .before in
+    let after-lay = after-read-core .before .before .before .before .before .before .before .before .before .before in
+    let start = after-lay .before .before .before .before .before .before .before .before in
+    let r = after-read-core .read-core .ensures in
+    record { finds = r .finds (tableOf (start .args .code)) (after-lay .lay .ensures); work = r .work }
 
 pub find-readings-spec : {M : Type 1} → statement M
 find-readings-spec =

@@ -20,7 +20,8 @@ loop-holds c = (search needs, search needs, let a = c .args in paste-zero (a .to
 
 loop-again : tie.Need-loop-again Inv-loop μ-loop
 loop-again c =
-    let a = c .before .before .before .args in
+    let start = c .before .before .before in
+    let a = start .args in
     let l = c .before .before .loop in
     (omega arith, simp length-set (l .inv .1), rw (l .inv .2, add-one) (paste-suc (a .to .now) (a .at) (a .from .now) (l .i) 0 (omega arith) (omega arith)))
 

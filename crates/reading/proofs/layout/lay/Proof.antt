@@ -7,8 +7,10 @@ use Rattle.reading.proofs.layout.lay.Tie as tie
 
 returns : tie.Need-returns
 returns c =
-    let p = c .before .before .before .before .before .before .before .before .before .before .before .before .before .before .pre in
-    laid-all (p .0) (c .before .before .before .before .before .before .before .before .lay-words .ensures) (c .before .before .lay-rows .ensures) (omega arith) (omega arith) (omega arith)
+    let after-lay-words = c .before .before .before .before .before .before .before .before in
+    let start = after-lay-words .before .before .before .before .before .before in
+    let p = start .pre in
+    laid-all (p .0) (after-lay-words .lay-words .ensures) (c .before .before .lay-rows .ensures) (omega arith) (omega arith) (omega arith)
 
 pub lay-spec : {M : Type 1} → statement M
 lay-spec =

@@ -21,42 +21,52 @@ loop-holds c =
 
 mul-row : tie.Need-mul-row Inv-loop μ-loop
 mul-row c =
-    let p = c .before .before .before .pre in
+    let start = c .before .before .before in
+    let p = start .pre in
     omega (arith, p .0 .most)
 
 element-copy-out-row : tie.Need-element-copy-out-row Inv-loop μ-loop
 element-copy-out-row c =
-    let p = c .before .before .before .pre in
+    let start = c .before .before .before in
+    let p = start .pre in
     omega (arith, p .0 .most)
 
 mul-copy-at : tie.Need-mul-copy-at Inv-loop μ-loop
 mul-copy-at c =
-    let p = c .before .before .before .before .before .before .pre in
+    let start = c .before .before .before .before .before .before in
+    let p = start .pre in
     omega (arith, p .0 .most)
 
 slice-aggregate-copy-at : tie.Need-slice-aggregate-copy-at Inv-loop μ-loop
 slice-aggregate-copy-at c =
-    let p = c .before .before .before .before .before .before .before .pre in
-    let l = c .before .before .before .before .before .loop in
+    let head = c .before .before .before .before .before in
+    let start = head .before .before in
+    let p = start .pre in
+    let l = head .loop in
     let e = p .0 .row (l .x) (omega (arith, p .0 .most)) .array in
     search needs
 
 copy-at-requires : tie.Need-copy-at-requires Inv-loop μ-loop
 copy-at-requires c κs =
-    let p = c .before .before .before .before .before .before .before .pre in
-    let l = c .before .before .before .before .before .loop in
+    let head = c .before .before .before .before .before in
+    let start = head .before .before in
+    let p = start .pre in
+    let l = head .loop in
     let e = p .0 .row (l .x) (omega (arith, p .0 .most)) .array in
     (omega (arith, p .0 .most), omega arith)
 
 add-x : tie.Need-add-x Inv-loop μ-loop
 add-x c =
-    let p = c .before .before .before .before .before .before .before .before .before .before .pre in
+    let start = c .before .before .before .before .before .before .before .before .before .before in
+    let p = start .pre in
     omega (arith, p .0 .most)
 
 loop-again : tie.Need-loop-again Inv-loop μ-loop
 loop-again c =
-    let p = c .before .before .before .before .before .before .before .before .before .before .pre in
-    let l = c .before .before .before .before .before .before .before .before .loop in
+    let head = c .before .before .before .before .before .before .before .before in
+    let start = head .before .before in
+    let p = start .pre in
+    let l = head .loop in
     (omega arith, omega arith, rw (c .before .before .copy-at .ensures) (rows-more (l .follow) (l .inv .2) (p .0 .row (l .x) (omega (arith, p .0 .most)) .array) (omega (arith, p .0 .most))))
 
 same-length : tie.Need-same-length Inv-loop μ-loop
@@ -64,8 +74,9 @@ same-length c = c .before .loop .inv .1
 
 returns : tie.Need-returns Inv-loop μ-loop
 returns c =
+    let start = c .before .before .before in
     let l = c .before .loop in
-    let e : l .x ≡ c .before .before .before .args .t1 .count = omega arith in
+    let e : l .x ≡ start .args .t1 .count = omega arith in
     rw e at (l .inv .2)
 
 pub lay-rows-spec : {M : Type 1} → statement M

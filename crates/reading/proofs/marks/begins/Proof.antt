@@ -7,13 +7,17 @@ use Rattle.reading.proofs.marks.begins.Tie as tie
 
 continues-requires : tie.Need-continues-requires
 continues-requires c κs =
-    let s = c .before .before .before .stands .ensures .yes (c .before .before .if1 .taken) in
+    let after-stands = c .before .before .before in
+    let s = after-stands .stands .ensures .yes (c .before .before .if1 .taken) in
     search needs
 
 returns : tie.Need-returns
 returns c =
-    let p = c .before .before .before .before .before .before .before .before .before .before .pre in
-    begins-where _ (p .0) (p .2) (p .4) (c .before .before .before .before .stands .ensures .yes (c .before .before .before .if1 .taken)) (c .continues .ensures)
+    let at-if1 = c .before .before .before in
+    let after-stands = at-if1 .before in
+    let start = after-stands .before .before .before .before .before .before in
+    let p = start .pre in
+    begins-where _ (p .0) (p .2) (p .4) (after-stands .stands .ensures .yes (at-if1 .if1 .taken)) (c .continues .ensures)
 
 returns-2 : tie.Need-returns-2
 returns-2 c = exactly-false λ b. c .before .stands .ensures .no (c .if1 .left) (b .here .1)

@@ -18,7 +18,8 @@ abbrev μ-loop : tie.MeasureT-loop
 
 mark-position-requires : tie.Need-mark-position-requires Inv-loop μ-loop
 mark-position-requires c κs =
-    let p = c .before .before .before .before .before .before .before .before .pre in
+    let start = c .before .before .before .before .before .before .before .before in
+    let p = start .pre in
     let l = c .before .before .loop in
     (ready-kept (p .0) (l .inv .1), omega arith, mark-before (omega arith) (l .inv .2))
 

@@ -17,25 +17,34 @@ abbrev μ-loop : tie.MeasureT-loop
 μ-loop symbols base follow n message work₀ pos x₀ work x = x
 
 loop-holds : tie.Need-loop-holds Inv-loop μ-loop
-loop-holds c = (search needs, search needs, let p = c .before .before .before .before .before .pre in mark-start _ (p .0) (p .2))
+loop-holds c =
+    let start = c .before .before .before .before .before in
+    (search needs, search needs, let p = start .pre in mark-start _ (p .0) (p .2))
 
 begins-requires : tie.Need-begins-requires Inv-loop μ-loop
 begins-requires c κs =
-    let p = c .before .before .before .before .before .before .before .before .pre in
+    let start = c .before .before .before .before .before .before .before .before in
+    let p = start .pre in
     let l = c .before .before .loop in
     (ready-kept (p .0) (l .inv .1), p .1, omega arith, has-word (p .0 .flat) (omega arith), mark-next _ (omega arith) (l .inv .2))
 
 loop-again : tie.Need-loop-again Inv-loop μ-loop
 loop-again c =
-    let p = c .before .before .before .before .before .before .before .before .before .before .before .before .before .before .pre in
-    let l = c .before .before .before .before .before .before .before .before .loop in
+    let at-if1 = c .before .before .before .before in
+    let after-begins = at-if1 .before in
+    let head = after-begins .before .before .before in
+    let start = head .before .before .before .before .before .before in
+    let p = start .pre in
+    let l = head .loop in
     let s = c .before .before .set .ensures in
-    (omega arith, s .long ∙ l .inv .1, mark-on _ (ready-kept (p .0) (l .inv .1)) (omega arith) (mark-next _ (omega arith) (l .inv .2)) (c .before .before .before .before .before .begins .ensures .yes (c .before .before .before .before .if1 .taken)) s)
+    (omega arith, s .long ∙ l .inv .1, mark-on _ (ready-kept (p .0) (l .inv .1)) (omega arith) (mark-next _ (omega arith) (l .inv .2)) (after-begins .begins .ensures .yes (at-if1 .if1 .taken)) s)
 
 loop-again-2 : tie.Need-loop-again-2 Inv-loop μ-loop
 loop-again-2 c =
-    let p = c .before .before .before .before .before .before .before .before .before .before .pre in
-    let l = c .before .before .before .before .loop in
+    let head = c .before .before .before .before in
+    let start = head .before .before .before .before .before .before in
+    let p = start .pre in
+    let l = head .loop in
     (omega arith, l .inv .1, mark-off _ (ready-kept (p .0) (l .inv .1)) (omega arith) (mark-next _ (omega arith) (l .inv .2)) (c .before .begins .ensures .no (c .if1 .left)))
 
 same-length : tie.Need-same-length Inv-loop μ-loop

@@ -18,12 +18,14 @@ loop-holds c = (search needs, search needs, λ z a b. absurd (omega arith))
 
 returns : tie.Need-returns Inv-loop μ-loop
 returns c =
-    let l = c .before .before .before .loop in
+    let head = c .before .before .before in
+    let l = head .loop in
     record { low = l .inv .0; high = l .inv .1; is = λ h. sym (c .before .usable .ensures) ∙ c .if1 .taken; none = l .inv .2 }
 
 loop-again : tie.Need-loop-again Inv-loop μ-loop
 loop-again c =
-    let l = c .before .before .before .loop in
+    let head = c .before .before .before in
+    let l = head .loop in
     (omega arith, omega arith, none-more _ _ _ _ _ _ _ (l .inv .2) (sym (c .before .usable .ensures) ∙ c .if1 .left))
 
 returns-2 : tie.Need-returns-2 Inv-loop μ-loop

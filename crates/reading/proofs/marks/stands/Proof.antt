@@ -26,8 +26,10 @@ returns-2 c = search differs
 
 loop-again : tie.Need-loop-again Inv-loop μ-loop
 loop-again c =
-    let l = c .before .before .before .before .loop in
-    let a = c .before .before .before .before .before .before .before .before .args in
+    let head = c .before .before .before .before in
+    let start = head .before .before .before .before in
+    let l = head .loop in
+    let a = start .args in
     (omega arith, alike-more (a .message .now) (a .symbols .now) (a .pos) (getD (a .base .now) (a .x) 0) (l .j) (omega arith) (omega arith) (l .inv .1) (omega arith))
 
 returns-3 : tie.Need-returns-3 Inv-loop μ-loop

@@ -17,57 +17,82 @@ abbrev μ-loop : tie.MeasureT-loop
 
 loop-holds : tie.Need-loop-holds Inv-loop μ-loop
 loop-holds c =
-    let p = c .before .before .before .before .pre in
+    let start = c .before .before .before .before in
+    let p = start .pre in
     (walking-start _ _ _ (p .1) (p .2) (p .3) (p .4), refl)
 
 seek-requires-2 : tie.Need-seek-requires-2 Inv-loop μ-loop
 seek-requires-2 c κs =
-    let p = c .before .before .before .before .before .before .before .before .pre in
-    let l = c .before .before .before .loop in
+    let head = c .before .before .before in
+    let start = head .before .before .before .before .before in
+    let p = start .pre in
+    let l = head .loop in
     let t = sought-taken (p .0) (c .before .if1 .taken) (l .inv .0 .can) (c .seek .ensures) in
     search needs
 
 shared-slice-read-advance : tie.Need-shared-slice-read-advance Inv-loop μ-loop
 shared-slice-read-advance c =
-    let p = c .before .before .before .before .before .before .before .before .before .before .before .pre in
-    let l = c .before .before .before .before .before .before .loop in
-    let t = sought-taken (p .0) (c .before .before .before .before .if1 .taken) (l .inv .0 .can) (c .before .before .before .seek .ensures) in
+    let after-seek = c .before .before .before in
+    let at-if1 = after-seek .before in
+    let head = at-if1 .before .before in
+    let start = head .before .before .before .before .before in
+    let p = start .pre in
+    let l = head .loop in
+    let t = sought-taken (p .0) (at-if1 .if1 .taken) (l .inv .0 .can) (after-seek .seek .ensures) in
     omega arith
 
 sub-advance : tie.Need-sub-advance Inv-loop μ-loop
 sub-advance c =
-    let p = c .before .before .before .before .before .before .before .before .before .before .before .before .pre in
-    let l = c .before .before .before .before .before .before .before .loop in
-    let t = sought-taken (p .0) (c .before .before .before .before .before .if1 .taken) (l .inv .0 .can) (c .before .before .before .before .seek .ensures) in
+    let after-seek = c .before .before .before .before in
+    let at-if1 = after-seek .before in
+    let head = at-if1 .before .before in
+    let start = head .before .before .before .before .before in
+    let p = start .pre in
+    let l = head .loop in
+    let t = sought-taken (p .0) (at-if1 .if1 .taken) (l .inv .0 .can) (after-seek .seek .ensures) in
     omega arith
 
 advance-requires : tie.Need-advance-requires Inv-loop μ-loop
 advance-requires c κs =
-    let p = c .before .before .before .before .before .before .before .before .before .before .before .before .pre in
-    let l = c .before .before .before .before .before .before .before .loop in
-    let t = sought-taken (p .0) (c .before .before .before .before .before .if1 .taken) (l .inv .0 .can) (c .before .before .before .before .seek .ensures) in
+    let after-seek = c .before .before .before .before in
+    let at-if1 = after-seek .before in
+    let head = at-if1 .before .before in
+    let start = head .before .before .before .before .before in
+    let p = start .pre in
+    let l = head .loop in
+    let t = sought-taken (p .0) (at-if1 .if1 .taken) (l .inv .0 .can) (after-seek .seek .ensures) in
     search needs
 
 loop-less : tie.Need-loop-less Inv-loop μ-loop
 loop-less c =
-    let p = c .before .before .before .before .before .before .before .before .before .before .before .before .before .pre in
-    let l = c .before .before .before .before .before .before .before .before .loop in
-    let t = sought-taken (p .0) (c .before .before .before .before .before .before .if1 .taken) (l .inv .0 .can) (c .before .before .before .before .before .seek .ensures) in
+    let after-seek = c .before .before .before .before .before in
+    let at-if1 = after-seek .before in
+    let head = at-if1 .before .before in
+    let start = head .before .before .before .before .before in
+    let p = start .pre in
+    let l = head .loop in
+    let t = sought-taken (p .0) (at-if1 .if1 .taken) (l .inv .0 .can) (after-seek .seek .ensures) in
     rw (c .advance .ensures) (omega arith)
 
 loop-again : tie.Need-loop-again Inv-loop μ-loop
 loop-again c =
-    let p = c .before .before .before .before .before .before .before .before .before .before .before .before .before .pre in
-    let l = c .before .before .before .before .before .before .before .before .loop in
-    let t = sought-taken (p .0) (c .before .before .before .before .before .before .if1 .taken) (l .inv .0 .can) (c .before .before .before .before .before .seek .ensures) in
-    (rw (c .advance .ensures) (walking-on (p .0) (l .inv .0) (c .before .before .before .before .before .before .if1 .taken) (p .5) (c .before .before .before .before .before .seek .ensures) (c .before .before .before .before .seek2 .ensures)), simp length-set (l .inv .1))
+    let after-seek2 = c .before .before .before .before in
+    let after-seek = after-seek2 .before in
+    let at-if1 = after-seek .before in
+    let head = at-if1 .before .before in
+    let start = head .before .before .before .before .before in
+    let p = start .pre in
+    let l = head .loop in
+    let t = sought-taken (p .0) (at-if1 .if1 .taken) (l .inv .0 .can) (after-seek .seek .ensures) in
+    (rw (c .advance .ensures) (walking-on (p .0) (l .inv .0) (at-if1 .if1 .taken) (p .5) (after-seek .seek .ensures) (after-seek2 .seek2 .ensures)), simp length-set (l .inv .1))
 
 same-length : tie.Need-same-length Inv-loop μ-loop
 same-length c = c .before .before .loop .inv .1
 
 returns : tie.Need-returns Inv-loop μ-loop
 returns c =
-    let p = c .before .before .before .before .before .before .before .pre in
+    let start = c .before .before .before .before .before .before .before in
+    let p = start .pre in
     let l = c .before .before .loop in
     walking-end (p .0 .sure .bounded) (l .inv .0) (c .if1 .left)
 

@@ -7,19 +7,25 @@ use Rattle.reading.proofs.walks.second_reading.Tie as tie
 
 least-reading-requires : tie.Need-least-reading-requires
 least-reading-requires c κs =
-    let p = c .before .before .before .before .before .before .before .before .before .before .before .before .before .pre in
+    let start = c .before .before .before .before .before .before .before .before .before .before .before .before .before in
+    let p = start .pre in
     (p .0, p .1 .begins .after, omega arith, p .2 .fits, omega arith, omega arith)
 
 add-result-2 : tie.Need-add-result-2
 add-result-2 c =
-    let p = c .before .before .before .before .before .before .before .before .before .before .before .before .before .before .before .before .before .pre in
-    let e = c .before .before .before .least-reading .ensures in
+    let after-least-reading = c .before .before .before in
+    let start = after-least-reading .before .before .before .before .before .before .before .before .before .before .before .before .before .before in
+    let p = start .pre in
+    let e = after-least-reading .least-reading .ensures in
     omega (arith, e .room, p .0 .near)
 
 returns : tie.Need-returns
 returns c =
-    let a = c .before .before .before .before .before .before .before .before .before .before .before .before .before .before .before .before .before .args in
-    second-written (a .first .now) (a .second .now) (a .w) (c .before .before .before .before .before .before .before .before .before .before .before .before .before .before .before .before .before .pre .3) (rw (c .before .before .before .before .before .before .before .before .before .before .copy-branch .ensures) at (c .before .before .before .least-reading .ensures))
+    let after-least-reading = c .before .before .before in
+    let after-copy-branch = after-least-reading .before .before .before .before .before .before .before in
+    let start = after-copy-branch .before .before .before .before .before .before .before in
+    let a = start .args in
+    second-written (a .first .now) (a .second .now) (a .w) (start .pre .3) (rw (after-copy-branch .copy-branch .ensures) at (after-least-reading .least-reading .ensures))
 
 pub second-reading-spec : {M : Type 1} → statement M
 second-reading-spec =
