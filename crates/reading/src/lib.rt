@@ -1,7 +1,7 @@
 // Reading a message: whether no, one or several permitted sequences of words have it, and the first two of them.
 
 mod copies;
-mod layout;
+pub mod layout;
 mod marks;
 mod walks;
 
@@ -12,12 +12,12 @@ use code::Refusal;
 use code::Word;
 ghost use Prim.Native.Nat.{_^_, _≤_, _<_};
 ghost use lib.ListN.{length};
-ghost use Rattle.reading.specs.Marking.{Ready};
-ghost use Rattle.reading.specs.Core.{ReadsFlat};
 ghost use Rattle.code.specs.Definitions.Sheets.{limits};
 ghost use Rattle.code.specs.Definitions.Operations.{HasHigh, ReadsMessage};
 ghost use Rattle.table.specs.Exactly.{Exactly};
 ghost use Rattle.table.specs.WellFormed.{WellFormed};
+ghost use Rattle.reading.specs.Marking.{Ready};
+ghost use Rattle.reading.specs.Core.{ReadsFlat};
 ghost use Rattle.reading.specs.Public.{Short, FindsAll};
 
 // Reads a message by a code that is laid out flat: the symbols of all words, where each of the `n` words begins, and the follow matrix.
