@@ -6,7 +6,7 @@ use native.Mathlib.Nat.{zero-add}
 use native.Mathlib.Numerals.{add-one}
 use native.Mathlib.Omega.{arith}
 use lib.ListN.{length, take, drop, getD, set, length-append}
-use lib.Seq.{length-take-le, take-suc, drop-cons, append-snoc, set-at, take-append-le, take-at, drop-at, drop-drop}
+use lib.Seq.{paste, length-take-le, drop-cons, append-snoc, set-at, take-append-le, take-at, drop-at, drop-drop}
 use Rattle.code.specs.declared.Reading.{Reading}
 use Rattle.code.specs.declared.Reading.the-variants.{One, Two, Refused}
 use Rattle.code.specs.declared.Refusal.the-variants.{NoReading}
@@ -37,13 +37,8 @@ pub data Answer (K : Text) (y : ℕ) (f g f′ g′ : List ℕ) : Reading → Ty
   two : {c d : WordCount} {s u : List ℕ} → FirstPair (From K 0 y) s u → c .0 ≡ length s → d .0 ≡ length u → f′ ≡ written s f → g′ ≡ written u g
       → Answer K y f g f′ g′ (Two c d)
 
-pub copy-more : (to from : List ℕ) (i : ℕ) → i < length to → i < length from
-    → set (take i from ++ drop i to) i (getD from i 0) ≡ take (i + 1) from ++ drop (i + 1) to
-copy-more to from i h k = rw (add-one, drop-cons to i 0 h, set-at (take i from) (getD to i 0) (drop (suc i) to) (getD from i 0) i (length-take-le i from (omega arith)), take-suc from i 0 k)
-    (simp append-assoc)
-
-pub copy-other : (to from : List ℕ) (i x : ℕ) → i < length to → i ≤ length from → set (take i from ++ drop i to) i x ≡ take i from ++ (x ∷ drop (i + 1) to)
-copy-other to from i x h k = rw (add-one, drop-cons to i 0 h) (set-at (take i from) (getD to i 0) (drop (suc i) to) x i (length-take-le i from k))
+pub paste-other : (to from : List ℕ) (i x : ℕ) → i < length to → i ≤ length from → set (paste to 0 from i) i x ≡ take i from ++ (x ∷ drop (i + 1) to)
+paste-other to from i x h k = rw (zero-add, add-one, drop-cons to i 0 h) (set-at (take i from) (getD to i 0) (drop (suc i) to) x i (length-take-le i from k))
 
 pub branched : {K : Text} {n : ℕ} {f f′ : List ℕ} {w : Walk} → Ended K n 0 n 0 f f′ w → (w .other ≡ n → ⊥) → Branched K n w
 branched {n = n} {w = w} e ne = record { known = known; begins = e .begins known; early = omega (arith, e .early known) }

@@ -1,19 +1,18 @@
 -- The state of a walk that writes the words it takes: what holds after each step, and at the end.
-use mathlib.Core.Path.{_≡_, refl, sym, _∙_}
+use mathlib.Core.Path.{_≡_, refl, sym}
 use mathlib.Core.List.{List, [], _∷_, _++_, append-assoc, append-nil}
-use Prim.Native.Nat.{ℕ, suc, _+_, _-_, _^_, _≤_, _<_}
+use Prim.Native.Nat.{ℕ, suc, _+_, _^_, _≤_, _<_}
 use native.Mathlib.Decide.{decLt}
-use native.Mathlib.Numerals.{add-one}
-use native.Mathlib.Nat.{add-assoc, add-zero}
+use native.Mathlib.Nat.{add-zero}
 use native.Mathlib.Omega.{arith}
 use borrow.Author.Tests.{lt-ltb, le-ltb}
 use lib.Dec.{ltb}
 use lib.ListN.{length, take, drop, getD, set, length-append, take-append-drop}
-use lib.Seq.{length-take-le, drop-cons, set-at, append-snoc}
+use lib.Seq.{length-take-le, drop-cons, set-at}
 use Rattle.code.specs.Definitions.Lists.{if_then_else_}
 use Rattle.reading.specs.declared.walks.Walk.{Walk}
 use Rattle.reading.specs.Firsts.{Least, Only, FirstPair, only-least}
-use Rattle.reading.specs.Text.{Text, Bounded, From, Can, Begins, Lowest, Highest, Next, only-end}
+use Rattle.reading.specs.Text.{Text, Bounded, From, Can, Begins, Lowest, only-end}
 use Rattle.reading.specs.Walks.{Walked, Branch, walked-none, branch-none, walked-on, branch-kept, branch-new}
 use Rattle.reading.specs.Flat.{lengthAt, Shaped}
 use Rattle.reading.specs.Choices.{Sought, Tells, sought-some, sought-lowest, sought-next, sought-highest}
