@@ -8,13 +8,9 @@ mod walks;
 use code::Code;
 use code::Message;
 use code::Reading;
-<<<<<<< HEAD
-ghost use Prim.Native.Nat.{_≤_};
-=======
 use code::Refusal;
 use code::Word;
 ghost use Prim.Native.Nat.{_^_, _≤_, _<_};
->>>>>>> e25a769f2200afa18e51719f868509dc811f3d6f
 ghost use lib.ListN.{length};
 ghost use Rattle.code.specs.Definitions.Sheets.{limits};
 ghost use Rattle.code.specs.Definitions.Operations.{HasHigh, ReadsMessage};

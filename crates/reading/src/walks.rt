@@ -1,9 +1,6 @@
 // The readings that the marks show: the first, and from the last step where another word could be taken, the second.
 
-<<<<<<< HEAD
-=======
 use crate::copies::copy_at;
->>>>>>> e25a769f2200afa18e51719f868509dc811f3d6f
 use crate::marks::continues;
 use crate::marks::seek;
 use code::Reading;

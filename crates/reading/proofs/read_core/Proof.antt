@@ -24,14 +24,6 @@ first-readings-requires c κs =
     (marked-walkable (ready-kept (p .0) (omega arith)) (after-mark-all .mark-all .ensures), p .1, p .2)
 
 returns : tie.Need-returns
-<<<<<<< HEAD
-returns c = let p = c .before .before .before .before .before .before .before .before .before .before .before .before .before .before .before .before .before .before .before .before .before .before .before .before .before .before .before .pre in
-    let e : length (c .before .before .before .before .before .before .before .before .before .before .before .before .before .before .mark-all .last .1 .1 .1 .1 .1 .0) ≡ length (c .before .before .before .before .before .before .before .before .before .before .before .before .before .before .before .before .before .before .before .before .before .before .before .before .before .before .before .args .work .now) = omega arith in
-    record {
-      finds = λ t l. answer-finds (p .0 .flat) (c .before .before .before .before .before .before .before .before .before .before .before .before .before .before .mark-all .ensures) l (c .before .before .before .before .before .before .before .before .first-readings .ensures);
-      work = rw e at (c .before .before .clear2 .ensures);
-    }
-=======
 returns c =
     let after-first-readings = c .before .before .before .before .before .before .before .before in
     let after-mark-all = after-first-readings .before .before .before .before .before .before in
@@ -39,7 +31,6 @@ returns c =
     let p = start .pre in
     let e : length (after-mark-all .mark-all .last .1 .1 .1 .1 .1 .0) ≡ length (start .args .work .now) = omega arith in
     record { finds = λ t l. answer-finds (p .0 .flat) (after-mark-all .mark-all .ensures) l (after-first-readings .first-readings .ensures); work = rw e at (c .before .before .clear2 .ensures) }
->>>>>>> e25a769f2200afa18e51719f868509dc811f3d6f
 
 pub read-core-spec : {M : Type 1} → statement M
 read-core-spec =
