@@ -15,10 +15,13 @@ Inv-loop places marks₀ stack₀ words most₀ x₀ marks stack most x =
     Counting places marks x (x + 1) most × (16384 ≤ length stack) × (length marks ≡ length marks₀) × (length stack ≡ length stack₀)
 
 abbrev μ-loop : tie.MeasureT-loop
-μ-loop places marks₀ stack₀ words most₀ x₀ marks stack most x = words - x
+μ-loop places marks₀ stack₀ words most₀ x₀ marks stack most x = 32 - x
 
 loop-holds : tie.Need-loop-holds Inv-loop μ-loop
 loop-holds c = (search counting-none, search needs, search needs, search needs)
+
+row-requires : tie.Need-row-requires Inv-loop μ-loop
+row-requires c κs = search needs
 
 same-length : tie.Need-same-length Inv-loop μ-loop
 same-length c = cc
@@ -48,6 +51,6 @@ pub longest-spec : {M : Type 1} → statement M
 longest-spec =
     tie.close
     (tie.spec
-    Inv-loop μ-loop (λ c κs. search needs) loop-holds (λ c κs. search needs) (λ c. search needs)
+    Inv-loop μ-loop (λ c κs. search needs) loop-holds row-requires (λ c. search needs)
     (λ c. search needs) same-length same-length-2 returns (λ c. search needs) loop-less loop-again same-length-3
     same-length-4 returns-2)
