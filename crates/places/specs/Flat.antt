@@ -1,6 +1,6 @@
 -- The places of a code, numbered from 0 along its words joined, as one flat list of bytes; and the graph of its unordered pairs.
 use mathlib.Core.Path.{_≡_}
-use mathlib.Core.Bool.{Bool, true, false, not, _&&_, _||_}
+use mathlib.Core.Bool.{Bool, _&&_, _||_}
 use mathlib.Core.List.{List}
 use Prim.Native.Nat.{ℕ, _+_, _*_, _/_, _%_, _≤_, _<_, min, max}
 use lib.Dec.{ltb, eqb}

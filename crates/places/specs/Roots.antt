@@ -6,9 +6,9 @@ use Prim.Native.Nat.{ℕ, _/_, _%_, _<_}
 use native.Mathlib.Omega.{arith}
 use lib.Dec.{ltb, eqb}
 use borrow.Author.Tests.{ltb-true, eqb-true, lt-ltb, eq-eqb}
-use Rattle.graph.specs.Graph.{Edge, Reach, start, onward}
-use Rattle.places.specs.Flat.{symbolAt, ownerAt, firstAt, wordCount, Laid, pairNode, isFirst, firstPair, pairGraph}
-use Rattle.places.specs.Nodes.{NodeOf, IsPair, node-of, of-node, node-below, node-pair, edge-leads}
+use Rattle.graph.specs.Graph.{Reach, start, onward}
+use Rattle.places.specs.Flat.{symbolAt, ownerAt, firstAt, wordCount, Laid, isFirst, firstPair, pairGraph}
+use Rattle.places.specs.Nodes.{NodeOf, IsPair, node-of, of-node, node-pair, edge-pair}
 use Rattle.places.specs.Steps.{startNode}
 
 -- What holds of the flat list of every code, besides its layout.
@@ -36,6 +36,7 @@ pub record FirstTests (f : List ℕ) (p q : ℕ) : Type 0 where
   pub same : symbolAt f p ≡ symbolAt f q
 
 module _ {f : List ℕ} where
+  -- Symbols are below 16.
   pub symbol-low : Numbered f → (v : ℕ) → pairGraph f .symbol v < 16
   symbol-low n v = n .symbols (v % 128) (omega arith)
 
@@ -71,7 +72,8 @@ module _ {f : List ℕ} where
     pub root-starts : {v : ℕ} → v < 16384 → pairGraph f .root v ≡ true → Starts f v
     root-starts {v} h e = start-of refl refl h (first-tests (v / 128) (v % 128) e)
 
-    start-node : {v : ℕ} → v < 16384 → (s : Starts f v) → NodeOf f (firstAt f (s .x)) (firstAt f (s .y)) v
+    -- The first places of its two words make up a first pair.
+    pub start-node : {v : ℕ} → v < 16384 → (s : Starts f v) → NodeOf f (firstAt f (s .x)) (firstAt f (s .y)) v
     start-node h s = node-of (firstAt f (s .x)) (firstAt f (s .y)) (s .node) h
 
     -- The first pair of two words in order is a root.
@@ -89,9 +91,6 @@ module _ {f : List ℕ} where
 
     root-pair : {v : ℕ} → v < 16384 → pairGraph f .root v ≡ true → IsPair f v
     root-pair h e = node-pair (start-node h (root-starts h e))
-
-    edge-pair : {v w : ℕ} → Edge (pairGraph f) v w → IsPair f w
-    edge-pair e = node-pair (edge-leads e .pair)
 
     -- Every node that is reached is a pair with its lower place first.
     pub reach-pair : {m : List ℕ} {v : ℕ} → Reach (pairGraph f) m v → IsPair f v

@@ -2,7 +2,7 @@
 use mathlib.Core.Path.{_≡_, refl, sym, _∙_}
 use mathlib.Core.Bool.{Bool, true, false, not, _||_, _&&_, false≢true, and-true, and-false, or-false}
 use mathlib.Core.List.{List, [], _∷_}
-use Prim.Native.Nat.{ℕ, _+_, _-_, _≤_, _<_}
+use Prim.Native.Nat.{ℕ, zero, suc, _+_, _-_, _≤_, _<_}
 use native.Mathlib.Numerals.{add-one}
 use native.Mathlib.Omega.{arith}
 use lib.Dec.{leb, eqb}
@@ -117,3 +117,21 @@ leading-stop s i h d = rw (drop-cons s i 0 h, d)
 pub leading-end : (s : List ℕ) (i : ℕ) → length s ≤ i → length (leading (drop i s)) ≡ 0
 unfolding leading
 leading-end s i h = rw (drop-of-length-le s h)
+
+-- the bytes of a field are digits, and stand at the front in order
+pub leading-at : (t : List ℕ) (k d : ℕ) → k < length (leading t) → (getD t k d ≡ getD (leading t) k d) × (isDigit (getD t k d) ≡ true)
+unfolding leading
+leading-at [] k d h = absurd (omega arith)
+leading-at (a ∷ t) k d h = by-digit a t k d (leading-at t) (isDigit a) refl h
+  where
+    at-front : (a : ℕ) (t : List ℕ) (k d : ℕ) → isDigit a ≡ true
+        → ((k d : ℕ) → k < length (leading t) → (getD t k d ≡ getD (leading t) k d) × (isDigit (getD t k d) ≡ true))
+        → k < suc (length (leading t)) → (getD (a ∷ t) k d ≡ getD (a ∷ leading t) k d) × (isDigit (getD (a ∷ t) k d) ≡ true)
+    at-front a t zero d e rest h = (refl, e)
+    at-front a t (suc k) d e rest h = rest k d (omega arith)
+
+    by-digit : (a : ℕ) (t : List ℕ) (k d : ℕ)
+        → ((k d : ℕ) → k < length (leading t) → (getD t k d ≡ getD (leading t) k d) × (isDigit (getD t k d) ≡ true))
+        → (b : Bool) → isDigit a ≡ b → k < length (leading (a ∷ t)) → (getD (a ∷ t) k d ≡ getD (leading (a ∷ t)) k d) × (isDigit (getD (a ∷ t) k d) ≡ true)
+    by-digit a t k d rest true e h = rw e (at-front a t k d e rest (rw e at h))
+    by-digit a t k d rest false e h = let z : k < 0 = rw e at h in absurd (omega arith)

@@ -72,7 +72,7 @@ fn now_cr(cr: bool, b: u8) -> bool
     b == 13
 }
 
-fn or(a: bool, b: bool) -> bool
+pub fn or(a: bool, b: bool) -> bool
     ensures { λ r. ⌜ r ≡ (a || b) ⌝ }
 {
     if a { true } else { b }

@@ -1,4 +1,17 @@
-// What the records of a sheet amount to: one pass from field to field, with counts and a flag for each refusal that can be met on the way.
+// What the records of a sheet amount to: one pass from field to field, with counts, and a flag for each refusal that a single record can show.
+
+use crate::bytes::field_end;
+use crate::bytes::or;
+use code::Code;
+use code::Refusal;
+use code::SheetAnswer;
+use code::Word;
+ghost use mathlib.Core.Path.{_≡_};
+ghost use Prim.Native.Nat.{_+_, _≤_, _<_};
+ghost use lib.ListN.{length, drop, getD};
+ghost use Rattle.code.specs.Laws.Clean.{Clean, recordFields};
+ghost use Rattle.sheet.specs.Survey.{start, entryBad, wordBad, takeSpan, endRecord, surveyRecords, answerOf};
+ghost use Rattle.sheet.specs.Passing.{Bounded, Step};
 
 // `records` and `fields` count what has ended: records, and fields of the current record. `width` is the number of fields of the first record.
 pub struct Survey {
@@ -9,4 +22,148 @@ pub struct Survey {
     pub badword: bool,
     pub badwidth: bool,
     pub badentry: bool,
+}
+
+// A survey of what stands before `at`, where a field begins.
+pub struct Cursor {
+    pub survey: Survey,
+    pub at: usize,
+}
+
+// The byte at a position, 0 past the end.
+fn byte_at(s: &[u8], at: usize) -> u8
+    ensures { λ r. ⌜ r ≡ getD (now (s .entry)) at 0 ⌝ }
+{
+    if at < s.len() {
+        return s[at];
+    }
+    0
+}
+
+// A row entry is the single digit 0 or 1; here it has n bytes, of which b is the first.
+fn entry_bad(n: usize, b: u8) -> bool
+    ensures { λ r. ⌜ r ≡ entryBad n b ⌝ }
+{
+    if n != 1 {
+        return true;
+    }
+    if b == 48 {
+        return false;
+    }
+    b != 49
+}
+
+fn word_bad(n: usize) -> bool
+    ensures { λ r. ⌜ r ≡ wordBad n ⌝ }
+{
+    if n == 0 {
+        return true;
+    }
+    Word::SYMBOLS < n
+}
+
+// The survey with one field more, of n bytes, of which b is the first.
+fn take_span(v: Survey, n: usize, b: u8) -> Survey
+    requires { ⌜ (v .fields < 8192) × (v .symbols + n < 8192) ⌝ }
+    ensures { λ r. ⌜ r ≡ takeSpan v n b ⌝ }
+{
+    let mut next = v;
+    if v.fields == 0 {
+        next.fields = 1;
+        next.symbols = v.symbols + n;
+        next.badword = or(v.badword, word_bad(n));
+        return next;
+    }
+    next.fields = v.fields + 1;
+    next.badentry = or(v.badentry, entry_bad(n, b));
+    next
+}
+
+// The survey at the end of a record.
+fn end_record(v: Survey) -> Survey
+    requires { ⌜ v .records < 8192 ⌝ }
+    ensures { λ r. ⌜ r ≡ endRecord v ⌝ }
+{
+    let mut next = v;
+    next.records = v.records + 1;
+    next.fields = 0;
+    if v.records == 0 {
+        next.width = v.fields;
+        return next;
+    }
+    next.badwidth = or(v.badwidth, v.fields != v.width);
+    next
+}
+
+// One field further.
+fn next_field(s: &[u8], c: Cursor) -> Cursor
+    requires { ⌜ Clean (drop (c .at) (now s)) × (c .at ≤ length (now s)) × (length (now s) ≤ 4096) × Bounded c ⌝ }
+    ensures { λ r. ⌜ Step (now (s .entry)) c r ⌝ }
+{
+    let at = c.at;
+    let e = field_end(s, at);
+    let b = byte_at(s, at);
+    let v = take_span(c.survey, e - at, b);
+    if s.len() <= e {
+        return Cursor {
+            survey: end_record(v),
+            at: e + 2,
+        };
+    }
+    if s[e] == 44 {
+        return Cursor {
+            survey: v,
+            at: e + 1,
+        };
+    }
+    Cursor {
+        survey: end_record(v),
+        at: e + 2,
+    }
+}
+
+// The survey of all records.
+pub fn survey_all(s: &[u8]) -> Survey
+    requires { ⌜ Clean (now s) × (length (now s) ≤ 4096) ⌝ }
+    ensures { λ r. ⌜ (r ≡ surveyRecords start (recordFields (now (s .entry)))) × (r .records ≤ 4098) ⌝ }
+{
+    let mut c = Cursor {
+        survey: Survey {
+            records: 0,
+            fields: 0,
+            width: 0,
+            symbols: 0,
+            badword: false,
+            badwidth: false,
+            badentry: false,
+        },
+        at: 0,
+    };
+    while c.at <= s.len() {
+        c = next_field(s, c);
+    }
+    c.survey
+}
+
+// What the survey says of the sheet: the lowest refusal from 3 to 7, or that it is accepted.
+pub fn judge(v: Survey) -> SheetAnswer
+    requires { ⌜ v .records ≤ 4098 ⌝ }
+    ensures { λ r. ⌜ r ≡ answerOf v ⌝ }
+{
+    if Code::WORDS < v.records {
+        return SheetAnswer::Refused(Refusal::RecordCount);
+    }
+    if v.badword {
+        return SheetAnswer::Refused(Refusal::WordLength);
+    }
+    if Code::SYMBOLS < v.symbols {
+        return SheetAnswer::Refused(Refusal::CodeLength);
+    }
+    if or(v.badwidth, v.width != v.records + 1) {
+        return SheetAnswer::Refused(Refusal::FieldCount);
+    }
+    if v.badentry {
+        return SheetAnswer::Refused(Refusal::RowEntry);
+    }
+    SheetAnswer::Accepted
 }

@@ -10,9 +10,10 @@ use lib.ListN.{length, take, length-append}
 use lib.Seq.{take-length}
 use Rattle.code.specs.Definitions.Tables.{Table, size, word, Permitted, message}
 use Rattle.code.specs.Definitions.Orders.{Shortlex, shorter, earlier}
-use Rattle.code.specs.Definitions.Readings.{Reads, FirstTwo, TwoReadings, Ambiguous, Decipherable}
+use Rattle.code.specs.Definitions.Readings.{FirstTwo, TwoReadings, Ambiguous, Decipherable}
+use Rattle.code.specs.Laws.Readings.{decipherable-not-two}
+use Rattle.code.specs.Laws.Sequences.{first-word, rest-permitted}
 use Rattle.theory.specs.Places.{Place, firstPlace, NonEmpty, Path, Compatible, TwoEnds, NoTwoEnds}
-use Rattle.theory.specs.Sequences.{head-known, tail-permitted}
 use Rattle.theory.specs.Paths.{Arrive, along, sequence-from}
 
 module _ (t : Table) where
@@ -27,7 +28,8 @@ module _ (t : Table) where
     pub ends : TwoEnds t m
     pub least : (n : List ℕ) → TwoEnds t n → (m ≡ n) ⊎ Shortlex m n
 
-at-most : (m n : List ℕ) → (m ≡ n) ⊎ Shortlex m n → length m ≤ length n
+-- What comes before a list in shortlex order, or is that list, is no longer.
+pub at-most : (m n : List ℕ) → (m ≡ n) ⊎ Shortlex m n → length m ≤ length n
 at-most m n (inl e) = omega (arith, ap length e)
 at-most m n (inr (shorter l)) = omega arith
 at-most m n (inr (earlier e l)) = omega arith
@@ -50,8 +52,9 @@ module _ {t : Table} where
   }
 
 module _ {t : Table} (ne : NonEmpty t) where
+  -- A sequence that is not empty has a message that is not empty.
   pub message-long : {x : ℕ} {s : List ℕ} → Permitted t (x ∷ s) → 1 ≤ length (message t (x ∷ s))
-  message-long {x} {s} g = simp length-append (omega (arith, ne x (head-known g)))
+  message-long {x} {s} g = simp length-append (omega (arith, ne x (first-word g)))
 
   -- A whole message is read on a path from its first word's first place to an end.
   pub all-along : {x : ℕ} {s : List ℕ} → Permitted t (x ∷ s) → Arrive t (length (message t (x ∷ s))) (firstPlace x) (message t (x ∷ s))
@@ -66,7 +69,7 @@ module _ {t : Table} (ne : NonEmpty t) where
       record {
         p = a .q;
         q = b .q;
-        pair = meet (head-known g) (head-known h) d a b (take-length (message t (x ∷ s))) (take-length (message t (y ∷ u)) ∙ sym e);
+        pair = meet (first-word g) (first-word h) d a b (take-length (message t (x ∷ s))) (take-length (message t (y ∷ u)) ∙ sym e);
         left-ends = a .full refl;
         right-ends = b .full refl;
       }
@@ -92,8 +95,8 @@ module _ {t : Table} (ne : NonEmpty t) where
   }
     where
       shorter-tail : (h .m ≡ message t s) ⊎ (length (h .m) < length (message t s)) → length (h .m) < length (message t (x ∷ s))
-      shorter-tail (inl e) = simp length-append (omega (arith, ap length e, ne x (head-known g)))
-      shorter-tail (inr l) = simp length-append (omega (arith, ne x (head-known g)))
+      shorter-tail (inl e) = simp length-append (omega (arith, ap length e, ne x (first-word g)))
+      shorter-tail (inr l) = simp length-append (omega (arith, ne x (first-word g)))
 
   strip-head : {x y : ℕ} {s u : List ℕ} → Permitted t (x ∷ s) → Permitted t (y ∷ u) → message t (x ∷ s) ≡ message t (y ∷ u) → (x ∷ s ≡ y ∷ u → ⊥)
       → (message t s ≡ message t u → (s ≡ u → ⊥) → Stripped t (message t s)) → Dec (x ≡ y) → Stripped t (message t (x ∷ s))
@@ -109,7 +112,7 @@ module _ {t : Table} (ne : NonEmpty t) where
   strip [] [] g h e d = absurd (d refl)
   strip [] (y ∷ u) g h e d = absurd (no-message h e)
   strip (x ∷ s) [] g h e d = absurd (no-message g (sym e))
-  strip (x ∷ s) (y ∷ u) g h e d = strip-head g h e d (strip s u (tail-permitted g) (tail-permitted h)) (ℕ-discrete x y)
+  strip (x ∷ s) (y ∷ u) g h e d = strip-head g h e d (strip s u (rest-permitted g) (rest-permitted h)) (ℕ-discrete x y)
 
   -- Where n has two readings, two ends are reached by n or by fewer symbols.
   pub readings→ends : {n : List ℕ} → TwoReadings t n → Stripped t n
@@ -129,9 +132,7 @@ module _ {t : Table} (ne : NonEmpty t) where
 
   -- Decipherable: no compatible pair of two ends.
   pub no-two-ends : Decipherable t → NoTwoEnds t
-  no-two-ends d m h =
-      let r = ends→readings h in
-      r .differ (d (r .s) (r .u) (r .first .permitted) (r .second .permitted) (r .first .joined ∙ sym (r .second .joined)))
+  no-two-ends d m h = decipherable-not-two (ends→readings h) d
 
   later : (m n : List ℕ) → LeastTwoEnds t m → (z : Stripped t n) → (z .m ≡ n) ⊎ (length (z .m) < length n) → (m ≡ n) ⊎ Shortlex m n
   later m n l z (inl e) = subst (λ (k : List ℕ). (m ≡ k) ⊎ Shortlex m k) e (l .least (z .m) (z .ends))

@@ -9,8 +9,8 @@ use native.Mathlib.Omega.{arith}
 use lib.ListN.{length, take, drop, length-append, length-drop, drop-of-length-le}
 use lib.Seq.{drop-cons}
 use Rattle.code.specs.Definitions.Tables.{Table, size, word, Permitted, one, more, message}
+use Rattle.code.specs.Laws.Sequences.{first-word, rest-permitted, second-follows}
 use Rattle.theory.specs.Places.{Place, firstPlace, nextPlace, NonEmpty, symbol, Is, Ends, Step, inside, across, Path, here, then}
-use Rattle.theory.specs.Sequences.{head-known, tail-permitted, may-follow}
 
 module _ (t : Table) where
   -- What is left to read from place p on, its own symbol included, where the words s come after p's word.
@@ -23,7 +23,7 @@ module _ (t : Table) where
     pub path : Path t p (take N r) q
     pub full : N ≡ length r → Ends t q
 
-  -- The path's symbols m begin the message of a permitted sequence that starts in p, and are all of it if the path ends at the end of a word.
+  -- The path's symbols m begin what a permitted sequence has left to read from p on, and are all of it if the path ends at the end of a word.
   pub record Sequence (p : Place) (m : List ℕ) (q : Place) : Type 0 where
     pub s : List ℕ
     pub permitted : Permitted t (p .w ∷ s)
@@ -36,6 +36,7 @@ module _ (t : Table) where
   rest-after : (p : Place) (s : List ℕ) → Ends t p → rest (nextPlace p) s ≡ message t s
   rest-after p s e = let h : length (word t (p .w)) ≤ suc (p .k) = omega arith in rw (drop-of-length-le (word t (p .w)) h)
 
+  -- The first place of a word is a place of the table.
   pub first-is : NonEmpty t → (x : ℕ) → x < size t → Is t (firstPlace x)
   first-is ne x h = record { known = h; within = ne x h }
 
@@ -69,10 +70,10 @@ module _ (t : Table) where
     follow-across N ih p [] i g o l e = absurd (let l′ = rw (rest-cons p [] i, rest-after p [] e) at l in omega arith)
     follow-across N ih p (x ∷ s) i g o l e =
         let l′ = rw (rest-cons p (x ∷ s) i, rest-after p (x ∷ s) e) at l in
-        let r = tail-permitted g in
-        let h = head-known r in
+        let r = rest-permitted g in
+        let h = first-word r in
         rw (rest-cons p (x ∷ s) i, rest-after p (x ∷ s) e)
-        (on-arrive N p (firstPlace x) (message t (x ∷ s)) (across e h (may-follow g) refl) (ih (firstPlace x) s (first-is ne x h) r (omega arith)))
+        (on-arrive N p (firstPlace x) (message t (x ∷ s)) (across e h (second-follows g) refl) (ih (firstPlace x) s (first-is ne x h) r (omega arith)))
 
     follow-on : (N : ℕ) → Follows N → 1 ≤ N → (p : Place) (s : List ℕ) → Is t p → Permitted t (p .w ∷ s) → suc N ≤ length (rest p s)
         → Dec (suc (p .k) < length (word t (p .w))) → Arrive (suc N) p (rest p s)
@@ -86,7 +87,7 @@ module _ (t : Table) where
     -- Each number of symbols of a permitted sequence's message is read on a path from its first word's first place; all of them lead to an end.
     pub along : (N x : ℕ) (s : List ℕ) → Permitted t (x ∷ s) → 1 ≤ N → N ≤ length (message t (x ∷ s)) → Arrive N (firstPlace x) (message t (x ∷ s))
     along zero x s g o l = absurd (omega arith)
-    along (suc N) x s g o l = follows N (firstPlace x) s (first-is ne x (head-known g)) g l
+    along (suc N) x s g o l = follows N (firstPlace x) s (first-is ne x (first-word g)) g l
 
     last-word : (p : Place) (c : ℕ) → Is t p → symbol t p ≡ c → Sequence p (c ∷ []) p
     last-word p c i e = record {
@@ -122,5 +123,6 @@ module _ (t : Table) where
     sequence-of i (here {p} {c} e) = last-word p c i e
     sequence-of i (then {p} {q} {r} {c} {m} e s a) = one-step p q r c m i e s (sequence-of (step-is ne i s) a)
 
+    -- So a path from the first place of word x opens a sequence that starts with x.
     pub sequence-from : {x : ℕ} {q : Place} {m : List ℕ} → x < size t → Path t (firstPlace x) m q → Sequence (firstPlace x) m q
     sequence-from {x} h a = sequence-of (first-is ne x h) a

@@ -5,6 +5,8 @@ use mathlib.Core.List.{List, [], _∷_, _++_}
 use Prim.Native.Nat.{ℕ, suc, _≤_, _<_}
 use lib.ListN.{length, getD}
 use Rattle.code.specs.Definitions.Tables.{Table, size, word}
+-- the one limit on which the theorems rest
+pub use Rattle.code.specs.Laws.Sequences.{NonEmpty}
 
 -- 01: "a place is a word together with the number of its symbols read". Symbol k of word w, counted from 0, has just been read.
 pub record Place : Type 0 where
@@ -20,10 +22,6 @@ abbrev pub nextPlace : Place → Place
 nextPlace p = record { w = p .w; k = suc (p .k) }
 
 module _ (t : Table) where
-  -- 01: "A word has 1 to 16 symbols." The theorems rest on no other limit.
-  abbrev pub NonEmpty : Type 0
-  NonEmpty = (x : ℕ) → x < size t → 0 < length (word t x)
-
   -- the symbol that is read on arriving at a place
   abbrev pub symbol : Place → ℕ
   symbol p = getD (word t (p .w)) (p .k) 0

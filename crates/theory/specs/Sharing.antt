@@ -1,21 +1,22 @@
 -- The delay from the compatible pairs. In a code without a pair of two ends two sequences that start with different words share their first N symbols
 -- exactly if some N symbols reach a compatible pair: a message shorter than N counts whole, so it would be equal to the other one, and reach two ends.
 use mathlib.Core.Path.{_≡_, refl, sym, ap, _∙_, subst}
-use mathlib.Core.List.{List, [], _∷_}
+use mathlib.Core.List.{List, _∷_}
 use mathlib.Core.Logic.{_↔_}
-use Prim.Native.Nat.{ℕ, zero, suc, _≤_, _<_, min}
+use Prim.Native.Nat.{ℕ, zero, suc, _≤_, min}
 use native.Mathlib.Decide.{decLe}
 use native.Mathlib.Omega.{arith}
 use lib.ListN.{length, take, length-take}
 use lib.Seq.{take-all}
-use Rattle.code.specs.Definitions.Tables.{Table, size, Permitted, one, message}
+use Rattle.code.specs.Definitions.Tables.{Table, size, message}
 use Rattle.code.specs.Definitions.Delays.{SharePrefix, Delay, WithoutBound}
+use Rattle.code.specs.Laws.Delays.{share-fewer, two-words-share}
+use Rattle.code.specs.Laws.Sequences.{first-word}
 use Rattle.theory.specs.Places.{NonEmpty, NoTwoEnds, PairAfter, LongestPath}
-use Rattle.theory.specs.Sequences.{head-known}
 use Rattle.theory.specs.Paths.{along, sequence-from}
 use Rattle.theory.specs.Ambiguity.{meet, same-message}
 
--- Where l is shorter than N and the first N of both are the same, l is the other list.
+-- 01: "one shorter than N shares them only with a message equal to it".
 shorter-whole : (N : ℕ) (l r : List ℕ) → take N l ≡ take N r → (N ≤ length l → ⊥) → l ≡ r
 shorter-whole N l r e h =
     let n : min N (length l) ≡ min N (length r) = simp length-take at (ap length e) in
@@ -71,7 +72,7 @@ module _ {t : Table} (ne : NonEmpty t) where
           m = take N (message t (h .x ∷ h .s));
           p = a .q;
           q = b .q;
-          pair = meet (head-known (h .left)) (head-known (h .right)) (h .differ) a b refl (sym (h .share));
+          pair = meet (first-word (h .left)) (first-word (h .right)) (h .differ) a b refl (sym (h .share));
           long = simp length-take (omega arith);
         }
 
@@ -79,21 +80,8 @@ module _ {t : Table} (ne : NonEmpty t) where
     pub share-iff : {N : ℕ} → 1 ≤ N → SharePrefix t N ↔ PairAfter t N
     share-iff o = (share→pair o, pair→share)
 
-  -- Any two words share no symbol at all.
-  two-words : 2 ≤ size t → SharePrefix t 0
-  two-words h = record {
-    x = 0;
-    s = [];
-    y = 1;
-    u = [];
-    left = one {x = 0} (omega arith);
-    right = one {x = 1} (omega arith);
-    differ = λ e. omega arith;
-    share = refl;
-  }
-
   shared : 2 ≤ size t → (r : ℕ) → LongestPath t r → SharePrefix t r
-  shared h zero l = two-words h
+  shared h zero l = two-words-share h
   shared h (suc k) l = pair→share (l .some k refl)
 
   -- The delay of a code of two words or more is one more than the longest path.
@@ -105,12 +93,5 @@ module _ {t : Table} (ne : NonEmpty t) where
 
   -- Where every number of symbols reaches a compatible pair, no number of symbols is enough.
   pub without-bound : ((k : ℕ) → PairAfter t (suc k)) → WithoutBound t
-  without-bound f zero = let h = pair→share (f 0) in record { x = h .x; s = h .s; y = h .y; u = h .u; left = h .left; right = h .right; differ = h .differ; share = refl }
+  without-bound f zero = share-fewer (omega arith) (pair→share (f 0))
   without-bound f (suc k) = pair→share (f k)
-
--- The delay of a code of one word is 0: 01, "A code of one word has delay 0".
-pub one-word : {t : Table} → size t ≤ 1 → Delay t 0
-one-word {t} h = record {
-  enough = λ s. s .differ (omega (arith, head-known (s .left), head-known (s .right)));
-  needed = λ M e. absurd (omega arith);
-}

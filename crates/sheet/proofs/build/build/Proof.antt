@@ -1,0 +1,97 @@
+-- The loop keeps the table after k records and where the next one begins.
+use borrow.Author.Needs.{needs}
+use native.Mathlib.Omega.{arith}
+use Prim.Native.Nat.{_-_}
+use Rattle.code.specs.Laws.Clean.{recordFields}
+use Rattle.sheet.specs.Building.{Built, built-none, word-next, row-next, built-more, built-all}
+use Rattle.sheet.proofs.build.build.Statement.{statement}
+use Rattle.sheet.proofs.build.build.Tie as tie
+use Rattle.sheet.proofs.build.blank_code.Reads as blank-code-reads
+use Rattle.sheet.proofs.build.read_row.Reads as read-row-reads
+use Rattle.sheet.proofs.build.read_word.Reads as read-word-reads
+use Rattle.sheet.proofs.bytes.field_end.Reads as field-end-reads
+
+abbrev Inv-loop : tie.InvT-loop
+Inv-loop s n code₀ at₀ k₀ code at k = Built s (recordFields s) code at k
+
+abbrev μ-loop : tie.MeasureT-loop
+μ-loop s n code₀ at₀ k₀ code at k = n - k
+
+blank-code-requires : tie.Need-blank-code-requires Inv-loop μ-loop
+blank-code-requires c κs = search needs
+
+loop-holds : tie.Need-loop-holds Inv-loop μ-loop
+loop-holds c = let p = c .before .before .pre in built-none _ _ (p .0) (c .blank-code .ensures)
+
+field-end-requires : tie.Need-field-end-requires Inv-loop μ-loop
+field-end-requires c κs = let l = c .before .loop in let p = c .before .before .before .before .pre in l .inv .within (omega (arith, p .3))
+
+read-word-requires : tie.Need-read-word-requires Inv-loop μ-loop
+read-word-requires c κs = let l = c .before .before .loop in let p = c .before .before .before .before .before .pre in let f = c .field-end .ensures in
+    (f .0, f .1, word-next _ _ _ _ _ _ _ (p .2) (l .inv) (p .3) (search needs) (f .0))
+
+add-read-row : tie.Need-add-read-row Inv-loop μ-loop
+add-read-row c = let p = c .before .before .before .before .before .before .pre in omega (arith, p .1)
+
+read-row-requires : tie.Need-read-row-requires Inv-loop μ-loop
+read-row-requires c κs = let l = c .before .before .before .loop in let p = c .before .before .before .before .before .before .pre in
+    row-next _ _ _ _ _ _ _ (p .2) (l .inv) (p .3) (search needs) (c .before .field-end .ensures .0)
+
+mul-word : tie.Need-mul-word Inv-loop μ-loop
+mul-word c = let p = c .before .before .before .before .before .before .before .pre in omega (arith, p .2 .most, p .3)
+
+element-set-from-word : tie.Need-element-set-from-word Inv-loop μ-loop
+element-set-from-word c = let p = c .before .before .before .before .before .before .before .pre in omega (arith, p .2 .most, p .3)
+
+mul-row : tie.Need-mul-row Inv-loop μ-loop
+mul-row c = let p = c .before .before .before .before .before .before .before .pre in omega (arith, p .2 .most, p .3)
+
+element-set-from-row : tie.Need-element-set-from-row Inv-loop μ-loop
+element-set-from-row c = let p = c .before .before .before .before .before .before .before .pre in omega (arith, p .2 .most, p .3)
+
+mul-at : tie.Need-mul-at Inv-loop μ-loop
+mul-at c = let p = c .before .before .before .before .before .before .before .pre in omega (arith, p .2 .most, p .3)
+
+add-at : tie.Need-add-at Inv-loop μ-loop
+add-at c = let p = c .before .before .before .before .before .before .before .pre in omega (arith, p .1, p .2 .most, p .3)
+
+add-at-2 : tie.Need-add-at-2 Inv-loop μ-loop
+add-at-2 c = let p = c .before .before .before .before .before .before .before .pre in omega (arith, p .1, p .2 .most, p .3)
+
+add-k : tie.Need-add-k Inv-loop μ-loop
+add-k c = let p = c .before .before .before .before .before .before .before .pre in omega (arith, p .2 .most, p .3)
+
+loop-less : tie.Need-loop-less Inv-loop μ-loop
+loop-less c = search needs
+
+loop-again : tie.Need-loop-again Inv-loop μ-loop
+loop-again c = let l = c .before .before .before .before .loop in let p = c .before .before .before .before .before .before .before .pre in
+    built-more _ _ _ _ _ _ _ (p .2) (l .inv) (p .3) (search needs) (c .before .before .field-end .ensures .0) _ _ (c .before .read-word .ensures) (c .read-row .ensures)
+
+returns : tie.Need-returns Inv-loop μ-loop
+returns c = let l = c .before .loop in let p = c .before .before .before .before .pre in
+    built-all _ _ (l .code) (l .at) (l .k) _ (p .2) (l .inv) (p .3) (search needs)
+
+pub build-spec : {M : Type 1} → statement M
+build-spec =
+    tie.close
+    (tie.spec
+    Inv-loop
+    μ-loop
+    blank-code-requires
+    loop-holds
+    field-end-requires
+    read-word-requires
+    add-read-row
+    read-row-requires
+    mul-word
+    element-set-from-word
+    mul-row
+    element-set-from-row
+    mul-at
+    add-at
+    add-at-2
+    add-k
+    loop-less
+    loop-again
+    returns)

@@ -1,0 +1,22 @@
+-- The first record sets the width; a later one is held to it.
+use mathlib.Core.Path.{_∙_}
+use Rattle.sheet.specs.Passing.{end-first, end-later}
+use borrow.Author.Needs.{needs}
+use Rattle.sheet.proofs.survey.end_record.Statement.{statement}
+use Rattle.sheet.proofs.survey.end_record.Tie as tie
+use Rattle.sheet.proofs.bytes.or.Reads as or-reads
+
+add-next : tie.Need-add-next
+add-next c = search needs
+
+returns : tie.Need-returns
+returns c = end-first _ (c .if1 .taken)
+
+or-requires : tie.Need-or-requires
+or-requires c κs = search needs
+
+returns-2 : tie.Need-returns-2
+returns-2 c = rw (c .or .ensures) (end-later _ (c .before .before .if1 .left))
+
+pub end-record-spec : {M : Type 1} → statement M
+end-record-spec = tie.close (tie.spec add-next returns or-requires returns-2)

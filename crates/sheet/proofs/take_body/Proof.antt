@@ -1,0 +1,48 @@
+-- The survey's answer decides, and its records tell how many to build.
+use mathlib.Core.Path.{sym, _∙_}
+use Rattle.sheet.specs.Taking.{way-refused, way-accepted, count-accepted, fits-accepted}
+use borrow.Author.Needs.{needs}
+use Rattle.sheet.proofs.take_body.Statement.{statement}
+use Rattle.sheet.proofs.take_body.Tie as tie
+use Rattle.sheet.proofs.build.build.Reads as build-reads
+use Rattle.sheet.proofs.refuse.Reads as refuse-reads
+use Rattle.sheet.proofs.survey.judge.Reads as judge-reads
+use Rattle.sheet.proofs.survey.survey_all.Reads as survey-all-reads
+
+survey-all-requires : tie.Need-survey-all-requires
+survey-all-requires c κs = search needs
+
+judge-requires : tie.Need-judge-requires
+judge-requires c κs = search needs
+
+enum-known-answer : tie.Need-enum-known-answer
+enum-known-answer c = search needs
+
+refuse-requires : tie.Need-refuse-requires
+refuse-requires c κs = search needs
+
+enum-told : tie.Need-enum-told
+enum-told c = search needs
+
+build-requires : tie.Need-build-requires
+build-requires c κs = let v = c .before .before .before .survey-all .ensures .0 in let p = c .before .before .before .before .before .pre in
+    (p .0, p .1, fits-accepted _ _ v (sym (c .before .before .judge .ensures) ∙ c .enum-told .given .1), count-accepted _ _ v)
+
+returns : tie.Need-returns
+returns c = c .refuse .ensures ∙ way-refused _ _ (c .before .before .before .before .before .survey-all .ensures .0) _ (sym (c .before .before .before .before .judge .ensures) ∙ c .before .before .answer .given .1)
+
+returns-2 : tie.Need-returns-2
+returns-2 c = rw (c .build .ensures) (way-accepted _ _ (c .before .before .before .before .survey-all .ensures .0) (sym (c .before .before .before .judge .ensures) ∙ c .before .enum-told .given .1))
+
+pub take-body-spec : {M : Type 1} → statement M
+take-body-spec =
+    tie.close
+    (tie.spec
+    survey-all-requires
+    judge-requires
+    enum-known-answer
+    refuse-requires
+    enum-told
+    build-requires
+    returns
+    returns-2)

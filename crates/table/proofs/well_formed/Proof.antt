@@ -1,0 +1,32 @@
+-- `well_formed` says exactly whether an accepted sheet gives the table: its tests say exactly whether the table is well-formed, and that is the same.
+use mathlib.Core.Path.{_≡_, sym, _∙_}
+use native.Mathlib.Omega.{arith}
+use lib.ListN.{length, length-map}
+use borrow.Author.Needs.{needs}
+use Rattle.code.specs.Definitions.Sheets.{limits}
+use Rattle.table.specs.Exactly.{exactly-iff}
+use Rattle.table.specs.Tested.{table-tested}
+use Rattle.table.specs.Round.{well-formed}
+use Rattle.table.proofs.well_formed.Statement.{statement}
+use Rattle.table.proofs.well_formed.Tie as tie
+
+returns : tie.Need-returns
+returns c =
+    let s = c .before .before .before .before .before in
+    let code = s .args .code in
+    -- the type of the parameter says how long its arrays are
+    let words : length (code .words) ≡ 32 = sym (length-map (code .words) _) ∙ s .good .0 .1 .1 .0 .1 .0 .1 in
+    let rows : length (code .rows) ≡ 32 = sym (length-map (code .rows) _) ∙ s .good .0 .1 .1 .1 .0 .1 .0 .1 in
+    let tests = table-tested limits code words rows (c .before .before .before .records-fit .ensures) (c .before .before .total-fits .ensures) in
+    rw (c .and3 .ensures, c .before .and2 .ensures, c .before .before .before .before .and .ensures) (exactly-iff (well-formed (omega arith)) tests)
+
+pub well-formed-spec : {M : Type 1} → statement M
+well-formed-spec =
+    tie.close
+    (tie.spec
+    (λ c κs. search needs)
+    (λ c κs. search needs)
+    (λ c κs. search needs)
+    (λ c κs. search needs)
+    (λ c κs. search needs)
+    returns)

@@ -1,0 +1,49 @@
+-- A Bool that says exactly whether something holds, and how two such Bools are joined: by `_&&_`, and along an index.
+use mathlib.Core.Path.{_≡_, refl}
+use mathlib.Core.Bool.{Bool, true, false, true≢false, false≢true, _&&_}
+use mathlib.Core.Logic.{_↔_}
+use Prim.Native.Nat.{ℕ, _+_, _≤_, _<_}
+use native.Mathlib.Omega.{arith}
+use lib.Dec.{ltb, leb, eqb}
+use borrow.Author.Tests.{ltb-true, ltb-false, leb-true, leb-false, eqb-true, eqb-false}
+use borrow.Author.Count.{below-none, below-more}
+
+pub record Exactly (r : Bool) (P : Type 0) : Type 0 where
+  pub yes : r ≡ true → P
+  pub no : r ≡ false → P → ⊥
+
+pub exactly-true : {P : Type 0} → P → Exactly true P
+exactly-true p = record { yes = λ e. p; no = λ e q. true≢false e }
+
+pub exactly-false : {P : Type 0} → (P → ⊥) → Exactly false P
+exactly-false n = record { yes = λ e. absurd (false≢true e); no = λ e. n }
+
+pub exactly-iff : {r : Bool} {P Q : Type 0} → P ↔ Q → Exactly r P → Exactly r Q
+exactly-iff i t = record { yes = λ e. i .0 (t .yes e); no = λ e q. t .no e (i .1 q) }
+
+pub exactly-and : {a b : Bool} {P Q : Type 0} → Exactly a P → Exactly b Q → Exactly (a && b) (P × Q)
+exactly-and {a = true} {b = true} t u = exactly-true (t .yes refl, u .yes refl)
+exactly-and {a = true} {b = false} t u = exactly-false (λ p. u .no refl (p .1))
+exactly-and {a = false} t u = exactly-false (λ p. t .no refl (p .0))
+
+-- Tests of numbers
+
+pub exactly-lt : (a b : ℕ) → Exactly (ltb a b) (a < b)
+exactly-lt a b = record { yes = ltb-true a b; no = λ e h. omega (arith, ltb-false a b e) }
+
+pub exactly-le : (a b : ℕ) → Exactly (leb a b) (a ≤ b)
+exactly-le a b = record { yes = leb-true a b; no = λ e h. omega (arith, leb-false a b e) }
+
+pub exactly-eq : (a b : ℕ) → Exactly (eqb a b) (a ≡ b)
+exactly-eq a b = record { yes = eqb-true a b; no = eqb-false a b }
+
+-- Along an index
+
+module _ (P : ℕ → Type 0) where
+  pub exactly-none : Exactly true ((k : ℕ) → k < 0 → P k)
+  exactly-none = exactly-true (below-none P)
+
+  -- one index more
+  pub exactly-more : {a b : Bool} (i : ℕ) → Exactly a (P i) → Exactly b ((k : ℕ) → k < i → P k) → Exactly (a && b) ((k : ℕ) → k < i + 1 → P k)
+  exactly-more i here below =
+      exactly-iff ((λ p. below-more P i (p .1) (p .0)), (λ all. (all i (omega arith), (λ k h. all k (omega arith))))) (exactly-and here below)

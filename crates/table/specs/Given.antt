@@ -1,0 +1,149 @@
+-- Every table that an accepted sheet gives is well-formed: refusals 3 to 7 bound what the fields hold, and past the fields a read gives nothing, which counts as zero.
+use mathlib.Core.Path.{_≡_, refl, ap, _∙_}
+use mathlib.Core.Bool.{Bool, true, false, true≢false, and-false}
+use mathlib.Core.List.{List, [], _∷_, map}
+use Prim.Native.Nat.{ℕ, _+_, _≤_, _<_}
+use native.Mathlib.Omega.{arith}
+use native.Mathlib.Decide.{decLt}
+use lib.Dec.{ltb, eqb}
+use lib.ListN.{length, drop, getD, length-drop, List·getD-eq-default}
+use lib.Seq.{getD-drop}
+use borrow.Author.Tests.{ltb-false, eqb-true, eqb-false, not-false}
+use Rattle.code.specs.declared.Word.{Word}
+use Rattle.code.specs.declared.Code.{Code}
+use Rattle.code.specs.declared.Limits.{Limits}
+use Rattle.code.specs.Definitions.Lists.{any, table, sum}
+use Rattle.code.specs.Definitions.Tables.{noWord, noRow}
+use Rattle.code.specs.Definitions.Sheets.{isDigit, valueOf, body, records, grid, firstField, wordLength, badWidth, badEntry, badRow, badWord, wordOf, rowOf, codeOf, refused3, refused4, refused5, refused6, refused7, FromSheet}
+use Rattle.code.specs.Laws.Lists.{length-table, getD-table, getD-table-past, table-same, table-map, any-at, sum-past, or-neither}
+use Rattle.code.specs.Laws.Clean.{clean-body, records-some}
+use Rattle.table.specs.WellFormed.{lenOf, CellsFit, WordFits, RowFits, WellFormed}
+use Rattle.table.specs.Accepts.{accepts}
+use Rattle.table.specs.Digits.{value-symbol, entryValue, first-digits}
+
+-- The cells of a table, from the function that it is made of.
+table-cell : (f : ℕ → ℕ) (m p : ℕ) (P : ℕ → Type 0) → P (f p) → P 0 → Dec (p < m) → P (getD (table f m) p 0)
+table-cell f m p P inside past (yes h) = rw (getD-table f m p 0 h) inside
+table-cell f m p P inside past (no h) = rw (getD-table-past f m p 0 (omega arith)) past
+
+module _ (bound used m : ℕ) (f : ℕ → ℕ) (some : 0 < bound) (below : (p : ℕ) → f p < bound) (zero : (p : ℕ) → used ≤ p → f p ≡ 0) where
+  table-cells : CellsFit bound used (table f m)
+  table-cells = record {
+    below = λ p. table-cell f m p (λ v. v < bound) (below p) some (decLt p m);
+    zero = λ p h. table-cell f m p (λ v. v ≡ 0) (zero p h) refl (decLt p m);
+  }
+
+abbrev entry : List (List ℕ) → ℕ → ℕ
+entry r y = entryValue (getD r (y + 1) [])
+
+-- An entry that refusal 7 leaves is 0 or 1.
+entry-bit : (f : List ℕ) → badEntry f ≡ false → entryValue f < 2
+entry-bit [] e = absurd (true≢false e)
+entry-bit (a ∷ f) e = by-digit (eqb a 48) (eqb a 49) refl refl
+  where
+    by-digit : (t u : Bool) → eqb a 48 ≡ t → eqb a 49 ≡ u → valueOf a < 2
+    by-digit true u p q = rw (eqb-true a 48 p) (omega arith)
+    by-digit false true p q = rw (eqb-true a 49 q) (omega arith)
+    by-digit false false p q = absurd (true≢false (rw (p, q, and-false) at e))
+
+-- past the last field of a record
+entry-past : (r : List (List ℕ)) (y : ℕ) → length r ≤ y + 1 → entry r y ≡ 0
+entry-past r y h = ap entryValue (List·getD-eq-default r [] h)
+
+module _ (l : Limits) (g : List (List (List ℕ))) where
+  nothing : (k : ℕ) → length g ≤ k → getD g k [] ≡ []
+  nothing k h = List·getD-eq-default g [] h
+
+  module _ (widths : refused6 g ≡ false) (entries : refused7 g ≡ false) (x : ℕ) where
+    width : x < length g → length (getD g x []) ≡ length g + 1
+    width h = eqb-true (length (getD g x [])) (length g + 1) (not-false _ (any-at (badWidth (length g)) g [] widths x h))
+
+    inside : x < length g → (y : ℕ) → y < length g → entry (getD g x []) y < 2
+    inside h y i =
+        let row : any badEntry (drop 1 (getD g x [])) ≡ false = any-at badRow g [] entries x h in
+        let within : y < length (drop 1 (getD g x [])) = omega (arith, width h, length-drop 1 (getD g x [])) in
+        let at : 1 + y ≡ y + 1 = omega arith in
+        rw (← at, ← getD-drop 1 (getD g x []) y []) (entry-bit (getD (drop 1 (getD g x [])) y []) (any-at badEntry (drop 1 (getD g x [])) [] row y within))
+
+    entry-unused : length g ≤ x → (y : ℕ) → entry (getD g x []) y ≡ 0
+    entry-unused h y = rw (nothing x h)
+
+    entry-after : (y : ℕ) → length g ≤ y → Dec (x < length g) → entry (getD g x []) y ≡ 0
+    entry-after y h (yes i) = entry-past (getD g x []) y (omega (arith, width i))
+    entry-after y h (no i) = entry-unused (omega arith) y
+
+    entry-low : (y : ℕ) → Dec (x < length g) → Dec (y < length g) → entry (getD g x []) y < 2
+    entry-low y (yes h) (yes i) = inside h y i
+    entry-low y (yes h) (no i) = omega (arith, entry-after y (omega arith) (yes h))
+    entry-low y (no h) i = omega (arith, entry-unused (omega arith) y)
+
+    row-fits : RowFits l (length g) x (rowOf l (getD g x []))
+    row-fits =
+        let bits : (y : ℕ) → entry (getD g x []) y < 2 = λ y. entry-low y (decLt x (length g)) (decLt y (length g)) in
+        record {
+          array = length-table (entry (getD g x [])) (l .words);
+          entries = table-cells 2 (length g) (l .words) (entry (getD g x [])) (omega arith) bits (λ y h. entry-after y h (decLt x (length g)));
+          unused = λ h y. table-cells 2 0 (l .words) (entry (getD g x [])) (omega arith) bits (λ z i. entry-unused h z) .zero y (omega arith);
+        }
+
+  module _ (words : refused4 l g ≡ false) (digits : (k p : ℕ) → isDigit (getD (firstField (getD g k [])) p 48) ≡ true) (k : ℕ) where
+    tests : k < length g → (eqb (wordLength (getD g k [])) 0 ≡ false) × (ltb (l .symbols) (wordLength (getD g k [])) ≡ false)
+    tests h = or-neither _ _ (any-at (badWord l) g [] words k h)
+
+    len-unused : length g ≤ k → wordLength (getD g k []) ≡ 0
+    len-unused h = rw (nothing k h)
+
+    len-short : Dec (k < length g) → wordLength (getD g k []) ≤ l .symbols
+    len-short (yes h) = ltb-false (l .symbols) (wordLength (getD g k [])) (tests h .1)
+    len-short (no h) = omega (arith, len-unused (omega arith))
+
+    word-fits : WordFits l (length g) k (wordOf l (firstField (getD g k [])))
+    word-fits =
+        let field = firstField (getD g k []) in
+        let symbolAt : ℕ → ℕ = λ p. valueOf (getD field p 48) in
+        record {
+          array = length-table symbolAt (l .symbols);
+          some = λ h. some-symbol h (eqb-false (length field) 0 (tests h .0));
+          short = len-short (decLt k (length g));
+          unused = len-unused;
+          symbols = table-cells 16 (length field) (l .symbols) symbolAt (omega arith) (λ p. value-symbol (getD field p 48) (digits k p))
+              (λ p h. ap valueOf (List·getD-eq-default field 48 h));
+        }
+      where
+        some-symbol : k < length g → (wordLength (getD g k []) ≡ 0 → ⊥) → 1 ≤ wordLength (getD g k [])
+        some-symbol h none = omega arith
+
+  len-at : (k : ℕ) → k < l .words → lenOf (codeOf l g) k ≡ wordLength (getD g k [])
+  unfolding codeOf
+  len-at k h = ap (λ (w : Word). w .len) (getD-table (λ i. wordOf l (firstField (getD g i []))) (l .words) k noWord h)
+
+  -- The symbols of all words, over the array and over the records.
+  total-given : length g ≤ l .words → sum (table (lenOf (codeOf l g)) (l .words)) ≡ sum (map wordLength g)
+  total-given most =
+      ap sum (table-same (lenOf (codeOf l g)) (λ k. wordLength (getD g k [])) (l .words) len-at)
+      ∙ sum-past (λ k. wordLength (getD g k [])) (length g) (l .words) most (λ k h i. ap wordLength (nothing k h))
+      ∙ ap sum (table-map wordLength g [])
+
+  -- The table of records and fields that no refusal holds of.
+  given : 1 ≤ length g → ((k p : ℕ) → isDigit (getD (firstField (getD g k [])) p 48) ≡ true) → refused3 l g ≡ false → refused4 l g ≡ false → refused5 l g ≡ false
+      → refused6 g ≡ false → refused7 g ≡ false → WellFormed l (codeOf l g)
+  unfolding codeOf
+  given some digits count words total widths entries =
+      let most : length g ≤ l .words = ltb-false (l .words) (length g) count in
+      record {
+        one = some;
+        most = most;
+        words = length-table (λ k. wordOf l (firstField (getD g k []))) (l .words);
+        rows = length-table (λ k. rowOf l (getD g k [])) (l .words);
+        word = λ k h. rw (getD-table (λ i. wordOf l (firstField (getD g i []))) (l .words) k noWord h) (word-fits words digits k);
+        row = λ x h. rw (getD-table (λ i. rowOf l (getD g i [])) (l .words) x noRow h) (row-fits widths entries x);
+        total = rw (total-given most) (ltb-false (l .total) (sum (map wordLength g)) total);
+      }
+
+-- Every table that an accepted sheet gives is well-formed.
+pub well : {l : Limits} {c : Code} → FromSheet l c → WellFormed l c
+unfolding grid
+well {l} {c} f =
+    let a = accepts l (f .sheet) c (f .gives) in
+    let some : 1 ≤ length (grid (f .sheet)) = rw (records-some (body (f .sheet))) (omega arith) in
+    rw (a .gives) at (given l (grid (f .sheet)) some (first-digits (clean-body (f .sheet) (a .bytes))) (a .records) (a .words) (a .symbols) (a .widths) (a .entries))

@@ -1,0 +1,11 @@
+pub mod Exactly
+pub mod WellFormed
+pub mod Cells
+pub mod Tested
+pub mod Accepts
+pub mod Digits
+pub mod Given
+pub mod Join
+pub mod Print
+pub mod Written
+pub mod Round

@@ -1,0 +1,74 @@
+-- The tests of words, rows and lengths, joined as the code joins them, say exactly whether the parts fit and the table is well-formed.
+use mathlib.Core.Path.{_≡_}
+use mathlib.Core.Bool.{Bool, _&&_}
+use Prim.Native.Nat.{ℕ, _+_, _-_, _≤_, _<_}
+use native.Mathlib.Omega.{arith}
+use lib.Dec.{ltb, leb, eqb}
+use lib.ListN.{length}
+use Rattle.code.specs.declared.Word.{Word}
+use Rattle.code.specs.declared.Row.{Row}
+use Rattle.code.specs.declared.Code.{Code}
+use Rattle.code.specs.declared.Limits.{Limits}
+use Rattle.code.specs.Definitions.Lists.{table, sum}
+use Rattle.code.specs.Laws.Lists.{sum-more}
+use Rattle.table.specs.Exactly.{Exactly, exactly-iff, exactly-and, exactly-lt, exactly-le, exactly-eq}
+use Rattle.table.specs.WellFormed.{lenOf, CellsFit, WordFits, RowFits, RecordAt, WellFormed}
+
+module _ (l : Limits) (n : ℕ) where
+  module _ (k : ℕ) (w : Word) (array : length (w .symbols) ≡ l .symbols) {t : Bool} (symbols : Exactly t (CellsFit 16 (w .len) (w .symbols))) where
+    pub word-used : k < n → Exactly (leb 1 (w .len) && leb (w .len) (l .symbols) && t) (WordFits l n k w)
+    word-used h =
+        exactly-iff (
+          (λ p. record { array = array; some = λ i. p .0 .0; short = p .0 .1; unused = λ i. absurd (omega arith); symbols = p .1 }),
+          (λ f. ((f .some h, f .short), f .symbols)),
+        )
+        (exactly-and (exactly-and (exactly-le 1 (w .len)) (exactly-le (w .len) (l .symbols))) symbols)
+
+    pub word-unused : n ≤ k → Exactly (eqb (w .len) 0 && t) (WordFits l n k w)
+    word-unused h =
+        exactly-iff (
+          (λ p. record { array = array; some = λ i. absurd (omega arith); short = omega (arith, p .0); unused = λ i. p .0; symbols = p .1 }),
+          (λ f. (f .unused h, f .symbols)),
+        )
+        (exactly-and (exactly-eq (w .len) 0) symbols)
+
+  module _ (x : ℕ) (r : Row) (array : length (r .entries) ≡ l .words) {t : Bool} where
+    pub row-used : x < n → Exactly t (CellsFit 2 n (r .entries)) → Exactly t (RowFits l n x r)
+    row-used h = exactly-iff ((λ p. record { array = array; entries = p; unused = λ i. absurd (omega arith) }), (λ f. f .entries))
+
+    pub row-unused : n ≤ x → Exactly t (CellsFit 2 0 (r .entries)) → Exactly t (RowFits l n x r)
+    row-unused h =
+        exactly-iff (
+          (λ p. record {
+            array = array;
+            entries = record { below = p .below; zero = λ y i. p .zero y (omega arith) };
+            unused = λ i y. p .zero y (omega arith);
+          }),
+          (λ f. record { below = f .entries .below; zero = λ y i. f .unused h y }),
+        )
+
+-- The room that the symbols of the first k words leave of one more than the limit: none is left where they are over the limit.
+module _ (c : Code) (limit k room : ℕ) (left : room ≡ limit + 1 - sum (table (lenOf c) k)) where
+  pub room-more : room - lenOf c k ≡ limit + 1 - sum (table (lenOf c) (k + 1))
+  room-more = omega (arith, sum-more (lenOf c) k)
+
+  pub room-left : Exactly (ltb 0 room) (sum (table (lenOf c) k) ≤ limit)
+  room-left = exactly-iff ((λ h. omega arith), (λ h. omega arith)) (exactly-lt 0 room)
+
+module _ (l : Limits) (c : Code) (words : length (c .words) ≡ l .words) (rows : length (c .rows) ≡ l .words) {t u : Bool} where
+  pub table-tested : Exactly t ((k : ℕ) → k < l .words → RecordAt l c k) → Exactly u (sum (table (lenOf c) (l .words)) ≤ l .total)
+      → Exactly (leb 1 (c .count) && leb (c .count) (l .words) && (t && u)) (WellFormed l c)
+  table-tested records total =
+      exactly-iff (
+        (λ p. record {
+          one = p .0 .0;
+          most = p .0 .1;
+          words = words;
+          rows = rows;
+          word = λ k h. p .1 .0 k h .0;
+          row = λ x h. p .1 .0 x h .1;
+          total = p .1 .1;
+        }),
+        (λ w. ((w .one, w .most), ((λ k h. (w .word k h, w .row k h)), w .total))),
+      )
+      (exactly-and (exactly-and (exactly-le 1 (c .count)) (exactly-le (c .count) (l .words))) (exactly-and records total))
