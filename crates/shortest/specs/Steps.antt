@@ -1,6 +1,5 @@
 -- One slot of a member, way by way: it leads to nothing new, to a goal, or to a node that is then queued.
-use mathlib.Core.Path.{_≡_, refl, sym, ap, _∙_}
-use mathlib.Core.Bool.{true, false}
+use mathlib.Core.Path.{_≡_, sym, ap, _∙_}
 use mathlib.Core.List.{List}
 use Prim.Native.Nat.{ℕ, _+_, _*_, _≤_, _<_}
 use native.Mathlib.Omega.{arith}
@@ -20,7 +19,7 @@ use Rattle.shortest.specs.Links.{Link}
 use Rattle.shortest.specs.Pairs.{toward, pair-slots}
 use Rattle.shortest.specs.Push.{entry-old}
 use Rattle.shortest.specs.Room.{tail-before-goal}
-use Rattle.shortest.specs.Turns.{pass, met-marked, push}
+use Rattle.shortest.specs.Slots.{pass, met-marked, push}
 
 -- What each arrival says.
 module _ {f ms : List ℕ} {v t : ℕ} where
