@@ -87,5 +87,8 @@ second-written {K} {n} first old {new} {v} w h e = record {
     front = rw (← append-snoc (take (w .at) first) (w .other) (drop (w .at + 1) old)) (take-at copied (drop (w .at + 1) old) (w .at + 1) long)
 
     back : drop (w .at + 1 + v .count) (take (w .at) first ++ (w .other ∷ drop (w .at + 1) old)) ≡ drop (w .at + 1 + v .count) old
-    back = rw (← append-snoc (take (w .at) first) (w .other) (drop (w .at + 1) old), ← drop-drop (v .count) (w .at + 1) (copied ++ drop (w .at + 1) old),
-        drop-at copied (drop (w .at + 1) old) (w .at + 1) long) (drop-drop (v .count) (w .at + 1) old)
+    back = rw (
+      ← append-snoc (take (w .at) first) (w .other) (drop (w .at + 1) old),
+      ← drop-drop (v .count) (w .at + 1) (copied ++ drop (w .at + 1) old),
+      drop-at copied (drop (w .at + 1) old) (w .at + 1) long,
+    ) (drop-drop (v .count) (w .at + 1) old)

@@ -1,9 +1,9 @@
 -- What reading by flat lists promises, for every table that they hold, and how marks and walks give it.
 use mathlib.Core.Path.{_≡_}
 use mathlib.Core.List.{List}
-use Prim.Native.Nat.{ℕ, _<_}
+use Prim.Native.Nat.{ℕ}
 use native.Mathlib.Omega.{arith}
-use lib.ListN.{length, replicate}
+use lib.ListN.{length}
 use Rattle.code.specs.declared.Reading.{Reading}
 use Rattle.code.specs.declared.Reading.the-variants.{One, Two, Refused}
 use Rattle.code.specs.declared.Refusal.the-variants.{NoReading as Unreadable}

@@ -7,11 +7,12 @@ use native.Mathlib.Omega.{arith}
 use lib.Dec.{eqb}
 use lib.ListN.{length, take, drop, getD}
 use Rattle.code.specs.Definitions.Tables.{Table, size, word}
+use Rattle.code.specs.Definitions.Sheets.{limits}
 use Rattle.reading.specs.Text.{Text}
 
 -- The stride of the matrix and of the bits of a position: the limit on words.
 abbrev pub stride : ℕ
-stride = 32
+stride = limits .words
 
 -- the length of word x
 abbrev pub lengthAt : List ℕ → ℕ → ℕ

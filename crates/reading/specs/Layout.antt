@@ -1,14 +1,13 @@
 -- A code laid out word by word and row by row: what was laid before stays, and at the end the lists hold the code's table.
-use mathlib.Core.Path.{_≡_, refl, sym, _∙_, ap}
-use mathlib.Core.List.{List, [], _∷_, _++_, append-assoc, map}
+use mathlib.Core.Path.{_≡_, sym, _∙_, ap}
+use mathlib.Core.List.{List, _++_, append-assoc}
 use Prim.Native.Nat.{ℕ, zero, suc, _+_, _-_, _*_, _≤_, _<_}
-use native.Mathlib.Decide.{decLt, ℕ-discrete}
 use native.Mathlib.Nat.{add-zero, add-suc}
 use native.Mathlib.Numerals.{add-one}
 use native.Mathlib.Omega.{arith}
 use borrow.Author.Count.{below-none, below-more}
 use lib.Dec.{eqb}
-use lib.ListN.{length, take, drop, getD, set, length-append, length-drop, take-append-drop, length-map, List·getD-map, List·getD-append}
+use lib.ListN.{length, take, drop, getD, set, length-drop, take-append-drop, length-map, List·getD-map, List·getD-append}
 use lib.Seq.{paste, length-take-le, take-append-le, drop-append-le, take-at, drop-at, getD-take, getD-drop, getD-set-same, getD-set-other}
 use Rattle.code.specs.declared.Code.{Code}
 use Rattle.code.specs.Definitions.Lists.{table, sum}
@@ -116,7 +115,7 @@ module _ {c : Code} {x : ℕ} {symbols base : List ℕ} (laid : LaidWords c x sy
   words-more = record {
     total = base-next ∙ rw (sum-more (lenOf c) x, ← laid .total, here);
     rises = below-more _ x (λ k h. rw (base-before k (omega arith), base-before (k + 1) (omega arith)) (laid .rises k h))
-      (rw (base-next, base-before x (omega arith)) (omega (arith, next .some)));
+        (rw (base-next, base-before x (omega arith)) (omega (arith, next .some)));
     below = below-more _ x (λ k h. rw (base-next, base-before (k + 1) (omega arith)) (omega (arith, laid .below k h))) (omega arith);
     words = below-more _ x (λ k h. word-before k h ∙ laid .words k h) word-next;
   }

@@ -2,12 +2,12 @@
 use mathlib.Core.Path.{_≡_}
 use mathlib.Core.Bool.{true, and-eq-true-iff}
 use mathlib.Core.List.{List, _∷_}
-use Prim.Native.Nat.{ℕ, _+_, _≤_, _<_}
+use Prim.Native.Nat.{ℕ, _+_, _<_}
 use native.Mathlib.Omega.{arith}
 use lib.ListN.{length}
 use Rattle.bits.specs.Bits.{bitAt}
-use Rattle.reading.specs.Text.{Text, Bounded, From, done, word, Can, Begins}
-use Rattle.reading.specs.Flat.{stride, lengthAt, mayAfter, Flat, text}
+use Rattle.reading.specs.Text.{Text, Bounded, From, done, word, Begins}
+use Rattle.reading.specs.Flat.{lengthAt, mayAfter, Flat, text}
 use Rattle.reading.specs.Readings.{flat-bounded}
 use Rattle.reading.specs.Marks.{bitOfWord, Marked}
 use Rattle.reading.specs.Choices.{usable, Tells}

@@ -1,19 +1,18 @@
 -- The state of a walk that writes the words it takes: what holds after each step, and at the end.
-use mathlib.Core.Path.{_≡_, refl, sym, _∙_}
+use mathlib.Core.Path.{_≡_, refl, sym}
 use mathlib.Core.List.{List, [], _∷_, _++_, append-assoc, append-nil}
-use Prim.Native.Nat.{ℕ, suc, _+_, _-_, _^_, _≤_, _<_}
+use Prim.Native.Nat.{ℕ, suc, _+_, _^_, _≤_, _<_}
 use native.Mathlib.Decide.{decLt}
-use native.Mathlib.Numerals.{add-one}
-use native.Mathlib.Nat.{add-assoc, add-zero}
+use native.Mathlib.Nat.{add-zero}
 use native.Mathlib.Omega.{arith}
 use borrow.Author.Tests.{lt-ltb, le-ltb}
 use lib.Dec.{ltb}
 use lib.ListN.{length, take, drop, getD, set, length-append, take-append-drop}
-use lib.Seq.{length-take-le, drop-cons, set-at, append-snoc}
+use lib.Seq.{length-take-le, drop-cons, set-at}
 use Rattle.code.specs.Definitions.Lists.{if_then_else_}
 use Rattle.reading.specs.declared.walks.Walk.{Walk}
 use Rattle.reading.specs.Firsts.{Least, Only, FirstPair, only-least}
-use Rattle.reading.specs.Text.{Text, Bounded, From, Can, Begins, Lowest, Highest, Next, only-end}
+use Rattle.reading.specs.Text.{Text, Bounded, From, Can, Begins, Lowest, only-end}
 use Rattle.reading.specs.Walks.{Walked, Branch, walked-none, branch-none, walked-on, branch-kept, branch-new}
 use Rattle.reading.specs.Flat.{lengthAt, Shaped}
 use Rattle.reading.specs.Choices.{Sought, Tells, sought-some, sought-lowest, sought-next, sought-highest}
@@ -158,7 +157,7 @@ module _ {base follow work : List ℕ} {n end : ℕ} (walkable : Walkable base f
 
     walking-new : z < n
         → Walking (shown base follow work n end) n p₀ y₀ k old (set new (k + w .count) x)
-            (record { count = w .count + 1; pos = w .pos + lengthAt base x; last = x; at = w .count; start = w .pos; other = z })
+        (record { count = w .count + 1; pos = w .pos + lengthAt base x; last = x; at = w .count; start = w .pos; other = z })
     walking-new q = record {
       words = h .words ++ (x ∷ []);
       size = size;
@@ -174,7 +173,7 @@ module _ {base follow work : List ℕ} {n end : ℕ} (walkable : Walkable base f
 
     walking-kept : n ≤ z
         → Walking (shown base follow work n end) n p₀ y₀ k old (set new (k + w .count) x)
-            (record { count = w .count + 1; pos = w .pos + lengthAt base x; last = x; at = w .at; start = w .start; other = w .other })
+        (record { count = w .count + 1; pos = w .pos + lengthAt base x; last = x; at = w .at; start = w .start; other = w .other })
     walking-kept q = record {
       words = h .words ++ (x ∷ []);
       size = size;

@@ -2,8 +2,6 @@
 
 use crate::copies::copy_at;
 use code::Code;
-
-ghost use mathlib.Core.Path.{_≡_};
 ghost use Prim.Native.Nat.{_*_, _≤_, _<_};
 ghost use lib.ListN.{length};
 ghost use Rattle.code.specs.Definitions.Tables.{tableOf};
@@ -22,8 +20,8 @@ fn lay_words(code: Code, symbols: &mut [u8], base: &mut [usize])
     let mut x: usize = 0;
     while x < code.count {
         let w = code.words[x];
-        let letters = w.symbols;
-        copy_at(symbols, at, &letters, w.len);
+        let array = w.symbols;
+        copy_at(symbols, at, &array, w.len);
         at += w.len;
         x += 1;
         base[x] = at;

@@ -1,21 +1,23 @@
 // Reading a message: whether no, one or several permitted sequences of words have it, and the first two of them.
 
 mod copies;
-mod layout;
+pub mod layout;
 mod marks;
 mod walks;
 
-use code::{Code, Message, Reading, Refusal, Word};
-
-ghost use mathlib.Core.Path.{_≡_};
+use code::Code;
+use code::Message;
+use code::Reading;
+use code::Refusal;
+use code::Word;
 ghost use Prim.Native.Nat.{_^_, _≤_, _<_};
 ghost use lib.ListN.{length};
-ghost use Rattle.reading.specs.Marking.{Ready};
-ghost use Rattle.reading.specs.Core.{ReadsFlat};
 ghost use Rattle.code.specs.Definitions.Sheets.{limits};
 ghost use Rattle.code.specs.Definitions.Operations.{HasHigh, ReadsMessage};
 ghost use Rattle.table.specs.Exactly.{Exactly};
 ghost use Rattle.table.specs.WellFormed.{WellFormed};
+ghost use Rattle.reading.specs.Marking.{Ready};
+ghost use Rattle.reading.specs.Core.{ReadsFlat};
 ghost use Rattle.reading.specs.Public.{Short, FindsAll};
 
 // Reads a message by a code that is laid out flat: the symbols of all words, where each of the `n` words begins, and the follow matrix.
@@ -58,7 +60,16 @@ pub fn find_readings(
     let mut base = [0usize; Code::WORDS + 1];
     let mut follow = [0u8; Code::WORDS * Code::WORDS];
     layout::lay(code, &mut symbols, &mut base, &mut follow);
-    read_core(&symbols, &base, &follow, code.count, message, first, second, work)
+    read_core(
+        &symbols,
+        &base,
+        &follow,
+        code.count,
+        message,
+        first,
+        second,
+        work,
+    )
 }
 
 // Whether some symbol of the message is above 15.

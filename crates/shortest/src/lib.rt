@@ -1,9 +1,9 @@
 // The shortest message of a walk from a first pair of a code to a pair of two ends, the earliest in symbol order among equals.
 //
 // A breadth-first search in groups. The queue holds the pairs met, each once, behind the source of all walks; every entry knows where the
-// group of its predecessor begins. A group is a run of entries with the same predecessors' group and the same symbol: the pairs that are
-// met by one message. Group after group, symbol after symbol, the search queues the pairs that come next, so messages ascend along the
-// queue, and the first pair of two ends that comes next has the least. The message is then read off the entries, back to front.
+// group of its predecessor begins. A group is a run of entries with the same such group and the same symbol: pairs that are met by one
+// message. Group after group, symbol after symbol, the search queues the pairs that come next, so messages ascend along the queue, and the
+// first pair of two ends that comes next has the least. The message is then read off the entries, back to front.
 
 use code::Word;
 use places::Layout;
@@ -28,7 +28,7 @@ pub enum Search {
     Nothing,
 }
 
-// A group of the queue: places `start` to `end` - 1.
+// A group of the queue: entries `start` to `end` - 1.
 struct Group {
     start: usize,
     end: usize,
@@ -41,19 +41,19 @@ enum Arrival {
     Goal,
 }
 
-// After a part of a group: a goal comes next by a symbol, or the queue's new end.
+// After a part of a group: a goal comes next by a symbol; or how many entries the queue has.
 enum Progress {
     Goal(usize),
     Tail(usize),
 }
 
-// After a group: a goal comes next by a symbol, or where the next group starts and the queue's new end.
+// After a group: a goal comes next by a symbol; or where the next group starts, and how many entries the queue has.
 enum Expansion {
     Goal(usize),
     Next(usize, usize),
 }
 
-// After the whole search: a goal comes next after the group that starts at a place, by a symbol, or there is none.
+// After the whole search: a goal comes next after the group that starts at an entry, by a symbol; or there is none.
 enum Exploration {
     Goal(usize, usize),
     Exhausted,
@@ -67,7 +67,7 @@ fn node(pair: Pair) -> usize
     (pair.low << 7) + pair.high
 }
 
-// A queue entry.
+// The queue entry of a pair whose predecessor's group begins at `from` - 1.
 fn entry(from: usize, pair: Pair) -> u64
     requires { ⌜ (from ≤ 16384) × (pair .low ≤ 128) × (pair .high < 128) ⌝ }
     ensures { λ r. ⌜ r ≡ entryOf from (pair .low * 128 + pair .high) ⌝ }
@@ -189,7 +189,7 @@ fn look(places: &[u8], marks: &[u16], pair: Pair, symbol: usize) -> Arrival
     Arrival::Fresh
 }
 
-// Deals with the slot of a member: a pair that was not met before is marked and queued.
+// Deals with one slot of a member: a pair that was not met before is marked and queued.
 fn step(
     places: &[u8],
     marks: &mut [u16],
@@ -306,7 +306,7 @@ fn expand_group(
     Progress::Tail(tail)
 }
 
-// The end of the group that starts at a place.
+// The end of the group that starts at an entry.
 fn group_end(places: &[u8], queue: &[u64], start: usize, tail: usize) -> usize
     requires { ⌜ Laid (now places) × Ascending (pairGraph (now places)) (now queue) tail × (start < tail) × (tail ≤ length (now queue)) ⌝ }
     ensures { λ r. ⌜ IsGroup (pairGraph (now (places .entry))) (now (queue .entry)) tail start r ⌝ }
@@ -322,7 +322,7 @@ fn group_end(places: &[u8], queue: &[u64], start: usize, tail: usize) -> usize
     end
 }
 
-// Deals with the group that starts at a place.
+// Deals with the group that starts at an entry.
 fn advance(
     places: &[u8],
     marks: &mut [u16],
@@ -383,7 +383,7 @@ fn seed(queue: &mut [u64])
     queue[0] = entry(0, source);
 }
 
-// How many steps lead from a place to the source.
+// How many steps along `from` lead from an entry to the source.
 fn depth(queue: &[u64], start: usize) -> usize
     requires { ⌜ HasDepth (now queue) start × (start < length (now queue)) × (start < 16384) ⌝ }
     ensures { λ r. ⌜ Depth (now (queue .entry)) start r × (r ≤ start) ⌝ }
@@ -432,7 +432,7 @@ fn write(places: &[u8], queue: &[u64], message: &mut [u8], start: usize, symbol:
 }
 
 // The length of the shortest message of a walk from a first pair to a pair of two ends, the earliest in symbol order among equals; the
-// message stands at the front of its buffer. The marks are clear at first. What the queue then holds is of no use to the caller.
+// message stands at the front of its buffer. The marks must be clear. What the marks and the queue hold at the end is of no use to the caller.
 pub fn shortest(places: &[u8], marks: &mut [u16], queue: &mut [u64], message: &mut [u8]) -> Search
     requires { ⌜ Laid (now places)
         × Numbered (now places)

@@ -15,39 +15,69 @@ abbrev μ-loop : tie.MeasureT-loop
 μ-loop follow₀ code x₀ follow x = code .count - x
 
 loop-holds : tie.Need-loop-holds Inv-loop μ-loop
-loop-holds c = let a = c .before .args in (omega arith, refl, rows-none (a .t1) (a .follow .now))
+loop-holds c =
+    let a = c .before .args in
+    (omega arith, refl, rows-none (a .t1) (a .follow .now))
 
 mul-row : tie.Need-mul-row Inv-loop μ-loop
-mul-row c = let p = c .before .before .before .pre in omega (arith, p .0 .most)
+mul-row c =
+    let start = c .before .before .before in
+    let p = start .pre in
+    omega (arith, p .0 .most)
 
 element-copy-out-row : tie.Need-element-copy-out-row Inv-loop μ-loop
-element-copy-out-row c = let p = c .before .before .before .pre in omega (arith, p .0 .most)
+element-copy-out-row c =
+    let start = c .before .before .before in
+    let p = start .pre in
+    omega (arith, p .0 .most)
 
 mul-copy-at : tie.Need-mul-copy-at Inv-loop μ-loop
-mul-copy-at c = let p = c .before .before .before .before .before .before .pre in omega (arith, p .0 .most)
+mul-copy-at c =
+    let start = c .before .before .before .before .before .before in
+    let p = start .pre in
+    omega (arith, p .0 .most)
 
 slice-aggregate-copy-at : tie.Need-slice-aggregate-copy-at Inv-loop μ-loop
-slice-aggregate-copy-at c = let p = c .before .before .before .before .before .before .before .pre in let l = c .before .before .before .before .before .loop in let e = p .0 .row (l .x) (omega (arith, p .0 .most)) .array in search needs
+slice-aggregate-copy-at c =
+    let head = c .before .before .before .before .before in
+    let start = head .before .before in
+    let p = start .pre in
+    let l = head .loop in
+    let e = p .0 .row (l .x) (omega (arith, p .0 .most)) .array in
+    search needs
 
 copy-at-requires : tie.Need-copy-at-requires Inv-loop μ-loop
-copy-at-requires c κs = let p = c .before .before .before .before .before .before .before .pre in let l = c .before .before .before .before .before .loop in let e = p .0 .row (l .x) (omega (arith, p .0 .most)) .array in
+copy-at-requires c κs =
+    let head = c .before .before .before .before .before in
+    let start = head .before .before in
+    let p = start .pre in
+    let l = head .loop in
+    let e = p .0 .row (l .x) (omega (arith, p .0 .most)) .array in
     (omega (arith, p .0 .most), omega arith)
 
 add-x : tie.Need-add-x Inv-loop μ-loop
-add-x c = let p = c .before .before .before .before .before .before .before .before .before .before .pre in omega (arith, p .0 .most)
-
-loop-less : tie.Need-loop-less Inv-loop μ-loop
-loop-less c = omega arith
+add-x c =
+    let start = c .before .before .before .before .before .before .before .before .before .before in
+    let p = start .pre in
+    omega (arith, p .0 .most)
 
 loop-again : tie.Need-loop-again Inv-loop μ-loop
-loop-again c = let p = c .before .before .before .before .before .before .before .before .before .before .pre in let l = c .before .before .before .before .before .before .before .before .loop in
+loop-again c =
+    let head = c .before .before .before .before .before .before .before .before in
+    let start = head .before .before in
+    let p = start .pre in
+    let l = head .loop in
     (omega arith, omega arith, rw (c .before .before .copy-at .ensures) (rows-more (l .follow) (l .inv .2) (p .0 .row (l .x) (omega (arith, p .0 .most)) .array) (omega (arith, p .0 .most))))
 
 same-length : tie.Need-same-length Inv-loop μ-loop
 same-length c = c .before .loop .inv .1
 
 returns : tie.Need-returns Inv-loop μ-loop
-returns c = let l = c .before .loop in let e : l .x ≡ c .before .before .before .args .t1 .count = omega arith in rw e at (l .inv .2)
+returns c =
+    let start = c .before .before .before in
+    let l = c .before .loop in
+    let e : l .x ≡ start .args .t1 .count = omega arith in
+    rw e at (l .inv .2)
 
 pub lay-rows-spec : {M : Type 1} → statement M
 lay-rows-spec =
@@ -62,7 +92,7 @@ lay-rows-spec =
     slice-aggregate-copy-at
     copy-at-requires
     add-x
-    loop-less
+    (λ c. omega arith)
     loop-again
     same-length
     returns)

@@ -16,45 +16,89 @@ Inv-loop symbols₀ base₀ code at₀ x₀ symbols base at x = (x ≤ code .cou
 abbrev μ-loop : tie.MeasureT-loop
 μ-loop symbols₀ base₀ code at₀ x₀ symbols base at x = code .count - x
 
-slice-write-base : tie.Need-slice-write-base Inv-loop μ-loop
-slice-write-base c = omega arith
-
 loop-holds : tie.Need-loop-holds Inv-loop μ-loop
-loop-holds c = let a = c .before .before .args in let e = getD-set-same (a .base .now) 0 0 0 (omega arith) in (omega arith, refl, refl, sym e, words-none (a .t1) (a .symbols .now) e)
+loop-holds c =
+    let a = c .before .before .args in
+    let e = getD-set-same (a .base .now) 0 0 0 (omega arith) in
+    (omega arith, refl, refl, sym e, words-none (a .t1) (a .symbols .now) e)
 
 mul-w : tie.Need-mul-w Inv-loop μ-loop
-mul-w c = let p = c .before .before .before .before .pre in omega (arith, p .0 .most)
+mul-w c =
+    let start = c .before .before .before .before in
+    let p = start .pre in
+    omega (arith, p .0 .most)
 
 element-copy-out-w : tie.Need-element-copy-out-w Inv-loop μ-loop
-element-copy-out-w c = let p = c .before .before .before .before .pre in omega (arith, p .0 .most)
+element-copy-out-w c =
+    let start = c .before .before .before .before in
+    let p = start .pre in
+    omega (arith, p .0 .most)
 
 slice-aggregate-copy-at : tie.Need-slice-aggregate-copy-at Inv-loop μ-loop
-slice-aggregate-copy-at c = let p = c .before .before .before .before .before .before .before .before .pre in let l = c .before .before .before .before .before .loop in let e = p .0 .word (l .x) (omega (arith, p .0 .most)) .array in search needs
+slice-aggregate-copy-at c =
+    let head = c .before .before .before .before .before in
+    let start = head .before .before .before in
+    let p = start .pre in
+    let l = head .loop in
+    let e = p .0 .word (l .x) (omega (arith, p .0 .most)) .array in
+    search needs
 
 copy-at-requires : tie.Need-copy-at-requires Inv-loop μ-loop
-copy-at-requires c κs = let p = c .before .before .before .before .before .before .before .before .pre in let l = c .before .before .before .before .before .loop in let w = next-word (p .0) (c .before .before .before .before .loop-test .taken) in (omega (arith, w .total, l .inv .4 .total), w .long)
+copy-at-requires c κs =
+    let at-loop-test = c .before .before .before .before in
+    let head = at-loop-test .before in
+    let start = head .before .before .before in
+    let p = start .pre in
+    let l = head .loop in
+    let w = next-word (p .0) (at-loop-test .loop-test .taken) in
+    (omega (arith, w .total, l .inv .4 .total), w .long)
 
 add-at : tie.Need-add-at Inv-loop μ-loop
-add-at c = let p = c .before .before .before .before .before .before .before .before .before .before .before .before .pre in let l = c .before .before .before .before .before .before .before .before .before .loop in let w = next-word (p .0) (c .before .before .before .before .before .before .before .before .loop-test .taken) in omega (arith, w .total, l .inv .4 .total)
+add-at c =
+    let at-loop-test = c .before .before .before .before .before .before .before .before in
+    let head = at-loop-test .before in
+    let start = head .before .before .before in
+    let p = start .pre in
+    let l = head .loop in
+    let w = next-word (p .0) (at-loop-test .loop-test .taken) in
+    omega (arith, w .total, l .inv .4 .total)
 
 add-x : tie.Need-add-x Inv-loop μ-loop
-add-x c = let p = c .before .before .before .before .before .before .before .before .before .before .before .before .pre in omega (arith, p .0 .most)
+add-x c =
+    let start = c .before .before .before .before .before .before .before .before .before .before .before .before in
+    let p = start .pre in
+    omega (arith, p .0 .most)
 
 mul-base : tie.Need-mul-base Inv-loop μ-loop
-mul-base c = let p = c .before .before .before .before .before .before .before .before .before .before .before .before .pre in omega (arith, p .0 .most)
+mul-base c =
+    let start = c .before .before .before .before .before .before .before .before .before .before .before .before in
+    let p = start .pre in
+    omega (arith, p .0 .most)
 
 slice-write-base-2 : tie.Need-slice-write-base-2 Inv-loop μ-loop
-slice-write-base-2 c = let p = c .before .before .before .before .before .before .before .before .before .before .before .before .pre in let l = c .before .before .before .before .before .before .before .before .before .loop in let a = c .before .before .before .before .before .before .before .before .before .before .before .before .args in let e : length (l .base) ≡ length (a .base .now) = l .inv .2 ∙ simp length-set in omega (arith, p .0 .most)
-
-loop-less : tie.Need-loop-less Inv-loop μ-loop
-loop-less c = omega arith
+slice-write-base-2 c =
+    let head = c .before .before .before .before .before .before .before .before .before in
+    let start = head .before .before .before in
+    let p = start .pre in
+    let l = head .loop in
+    let a = start .args in
+    let e : length (l .base) ≡ length (a .base .now) = l .inv .2 ∙ simp length-set in
+    omega (arith, p .0 .most)
 
 loop-again : tie.Need-loop-again Inv-loop μ-loop
-loop-again c = let p = c .before .before .before .before .before .before .before .before .before .before .before .before .pre in let l = c .before .before .before .before .before .before .before .before .before .loop in let w = next-word (p .0) (c .before .before .before .before .before .before .before .before .loop-test .taken) in let a = c .before .before .before .before .before .before .before .before .before .before .before .before .args in let e : length (l .base) ≡ length (a .base .now) = l .inv .2 ∙ simp length-set in
+loop-again c =
+    let after-copy-at = c .before .before .before in
+    let at-loop-test = after-copy-at .before .before .before .before .before in
+    let head = at-loop-test .before in
+    let start = head .before .before .before in
+    let p = start .pre in
+    let l = head .loop in
+    let w = next-word (p .0) (at-loop-test .loop-test .taken) in
+    let a = start .args in
+    let e : length (l .base) ≡ length (a .base .now) = l .inv .2 ∙ simp length-set in
     let within : l .at + lenOf (a .t1) (l .x) ≤ length (l .symbols) = omega (arith, w .total, l .inv .4 .total) in
     let room : l .x + 1 < length (l .base) = omega (arith, p .0 .most) in
-    (omega arith, omega arith, simp length-set e, sym (getD-set-same (l .base) (l .x + 1) (l .at + lenOf (a .t1) (l .x)) 0 room),
-    rw (c .before .before .before .copy-at .ensures) (words-more (l .inv .4) w (l .at) (l .inv .3) within room))
+    (omega arith, omega arith, simp length-set e, sym (getD-set-same (l .base) (l .x + 1) (l .at + lenOf (a .t1) (l .x)) 0 room), rw (after-copy-at .copy-at .ensures) (words-more (l .inv .4) w (l .at) (l .inv .3) within room))
 
 same-length : tie.Need-same-length Inv-loop μ-loop
 same-length c = c .before .loop .inv .1
@@ -63,7 +107,11 @@ same-length-2 : tie.Need-same-length-2 Inv-loop μ-loop
 same-length-2 c = c .before .loop .inv .2 ∙ simp length-set
 
 returns : tie.Need-returns Inv-loop μ-loop
-returns c = let l = c .before .loop in let e : l .x ≡ c .before .before .before .before .args .t1 .count = omega arith in rw e at (l .inv .4)
+returns c =
+    let start = c .before .before .before .before in
+    let l = c .before .loop in
+    let e : l .x ≡ start .args .t1 .count = omega arith in
+    rw e at (l .inv .4)
 
 pub lay-words-spec : {M : Type 1} → statement M
 lay-words-spec =
@@ -71,7 +119,7 @@ lay-words-spec =
     (tie.spec
     Inv-loop
     μ-loop
-    slice-write-base
+    (λ c. omega arith)
     loop-holds
     mul-w
     element-copy-out-w
@@ -81,7 +129,7 @@ lay-words-spec =
     add-x
     mul-base
     slice-write-base-2
-    loop-less
+    (λ c. omega arith)
     loop-again
     same-length
     same-length-2
