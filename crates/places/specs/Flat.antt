@@ -1,6 +1,6 @@
 -- The places of a code, numbered from 0 along its words joined, as one flat list of bytes; and the graph of its unordered pairs.
 use mathlib.Core.Path.{_≡_}
-use mathlib.Core.Bool.{Bool, true, false, not, _&&_, _||_}
+use mathlib.Core.Bool.{Bool, _&&_, _||_}
 use mathlib.Core.List.{List}
 use Prim.Native.Nat.{ℕ, _+_, _*_, _/_, _%_, _≤_, _<_, min, max}
 use lib.Dec.{ltb, eqb}
@@ -36,9 +36,8 @@ module _ (f : List ℕ) where
   pub record Laid : Type 0 where
     pub long : length f ≡ 1441
     pub words : wordCount ≤ 32
-    pub owners : (p : ℕ) → ownerAt p < 32
-    pub firsts : (x : ℕ) → firstAt x < 128
-    pub inner : (p : ℕ) → p < 128 → endAt p ≡ false → p + 1 < 128
+    pub owners : (p : ℕ) → p < 128 → ownerAt p < 32
+    pub firsts : (x : ℕ) → x < 32 → firstAt x < 128
 
   -- Where slot j leads from place p: inside a word to the next place, from an end to the first place of word j if it may follow; 128 is nowhere.
   abbrev pub onward : ℕ → ℕ → ℕ

@@ -1,1 +1,12 @@
 pub mod Flat
+pub mod Onward
+pub mod Steps
+pub mod Nodes
+pub mod Roots
+pub mod Lays
+pub mod Bases
+pub mod Writes
+pub mod Words
+pub mod Layouts
+pub mod Whole
+pub mod Codes

@@ -1,31 +1,232 @@
 // The places of a code laid out flat, and the successors of a pair of places.
 
+use code::Code;
+use code::Row;
+use code::Word;
 ghost use mathlib.Core.Path.{_≡_};
-ghost use Prim.Native.Nat.{_+_, _*_, _≤_, _<_};
-ghost use Rattle.places.specs.Flat.{Laid, arcFrom, slotsOf};
+ghost use Prim.Native.Nat.{_+_, _≤_, _<_};
+ghost use lib.ListN.{length, getD};
+ghost use Rattle.places.specs.Flat.{Laid, symbolAt, ownerAt, endAt, firstAt, mayFollow, wordCount, onward, pairNode, slotsOf, arcFrom};
+ghost use Rattle.places.specs.Steps.{Arrives, startNode};
+ghost use Rattle.places.specs.Writes.{Written, elements, always};
+ghost use Rattle.places.specs.Words.{Room, WordLaid};
+ghost use Rattle.places.specs.Whole.{LaidOut};
+ghost use Rattle.code.specs.Definitions.Sheets.{limits};
+ghost use Rattle.code.specs.Definitions.Tables.{tableOf};
+ghost use Rattle.table.specs.WellFormed.{WellFormed};
 
-// Where each part of the flat list starts: for each place its symbol, its word, and 1 if it is the end of its word; for each word its
-// first place; the follow matrix row by row; the number of words.
+// Where each part of the flat list starts. The symbols of the places come first.
 pub struct Layout {}
 
 impl Layout {
-    pub const PLACES: usize = 128;
+    // How many places there are at most. As the number of a place it means none.
+    pub const PLACES: usize = Code::SYMBOLS;
+    // For each place its word.
+    pub const OWNER: usize = Layout::PLACES;
+    // For each place 1 if it is the end of its word, else 0.
+    pub const END: usize = Layout::OWNER + Layout::PLACES;
+    // For each word its first place.
+    pub const FIRST: usize = Layout::END + Layout::PLACES;
+    // The follow matrix, row by row.
+    pub const FOLLOW: usize = Layout::FIRST + Code::WORDS;
+    // The number of words.
+    pub const COUNT: usize = Layout::FOLLOW + Code::WORDS * Code::WORDS;
 
-    pub const OWNER: usize = 128;
-
-    pub const END: usize = 256;
-
-    pub const FIRST: usize = 384;
-
-    pub const FOLLOW: usize = 416;
-
-    pub const COUNT: usize = 1440;
-
-    pub const LENGTH: usize = 1441;
+    pub const LENGTH: usize = Layout::COUNT + 1;
 }
 
 // A pair of places, the lower first. With `low` at `Layout::PLACES` it is no pair.
 pub struct Pair {
     pub low: usize,
     pub high: usize,
+}
+
+// An entry of the flat list.
+fn entry(places: &[u8], at: usize) -> usize
+    requires { ⌜ at < length (now places) ⌝ }
+    ensures { λ r. ⌜ r ≡ getD (now (places .entry)) at 0 ⌝ }
+{
+    places[at] as usize
+}
+
+// The number of words.
+pub fn word_count(places: &[u8]) -> usize
+    requires { ⌜ Laid (now places) ⌝ }
+    ensures { λ r. ⌜ (r ≡ wordCount (now (places .entry))) × (r ≤ 32) ⌝ }
+{
+    entry(places, Layout::COUNT)
+}
+
+// The symbol of place `p`.
+pub fn symbol(places: &[u8], p: usize) -> usize
+    requires { ⌜ Laid (now places) × (p < 128) ⌝ }
+    ensures { λ r. ⌜ r ≡ symbolAt (now (places .entry)) p ⌝ }
+{
+    entry(places, p)
+}
+
+// The word of place `p`.
+fn owner(places: &[u8], p: usize) -> usize
+    requires { ⌜ Laid (now places) × (p < 128) ⌝ }
+    ensures { λ r. ⌜ (r ≡ ownerAt (now (places .entry)) p) × (r < 32) ⌝ }
+{
+    entry(places, Layout::OWNER + p)
+}
+
+// Whether place `p` is the end of its word.
+pub fn is_end(places: &[u8], p: usize) -> bool
+    requires { ⌜ Laid (now places) × (p < 128) ⌝ }
+    ensures { λ r. ⌜ r ≡ endAt (now (places .entry)) p ⌝ }
+{
+    places[Layout::END + p] == 1
+}
+
+// The first place of word `x`.
+fn first_place(places: &[u8], x: usize) -> usize
+    requires { ⌜ Laid (now places) × (x < 32) ⌝ }
+    ensures { λ r. ⌜ (r ≡ firstAt (now (places .entry)) x) × (r < 128) ⌝ }
+{
+    entry(places, Layout::FIRST + x)
+}
+
+// Whether word `x` may come immediately after word `y`.
+fn may_follow(places: &[u8], x: usize, y: usize) -> bool
+    requires { ⌜ Laid (now places) × (x < 32) × (y < 32) ⌝ }
+    ensures { λ r. ⌜ r ≡ mayFollow (now (places .entry)) x y ⌝ }
+{
+    places[Layout::FOLLOW + (x * Code::WORDS + y)] == 1
+}
+
+// How many slots of the pair `p`, `q` may lead on.
+pub fn slots(places: &[u8], p: usize, q: usize) -> usize
+    requires { ⌜ Laid (now places) × (p < 128) × (q < 128) ⌝ }
+    ensures { λ r. ⌜ r ≡ slotsOf (now (places .entry)) p q ⌝ }
+{
+    let last = is_end(places, q);
+    if is_end(places, p) {
+        if last { 0 } else { word_count(places) }
+    } else {
+        if last { word_count(places) } else { 1 }
+    }
+}
+
+// The place where `slot` leads from place `p`, or `Layout::PLACES`.
+fn onward(places: &[u8], p: usize, slot: usize) -> usize
+    requires { ⌜ Laid (now places) × (p < 128) ⌝ }
+    ensures { λ r. ⌜ (r ≡ onward (now (places .entry)) p slot) × (r ≤ 128) ⌝ }
+{
+    if is_end(places, p) {
+        if slot < word_count(places) {
+            if may_follow(places, slot, owner(places, p)) {
+                return first_place(places, slot);
+            }
+        }
+        return Layout::PLACES;
+    }
+    p + 1
+}
+
+// The unordered pair of two places, if they are places with the same symbol.
+fn pair_of(places: &[u8], p: usize, q: usize) -> Pair
+    requires { ⌜ Laid (now places) × (p ≤ 128) × (q ≤ 128) ⌝ }
+    ensures { λ r. ⌜ Arrives (pairNode (now (places .entry)) p q) r ⌝ }
+{
+    if p < Layout::PLACES && q < Layout::PLACES && places[p] == places[q] {
+        if p <= q {
+            Pair { low: p, high: q }
+        } else {
+            Pair { low: q, high: p }
+        }
+    } else {
+        Pair {
+            low: Layout::PLACES,
+            high: 0,
+        }
+    }
+}
+
+// The pair where `slot` leads from the pair `p`, `q`.
+pub fn successor(places: &[u8], p: usize, q: usize, slot: usize) -> Pair
+    requires { ⌜ Laid (now places) × (p < 128) × (q < 128) ⌝ }
+    ensures { λ r. ⌜ Arrives (arcFrom (now (places .entry)) p q slot) r ⌝ }
+{
+    if slot < slots(places, p, q) {
+        pair_of(places, onward(places, p, slot), onward(places, q, slot))
+    } else {
+        Pair {
+            low: Layout::PLACES,
+            high: 0,
+        }
+    }
+}
+
+// The pair of the first places of words `x` and `y`, if they have the same first symbol.
+pub fn first_pair(places: &[u8], x: usize, y: usize) -> Pair
+    requires { ⌜ Laid (now places) × (x < 32) × (y < 32) ⌝ }
+    ensures { λ r. ⌜ Arrives (startNode (now (places .entry)) x y) r ⌝ }
+{
+    pair_of(places, first_place(places, x), first_place(places, y))
+}
+
+// Writes the first `n` entries of `from` into the list from `at` on.
+fn put(places: &mut [u8], at: usize, from: &[u8], n: usize)
+    requires { ⌜ (at + n ≤ length (now places)) × (n ≤ length (now from)) ⌝ }
+    ensures { λ _. ⌜ Written (now (places .entry)) at n (elements (now (from .entry))) (now (places .exit)) ⌝ }
+{
+    let mut k: usize = 0;
+    while k < n {
+        places[at + k] = from[k];
+        k += 1;
+    }
+}
+
+// Writes `n` entries `v` into the list from `at` on.
+fn fill(places: &mut [u8], at: usize, n: usize, v: u8)
+    requires { ⌜ at + n ≤ length (now places) ⌝ }
+    ensures { λ _. ⌜ Written (now (places .entry)) at n (always v) (now (places .exit)) ⌝ }
+{
+    let mut k: usize = 0;
+    while k < n {
+        places[at + k] = v;
+        k += 1;
+    }
+}
+
+// Lays out word `x`, whose places start at number `at`, and its row of the follow matrix.
+fn lay_word(places: &mut [u8], at: usize, x: usize, word: Word, row: Row)
+    requires { ⌜ Room at x word row (now places) ⌝ }
+    ensures { λ _. ⌜ WordLaid at x word row (now (places .entry)) (now (places .exit)) ⌝ }
+{
+    let len = word.len;
+    let symbols = word.symbols;
+    let entries = row.entries;
+    put(places, at, &symbols, len);
+    fill(places, Layout::OWNER + at, len, x as u8);
+    places[Layout::END + (at + len - 1)] = 1;
+    places[Layout::FIRST + x] = at as u8;
+    put(
+        places,
+        Layout::FOLLOW + x * Code::WORDS,
+        &entries,
+        Code::WORDS,
+    );
+}
+
+// The flat list of a code.
+pub fn lay_out(code: Code) -> [u8; Layout::LENGTH]
+    requires { ⌜ WellFormed limits code ⌝ }
+    ensures { λ r. ⌜ LaidOut (tableOf code) r ⌝ }
+{
+    let mut places = [0u8; Layout::LENGTH];
+    places[Layout::COUNT] = code.count as u8;
+    let mut at: usize = 0;
+    let mut x: usize = 0;
+    while x < code.count {
+        let word = code.words[x];
+        let row = code.rows[x];
+        lay_word(&mut places, at, x, word, row);
+        at += word.len;
+        x += 1;
+    }
+    places
 }

@@ -6,13 +6,31 @@ use code::Code;
 use code::Row;
 use code::Word;
 ghost use mathlib.Core.Path.{_≡_};
+ghost use mathlib.Core.List.{[]};
 ghost use Prim.Native.Nat.{_+_, _*_, _≤_};
 ghost use lib.ListN.{length, drop};
-ghost use Rattle.code.specs.Definitions.Sheets.{limits, wordOf, codeOf, blankCode};
+ghost use Rattle.code.specs.Definitions.Sheets.{limits, wordOf, rowOf, codeOf, blankCode};
 ghost use Rattle.code.specs.Definitions.Lists.{table};
 ghost use Rattle.code.specs.Laws.Clean.{Clean, recordFields};
 ghost use Rattle.sheet.specs.Fields.{leading};
 ghost use Rattle.sheet.specs.Building.{Fits, RowAt, rowByte};
+
+fn blank_word() -> Word
+    ensures { λ r. ⌜ r ≡ wordOf limits [] ⌝ }
+{
+    Word {
+        symbols: [0; Word::SYMBOLS],
+        len: 0,
+    }
+}
+
+fn blank_row() -> Row
+    ensures { λ r. ⌜ r ≡ rowOf limits [] ⌝ }
+{
+    Row {
+        entries: [0; Code::WORDS],
+    }
+}
 
 // The word whose digits stand from `at` up to e.
 fn read_word(s: &[u8], at: usize, e: usize) -> Word
@@ -20,10 +38,8 @@ fn read_word(s: &[u8], at: usize, e: usize) -> Word
     ensures { λ r. ⌜ r ≡ wordOf limits (leading (drop at (now (s .entry)))) ⌝ }
 {
     let n = e - at;
-    let mut word = Word {
-        symbols: [0; Word::SYMBOLS],
-        len: n,
-    };
+    let mut word = blank_word();
+    word.len = n;
     let mut k: usize = 0;
     while k < n {
         word.symbols[k] = value_of(s[at + k]);
@@ -37,9 +53,7 @@ fn read_row(s: &[u8], at: usize, n: usize) -> Row
     requires { ⌜ RowAt (now s) at n ⌝ }
     ensures { λ r. ⌜ r ≡ record { entries = table (rowByte (now (s .entry)) at n) 32 } ⌝ }
 {
-    let mut row = Row {
-        entries: [0; Code::WORDS],
-    };
+    let mut row = blank_row();
     let mut y: usize = 0;
     while y < n {
         row.entries[y] = value_of(s[at + 2 * y]);
@@ -52,15 +66,8 @@ fn read_row(s: &[u8], at: usize, n: usize) -> Row
 pub fn blank_code() -> Code
     ensures { λ r. ⌜ r ≡ blankCode limits ⌝ }
 {
-    let word = Word {
-        symbols: [0; Word::SYMBOLS],
-        len: 0,
-    };
-    let row = Row {
-        entries: [0; Code::WORDS],
-    };
-    let words = [word; Code::WORDS];
-    let rows = [row; Code::WORDS];
+    let words = [blank_word(); Code::WORDS];
+    let rows = [blank_row(); Code::WORDS];
     Code {
         words: words,
         rows: rows,

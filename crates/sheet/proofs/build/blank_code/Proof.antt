@@ -1,13 +1,19 @@
 -- An array with one value throughout is the table of that value.
 use Rattle.code.specs.Definitions.Lists.{table}
 use Rattle.code.specs.Definitions.Sheets.{blankCode, codeOf}
-use mathlib.Core.Path.{refl}
+use borrow.Author.Needs.{needs}
 use Rattle.sheet.proofs.build.blank_code.Statement.{statement}
 use Rattle.sheet.proofs.build.blank_code.Tie as tie
 
+blank-word-requires : tie.Need-blank-word-requires
+blank-word-requires c κs = search needs
+
+blank-row-requires : tie.Need-blank-row-requires
+blank-row-requires c κs = search needs
+
 returns : tie.Need-returns
 unfolding blankCode codeOf table
-returns c = refl
+returns c = rw (c .before .blank-word .ensures, c .blank-row .ensures)
 
 pub blank-code-spec : {M : Type 1} → statement M
-blank-code-spec = tie.close (tie.spec returns)
+blank-code-spec = tie.close (tie.spec blank-word-requires blank-row-requires returns)

@@ -1,0 +1,80 @@
+-- A case of 01: a code's words and rows, and what is expected of it. A check that computes is shown once, for all cases, to give what the definitions say.
+use mathlib.Core.Path.{_≡_}
+use mathlib.Core.Bool.{Bool, true, _&&_, and-eq-true-iff}
+use mathlib.Core.List.{List, []}
+use Prim.Native.Nat.{ℕ}
+use lib.Dec.{leb, eqb}
+use lib.ListN.{length, getD}
+use borrow.Author.Tests.{leb-true}
+use Rattle.code.specs.Definitions.Tables.{Table, size, word}
+use Rattle.code.specs.Definitions.Readings.{OnlyReading, Ambiguous, Decipherable}
+use Rattle.code.specs.Definitions.Delays.{Delay, WithoutBound}
+use Rattle.code.specs.Laws.Sequences.{NonEmpty}
+use Rattle.theory.specs.Bounded.{everyBelow, every-below}
+use Rattle.cases.specs.Delays.{delayIs, isWithoutBound, delay-means, without-bound-means}
+use Rattle.cases.specs.Messages.{leastIs, ambiguous-means}
+use Rattle.cases.specs.Enumeration.{readings}
+use Rattle.cases.specs.Readings.{onlyOf, firstTwoOf, only-means, first-two-means}
+
+-- A verdict of each kind, or the only reading of a message.
+pub data Expected : Type 0 where
+  delay : (N : ℕ) → Expected
+  withoutBound : Expected
+  ambiguous : (m s u : List ℕ) → Expected
+  onlyReading : (m s : List ℕ) → Expected
+
+pub record Case : Type 0 where
+  pub words : List (List ℕ)
+  pub rows : List (List ℕ)
+  pub expected : Expected
+
+-- 01: "The entry in row X, column Y is 1 if X may come immediately after Y, else 0"
+abbrev pub caseTable : Case → Table
+caseTable c = record { words = c .words; follow = λ x y. eqb (getD (getD (c .rows) x []) y 0) 1 }
+
+-- What is expected, by the definitions. 01: "decipherable with its delay; decipherable without bound"
+abbrev pub Means : Table → Expected → Type 0
+Means t (delay N) = Decipherable t × Delay t N
+Means t withoutBound = Decipherable t × WithoutBound t
+Means t (ambiguous m s u) = Ambiguous t m s u
+Means t (onlyReading m s) = OnlyReading t m s
+
+-- What is expected of the case's code holds.
+abbrev pub Holds : Case → Type 0
+Holds c = Means (caseTable c) (c .expected)
+
+unfoldable pub isNonEmpty : Table → Bool
+unfolding everyBelow
+isNonEmpty t = everyBelow (λ x. leb 1 (length (word t x))) (size t)
+
+unfoldable pub isMeant : Table → Expected → Bool
+unfolding delayIs isWithoutBound leastIs readings onlyOf firstTwoOf
+isMeant t (delay N) = delayIs t N
+isMeant t withoutBound = isWithoutBound t
+isMeant t (ambiguous m s u) = leastIs t m && firstTwoOf (readings t m) s u
+isMeant t (onlyReading m s) = onlyOf (readings t m) s
+
+-- The words are not empty, and the layers of pairs and the lists of readings show what is expected.
+unfoldable pub check : Case → Bool
+unfolding isNonEmpty isMeant
+check c = isNonEmpty (caseTable c) && isMeant (caseTable c) (c .expected)
+
+non-empty : (t : Table) → isNonEmpty t ≡ true → NonEmpty t
+unfolding isNonEmpty
+non-empty t e x h = leb-true 1 (length (word t x)) (every-below (λ z. leb 1 (length (word t z))) (size t) e x h)
+
+meant : (t : Table) → NonEmpty t → (x : Expected) → isMeant t x ≡ true → Means t x
+unfolding isMeant
+meant t ne (delay N) e = delay-means t ne N e
+meant t ne withoutBound e = without-bound-means t ne e
+meant t ne (ambiguous m s u) e =
+    let a = and-eq-true-iff (leastIs t m) (firstTwoOf (readings t m) s u) .0 e in
+    ambiguous-means t ne (a .0) (first-two-means ne m s u (a .1))
+meant t ne (onlyReading m s) e = only-means ne m s e
+
+-- A case that passes the check holds.
+pub sound : (c : Case) → check c ≡ true → Holds c
+unfolding check
+sound c e =
+    let a = and-eq-true-iff (isNonEmpty (caseTable c)) (isMeant (caseTable c) (c .expected)) .0 e in
+    meant (caseTable c) (non-empty (caseTable c) (a .0)) (c .expected) (a .1)

@@ -1,0 +1,60 @@
+-- What `longest` asks and what its answer means; how its loop begins and ends.
+use mathlib.Core.Path.{_≡_, refl}
+use mathlib.Core.List.{List}
+use Prim.Native.Nat.{ℕ, zero, suc, _≤_}
+use native.Mathlib.Omega.{arith}
+use lib.ListN.{length, getD, replicate, length-replicate}
+use Rattle.places.specs.Flat.{Laid, wordCount, pairGraph}
+use Rattle.places.specs.Roots.{Numbered}
+use Rattle.graph.specs.Graph.{Graph, Longest}
+use Rattle.delay.specs.declared.Extent.{Extent}
+use Rattle.delay.specs.declared.Extent.the-variants.{Finite}
+use Rattle.delay.specs.Answer.{Answer, finite}
+use Rattle.delay.specs.State.{Idle}
+use Rattle.delay.specs.Roots.{most-none, most-all}
+use Rattle.delay.specs.Visit.{Counting}
+
+-- The places of a code, clear marks, and room for the stack.
+pub record Given (f xs sk : List ℕ) : Type 0 where
+  pub laid : Laid f
+  pub numbered : Numbered f
+  pub clear : xs ≡ replicate 16384 0
+  pub wide : 16384 ≤ length sk
+
+-- The longest walk over the pairs reads r symbols, at most one for each unordered pair.
+pub record LongestWalk (f : List ℕ) (r : ℕ) : Type 0 where
+  pub longest : Longest (pairGraph f) r
+  pub low : r ≤ 8256
+
+-- A finite extent is that of the longest walk; without one there are walks of every length.
+abbrev pub ExtentOf : List ℕ → Extent → Type 0
+ExtentOf f = Answer f (LongestWalk f)
+
+clear-mark : (n v : ℕ) → _≡_ {A = ℕ} (getD (replicate n 0) v 0) 0
+clear-mark zero v = refl
+clear-mark (suc n) zero = refl
+clear-mark (suc n) (suc v) = clear-mark n v
+
+-- Clear marks are right: no node is met.
+clear-idle : (g : Graph) (xs : List ℕ) → xs ≡ replicate (g .nodes) 0 → Idle g xs
+clear-idle g xs e =
+    rw e
+    record {
+      marks = record {
+        size = length-replicate (g .nodes) 0;
+        reached = λ v h. absurd (omega (arith, clear-mark (g .nodes) v));
+        passed = λ v i h l. absurd (omega (arith, clear-mark (g .nodes) v));
+        height = λ v h. absurd (omega (arith, clear-mark (g .nodes) v));
+        low = λ v h. absurd (omega (arith, clear-mark (g .nodes) v));
+      };
+      none = λ v o. omega (arith, o .0, clear-mark (g .nodes) v);
+    }
+
+-- No first pair is counted yet.
+pub counting-none : {f xs sk : List ℕ} → Given f xs sk → Counting f xs 0 1 0
+counting-none {f} {xs} g =
+    record { laid = g .laid; numbered = g .numbered; idle = clear-idle (pairGraph f) xs (g .clear); most = most-none; low = omega arith }
+
+-- All are.
+pub counting-all : {f xs : List ℕ} {x y b n : ℕ} → Counting f xs x y b → n ≡ wordCount f → n ≤ x → ExtentOf f (Finite b)
+counting-all c e l = finite (record { longest = most-all (c .laid) (c .numbered) (c .most) (omega arith); low = c .low })

@@ -1,0 +1,12 @@
+pub mod Marks
+pub mod Stack
+pub mod State
+pub mod Bound
+pub mod Pairs
+pub mod Answer
+pub mod Height
+pub mod Advance
+pub mod Explore
+pub mod Roots
+pub mod Visit
+pub mod Extents

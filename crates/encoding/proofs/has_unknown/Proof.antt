@@ -1,0 +1,57 @@
+use Prim.Native.Nat.{_≤_, _-_}
+use native.Mathlib.Omega.{arith}
+use lib.ListN.{length}
+use borrow.Author.Count.{below-none, below-more}
+use borrow.Author.Needs.{needs}
+use Rattle.encoding.specs.Passes.{WordsBelow, unknown-here, unknown-nowhere}
+use Rattle.encoding.proofs.has_unknown.Statement.{statement}
+use Rattle.encoding.proofs.has_unknown.Tie as tie
+
+-- The loop keeps that the entries passed are words of the code.
+
+abbrev Inv-loop : tie.InvT-loop
+Inv-loop code words i₀ i = (i ≤ length words) × WordsBelow code words i
+
+abbrev μ-loop : tie.MeasureT-loop
+μ-loop code words i₀ i = length words - i
+
+loop-holds : tie.Need-loop-holds Inv-loop μ-loop
+loop-holds c = (omega arith, below-none _)
+
+shared-slice-read-if1 : tie.Need-shared-slice-read-if1 Inv-loop μ-loop
+shared-slice-read-if1 c = search needs
+
+cast-if1 : tie.Need-cast-if1 Inv-loop μ-loop
+cast-if1 c = omega (arith, c .shared-slice-known .given (c .before .before .loop .i))
+
+returns : tie.Need-returns Inv-loop μ-loop
+returns c =
+    let start = c .before .before .before .before .before in
+    unknown-here (start .pre) (start .args .words .now) (c .before .before .before .before .loop .i) (omega arith) (omega arith)
+
+add-i : tie.Need-add-i Inv-loop μ-loop
+add-i c = search needs
+
+loop-less : tie.Need-loop-less Inv-loop μ-loop
+loop-less c = search needs
+
+loop-again : tie.Need-loop-again Inv-loop μ-loop
+loop-again c = (search needs, below-more _ _ (c .before .before .before .before .loop .inv .1) (c .if1 .left))
+
+returns-2 : tie.Need-returns-2 Inv-loop μ-loop
+returns-2 c = search unknown-nowhere
+
+pub has-unknown-spec : {M : Type 1} → statement M
+has-unknown-spec =
+    tie.close
+    (tie.spec
+    Inv-loop
+    μ-loop
+    loop-holds
+    shared-slice-read-if1
+    cast-if1
+    returns
+    add-i
+    loop-less
+    loop-again
+    returns-2)

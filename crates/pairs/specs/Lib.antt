@@ -1,0 +1,4 @@
+pub mod Numbers
+pub mod WalkPairs
+pub mod PairWalks
+pub mod Searches

@@ -1,0 +1,55 @@
+-- `depth` counts the steps to the source. The invariant: `count` steps lead from `start` to `index`. The measure is `index`, since `from` leads back.
+use borrow.Author.Needs.{needs}
+use Rattle.shortest.specs.Depth.{Counted, count-begin, count-some, count-falls, count-next, count-most, count-end}
+use native.Mathlib.Omega.{arith}
+use Rattle.shortest.proofs.depth.Statement.{statement}
+use Rattle.shortest.proofs.depth.Tie as tie
+
+abbrev Inv-loop : tie.InvT-loop
+Inv-loop queue start index₀ count₀ index count = Counted queue start index count
+
+abbrev μ-loop : tie.MeasureT-loop
+μ-loop queue start index₀ count₀ index count = index
+
+loop-holds : tie.Need-loop-holds Inv-loop μ-loop
+loop-holds c = search count-begin
+
+mul-from-of : tie.Need-mul-from-of Inv-loop μ-loop
+mul-from-of c = search needs
+
+shared-slice-read-from-of : tie.Need-shared-slice-read-from-of Inv-loop μ-loop
+shared-slice-read-from-of c = search needs
+
+from-of-requires : tie.Need-from-of-requires Inv-loop μ-loop
+from-of-requires c κs = search needs
+
+sub-index : tie.Need-sub-index Inv-loop μ-loop
+sub-index c = search count-some
+
+add-count : tie.Need-add-count Inv-loop μ-loop
+add-count c = let h = count-most (c .before .before .before .loop .inv) in omega arith
+
+loop-less : tie.Need-loop-less Inv-loop μ-loop
+loop-less c = search count-falls
+
+loop-again : tie.Need-loop-again Inv-loop μ-loop
+loop-again c = search count-next
+
+returns : tie.Need-returns Inv-loop μ-loop
+returns c = (search count-end, search count-most)
+
+pub depth-spec : {M : Type 1} → statement M
+depth-spec =
+    tie.close
+    (tie.spec
+    Inv-loop
+    μ-loop
+    loop-holds
+    mul-from-of
+    shared-slice-read-from-of
+    from-of-requires
+    sub-index
+    add-count
+    loop-less
+    loop-again
+    returns)

@@ -1,0 +1,20 @@
+-- `two_ends` is the goal of the graph of pairs, by whether the lower place is an end.
+use borrow.Author.Needs.{needs}
+use Rattle.shortest.specs.Leaves.{ends-both, ends-inside}
+use Rattle.shortest.proofs.two_ends.Statement.{statement}
+use Rattle.shortest.proofs.two_ends.Tie as tie
+
+is-end-requires : tie.Need-is-end-requires
+is-end-requires c κs = search needs
+
+is-end-requires-2 : tie.Need-is-end-requires-2
+is-end-requires-2 c κs = search needs
+
+returns : tie.Need-returns
+returns c = search ends-both
+
+returns-2 : tie.Need-returns-2
+returns-2 c = search ends-inside
+
+pub two-ends-spec : {M : Type 1} → statement M
+two-ends-spec = tie.close (tie.spec is-end-requires is-end-requires-2 returns returns-2)

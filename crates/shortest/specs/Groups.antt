@@ -1,0 +1,69 @@
+-- Group after group: where a group ends, what a group leaves, and what the whole search answers.
+use mathlib.Core.Path.{_≡_, sym, _∙_}
+use mathlib.Core.List.{List}
+use Prim.Native.Nat.{ℕ, _+_, _-_, _≤_, _<_}
+use native.Mathlib.Omega.{arith}
+use lib.ListN.{getD}
+use Rattle.places.specs.Flat.{Laid, pairGraph}
+use Rattle.places.specs.Roots.{Numbered}
+use Rattle.shortest.specs.declared.Progress.{Progress}
+use Rattle.shortest.specs.declared.Progress.the-variants.{Goal, Tail}
+use Rattle.shortest.specs.declared.Expansion.{Expansion}
+use Rattle.shortest.specs.declared.Expansion.the-variants.{Goal as Ended, Next}
+use Rattle.shortest.specs.declared.Exploration.the-variants.{Goal as Reached, Exhausted}
+use Rattle.shortest.specs.Contracts.{keyOf, Stands, GoalNext, Progressed, Expanded, ended, moved, Explored, reached, exhausted}
+use Rattle.shortest.specs.Frontier.{no-goal}
+use Rattle.shortest.specs.Queue.{Ascending, IsGroup, Between}
+use Rattle.shortest.specs.Room.{tail-most}
+use Rattle.shortest.specs.Parts.{was-goal, was-tail}
+use Rattle.shortest.specs.Runs.{Run, run-more, run-end}
+use Rattle.shortest.specs.Slots.{slots-begin}
+use Rattle.shortest.specs.Turns.{enter, next-group}
+
+module _ {f q : List ℕ} {tail a b : ℕ} (laid : Laid f) (s : Ascending (pairGraph f) q tail) (r : Run (pairGraph f) q tail a b) where
+  pub group-more : {x y : ℕ} → x ≡ keyOf f (getD q b 0) → y ≡ keyOf f (getD q a 0) → x ≡ y → b < tail → Run (pairGraph f) q tail a (b + 1)
+  group-more d e z l = run-more r l (sym d ∙ z ∙ e)
+
+  pub group-differs : {x y : ℕ} → x ≡ keyOf f (getD q b 0) → y ≡ keyOf f (getD q a 0) → (x ≡ y → ⊥) → IsGroup (pairGraph f) q tail a b
+  group-differs d e n = run-end r s (λ l z. n (d ∙ z ∙ sym e))
+
+  pub group-last : tail ≤ b → IsGroup (pairGraph f) q tail a b
+  group-last h = run-end r s (λ l. absurd (omega arith))
+
+-- A group that was found is entered.
+pub entered : {f ms q : List ℕ} {tail a b : ℕ} → Laid f → Between (pairGraph f) ms q tail a → IsGroup (pairGraph f) q tail a b → Stands f ms q tail a b 0 a 0
+entered laid s p = slots-begin (enter s p)
+
+pub expand-goal : {f ms q : List ℕ} {a b t k c x : ℕ} {r : Progress} → Progressed f ms q a b t k c r → r ≡ Goal x → Expanded f ms q a (Ended x)
+expand-goal h e = ended (was-goal h e)
+
+pub expand-next : {f ms q : List ℕ} {a b k c e : ℕ} {r : Progress} → Progressed f ms q a b 16 k c r → r ≡ Tail e → Expanded f ms q a (Next b e)
+expand-next h d = let s = was-tail h d in moved (s .stage .group .some) (next-group (s .stage) (omega arith))
+
+-- What each expansion says.
+module _ {f ms q : List ℕ} {a : ℕ} where
+  was-ended : {x : ℕ} {r : Expansion} → Expanded f ms q a r → r ≡ Ended x → GoalNext f q a x
+  was-ended {x} (ended {x = y} h) e = let z : y ≡ x = cc in rw z at h
+  was-ended (moved l h) e = let z : _≡_ {A = ℕ} 0 1 = cc in absurd (omega arith)
+
+  pub was-moved : {b e : ℕ} {r : Expansion} → Expanded f ms q a r → r ≡ Next b e → Between (pairGraph f) ms q e b
+  was-moved (ended h) d = let z : _≡_ {A = ℕ} 0 1 = cc in absurd (omega arith)
+  was-moved {b} {e} (moved {b = x} {e = y} l h) d = let z : x ≡ b = cc in let w : y ≡ e = cc in rw (z, w) at h
+
+  pub was-on : {b e : ℕ} {r : Expansion} → Expanded f ms q a r → r ≡ Next b e → a < b
+  was-on (ended h) d = let z : _≡_ {A = ℕ} 0 1 = cc in absurd (omega arith)
+  was-on {b} (moved {b = x} l h) d = let z : x ≡ b = cc in rw z at l
+
+pub explore-goal : {f ms q : List ℕ} {a x : ℕ} {r : Expansion} → Expanded f ms q a r → r ≡ Ended x → Explored f q (Reached a x)
+explore-goal h e = reached (was-ended h e)
+
+-- With no group left, there is no goal.
+pub explore-end : {f ms q : List ℕ} {tail a : ℕ} → Laid f → Between (pairGraph f) ms q tail a → tail ≤ a → Explored f q Exhausted
+explore-end laid s h = exhausted (no-goal s h)
+
+-- The next group starts later, so few are left.
+pub explore-less : {f ms q : List ℕ} {tail a b e : ℕ} {r : Expansion} → Expanded f ms q a r → r ≡ Next b e → a < tail → tail ≤ 8257 → 8257 - b < 8257 - a
+explore-less h d l k = let o = was-on h d in omega arith
+
+pub moved-few : {f ms q : List ℕ} {a b e : ℕ} {r : Expansion} → Laid f → Numbered f → Expanded f ms q a r → r ≡ Next b e → e ≤ 8257
+moved-few laid n h d = tail-most laid n (was-moved h d .queue)

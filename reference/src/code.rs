@@ -1,0 +1,70 @@
+//! Words, bans and the numbered refusals.
+
+/// A code: its words in sheet order, and which word may come after which.
+#[derive(Clone, PartialEq, Eq, Debug)]
+pub struct Code {
+    /// The symbols of each word, each 0 to 15.
+    pub words: Vec<Vec<u8>>,
+    /// `rows[x][y]`: word `x` may come immediately after word `y`.
+    pub rows: Vec<Vec<bool>>,
+}
+
+impl Code {
+    pub const MAX_WORDS: usize = 32;
+    pub const MAX_WORD_SYMBOLS: usize = 16;
+    pub const MAX_SYMBOLS: usize = 128;
+    pub const MAX_SHEET_BYTES: usize = 4_096;
+    pub const MAX_MESSAGE_SYMBOLS: usize = 16_384;
+
+    /// A code from words in hexadecimal digits and rows of the digits 0 and 1.
+    /// For hand-written codes; the text is trusted.
+    pub fn of(words: &[&str], rows: &[&str]) -> Code {
+        let digit = |c: char| c.to_digit(16).expect("a hexadecimal digit") as u8;
+        Code {
+            words: words.iter().map(|w| w.chars().map(digit).collect()).collect(),
+            rows: rows.iter().map(|r| r.chars().map(|c| c == '1').collect()).collect(),
+        }
+    }
+
+    /// A code without bans.
+    pub fn free(words: &[&str]) -> Code {
+        let row = "1".repeat(words.len());
+        Code::of(words, &vec![row.as_str(); words.len()])
+    }
+
+    /// May word `x` come immediately after word `y`?
+    pub fn may_follow(&self, x: usize, y: usize) -> bool {
+        self.rows[x][y]
+    }
+
+    /// All symbols of all words, counted.
+    pub fn symbols(&self) -> usize {
+        self.words.iter().map(Vec::len).sum()
+    }
+}
+
+/// The refusals, by their numbers.
+#[derive(Clone, Copy, PartialEq, Eq, PartialOrd, Ord, Debug)]
+#[repr(u8)]
+pub enum Refusal {
+    SheetSize = 1,
+    SheetByte = 2,
+    TooManyRecords = 3,
+    WordLength = 4,
+    TooManySymbols = 5,
+    FieldCount = 6,
+    RowEntry = 7,
+    NotFromSheet = 8,
+    WordNumber = 9,
+    PairNotPermitted = 10,
+    MessageTooLong = 11,
+    MessageSymbol = 12,
+    BufferTooShort = 13,
+    NoReading = 14,
+}
+
+impl Refusal {
+    pub fn number(self) -> u8 {
+        self as u8
+    }
+}

@@ -1,0 +1,117 @@
+//! Holds a program against the reference on generated inputs: every answer,
+//! and every lent buffer afterwards.
+
+use crate::code::{Code, Refusal};
+use crate::generate;
+use crate::operations::{Operations, ReadingLengths, Reference, VerdictLengths};
+use crate::random::Random;
+use crate::table::Table;
+use std::fmt::Debug;
+
+/// How often each answer was met, so that a run shows what it covered.
+#[derive(Clone, Default, PartialEq, Eq, Debug)]
+pub struct Met {
+    pub accepted: usize,
+    pub encoded: usize,
+    pub one_reading: usize,
+    pub two_readings: usize,
+    pub ambiguous: usize,
+    pub delayed: usize,
+    pub unbounded: usize,
+    /// By refusal number.
+    pub refused: [usize; 15],
+}
+
+/// Compares on `rounds` rounds of generated inputs: what was met, or the first difference in words.
+pub fn compare(subject: &mut impl Operations, start: u64, rounds: usize) -> Result<Met, String> {
+    let mut random = Random(start);
+    let mut met = Met::default();
+    for round in 0..rounds {
+        one_round(subject, &mut random, &mut met)
+            .map_err(|difference| format!("start {start}, round {round}: {difference}"))?;
+    }
+    Ok(met)
+}
+
+fn one_round(subject: &mut impl Operations, random: &mut Random, met: &mut Met) -> Result<(), String> {
+    let sheet = if random.one_in(2) { generate::sheet(random) } else { generate::damaged_sheet(random) };
+    let (refusal, table) = Reference.take_in(&sheet);
+    same("sheet", &String::from_utf8_lossy(&sheet), &(refusal, table.clone()), &subject.take_in(&sheet))?;
+    count(met, refusal, |met| met.accepted += 1);
+    let code = table.code().unwrap_or_else(|| generate::code(random));
+    let table = if random.one_in(4) { generate::damaged_table(random, &code) } else { Table::of(&code) };
+    encoding(subject, random, met, &code, &table)?;
+    reading(subject, random, met, &code, &table)?;
+    verdict(subject, random, met, &table)
+}
+
+fn encoding(
+    subject: &mut impl Operations,
+    random: &mut Random,
+    met: &mut Met,
+    code: &Code,
+    table: &Table,
+) -> Result<(), String> {
+    let sequence = generate::sequence(random, code);
+    let needed = sequence.iter().filter_map(|&word| code.words.get(word as usize)).map(Vec::len).sum();
+    let mut expected = generate::buffer(random, needed);
+    let mut actual = expected.clone();
+    let answer = Reference.encode(table, &sequence, &mut expected);
+    let answered = subject.encode(table, &sequence, &mut actual);
+    same("encoding", &(table, &sequence), &(answer, expected), &(answered, actual))?;
+    count(met, answer.err(), |met| met.encoded += 1);
+    Ok(())
+}
+
+fn reading(
+    subject: &mut impl Operations,
+    random: &mut Random,
+    met: &mut Met,
+    code: &Code,
+    table: &Table,
+) -> Result<(), String> {
+    let message = generate::message(random, code);
+    let mut expected = generate::reading_buffers(random, &message);
+    let mut actual = expected.clone();
+    let answer = Reference.read(table, &message, &mut expected);
+    let answered = subject.read(table, &message, &mut actual);
+    same("reading", &(table, &message), &(answer, expected), &(answered, actual))?;
+    count(met, answer.err(), |met| match answer {
+        Ok(ReadingLengths::Two(..)) => met.two_readings += 1,
+        _ => met.one_reading += 1,
+    });
+    Ok(())
+}
+
+fn verdict(subject: &mut impl Operations, random: &mut Random, met: &mut Met, table: &Table) -> Result<(), String> {
+    let mut expected = generate::verdict_buffers(random);
+    let mut actual = expected.clone();
+    let answer = Reference.verdict(table, &mut expected);
+    let answered = subject.verdict(table, &mut actual);
+    same("verdict", table, &(answer, expected), &(answered, actual))?;
+    count(met, answer.err(), |met| match answer {
+        Ok(VerdictLengths::Ambiguous { .. }) => met.ambiguous += 1,
+        Ok(VerdictLengths::Delay(_)) => met.delayed += 1,
+        _ => met.unbounded += 1,
+    });
+    Ok(())
+}
+
+fn count(met: &mut Met, refusal: Option<Refusal>, answered: impl FnOnce(&mut Met)) {
+    match refusal {
+        Some(refusal) => met.refused[refusal.number() as usize] += 1,
+        None => answered(met),
+    }
+}
+
+fn same<T: PartialEq + Debug>(
+    operation: &str,
+    input: &(impl Debug + ?Sized),
+    expected: &T,
+    actual: &T,
+) -> Result<(), String> {
+    if expected == actual {
+        return Ok(());
+    }
+    Err(format!("{operation} of {input:?}\nexpected {expected:?}\nbut met {actual:?}"))
+}

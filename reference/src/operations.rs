@@ -1,0 +1,112 @@
+//! The operations with their lent buffers: refusals 8 to 14, and what each
+//! buffer holds afterwards.
+
+use crate::code::{Code, Refusal};
+use crate::read::{self, Readings};
+use crate::table::Table;
+use crate::verdict::{self, Verdict};
+
+/// Entries of a verdict's message buffer and of each of its reading buffers.
+pub const VERDICT_ENTRIES: usize = 8_256;
+/// Entries of a verdict's working buffer.
+pub const VERDICT_WORKING: usize = 16_384;
+
+/// Lengths of the only reading or of the first two, in words.
+#[derive(Clone, Copy, PartialEq, Eq, Debug)]
+pub enum ReadingLengths {
+    One(usize),
+    Two(usize, usize),
+}
+
+/// A verdict with the lengths of what stands in the buffers.
+#[derive(Clone, Copy, PartialEq, Eq, Debug)]
+pub enum VerdictLengths {
+    Ambiguous { message: usize, first: usize, second: usize },
+    Delay(usize),
+    Unbounded,
+}
+
+/// Buffers lent to a reading or a verdict. A reading leaves `message` alone.
+#[derive(Clone, PartialEq, Eq, Debug)]
+pub struct Buffers {
+    pub message: Vec<u8>,
+    pub first: Vec<u8>,
+    pub second: Vec<u8>,
+    pub working: Vec<u32>,
+}
+
+/// A program that offers the four operations. The reference is one; a linked
+/// library becomes another by wrapping its functions.
+pub trait Operations {
+    /// The table of a sheet, the blank one with a refusal.
+    fn take_in(&mut self, sheet: &[u8]) -> (Option<Refusal>, Table);
+    /// Writes the message of a sequence and gives its length.
+    fn encode(&mut self, table: &Table, sequence: &[u8], message: &mut [u8]) -> Result<usize, Refusal>;
+    /// Writes the readings of a message and gives their lengths.
+    fn read(&mut self, table: &Table, message: &[u8], buffers: &mut Buffers) -> Result<ReadingLengths, Refusal>;
+    /// Gives the verdict; an ambiguous one writes its message and readings.
+    fn verdict(&mut self, table: &Table, buffers: &mut Buffers) -> Result<VerdictLengths, Refusal>;
+}
+
+pub struct Reference;
+
+impl Operations for Reference {
+    fn take_in(&mut self, sheet: &[u8]) -> (Option<Refusal>, Table) {
+        match crate::sheet::take_in(sheet) {
+            Ok(code) => (None, Table::of(&code)),
+            Err(refusal) => (Some(refusal), Table::BLANK),
+        }
+    }
+
+    fn encode(&mut self, table: &Table, sequence: &[u8], message: &mut [u8]) -> Result<usize, Refusal> {
+        let code = table.code().ok_or(Refusal::NotFromSheet)?;
+        let joined = crate::encode::encode(&code, sequence)?;
+        if message.len() < joined.len() {
+            return Err(Refusal::BufferTooShort);
+        }
+        Ok(put(&joined, message))
+    }
+
+    fn read(&mut self, table: &Table, message: &[u8], buffers: &mut Buffers) -> Result<ReadingLengths, Refusal> {
+        let code = table.code().ok_or(Refusal::NotFromSheet)?;
+        let readings = read::read(&code, message);
+        let too_short = buffers.first.len() < message.len()
+            || buffers.second.len() < message.len()
+            || buffers.working.len() < message.len() + 1;
+        match readings {
+            Err(refusal) if refusal < Refusal::BufferTooShort => return Err(refusal),
+            _ if too_short => return Err(Refusal::BufferTooShort),
+            _ => buffers.working.fill(0),
+        }
+        Ok(match readings? {
+            Readings::One(only) => ReadingLengths::One(put(&only, &mut buffers.first)),
+            Readings::Two(first, second) => {
+                ReadingLengths::Two(put(&first, &mut buffers.first), put(&second, &mut buffers.second))
+            }
+        })
+    }
+
+    fn verdict(&mut self, table: &Table, buffers: &mut Buffers) -> Result<VerdictLengths, Refusal> {
+        let code: Code = table.code().ok_or(Refusal::NotFromSheet)?;
+        let entries = [&buffers.message, &buffers.first, &buffers.second];
+        if entries.iter().any(|buffer| buffer.len() < VERDICT_ENTRIES) || buffers.working.len() < VERDICT_WORKING {
+            return Err(Refusal::BufferTooShort);
+        }
+        buffers.working.fill(0);
+        Ok(match verdict::verdict(&code) {
+            Verdict::Delay(delay) => VerdictLengths::Delay(delay),
+            Verdict::Unbounded => VerdictLengths::Unbounded,
+            Verdict::Ambiguous { message, first, second } => VerdictLengths::Ambiguous {
+                message: put(&message, &mut buffers.message),
+                first: put(&first, &mut buffers.first),
+                second: put(&second, &mut buffers.second),
+            },
+        })
+    }
+}
+
+/// Writes a list at the start of a buffer and gives its length.
+fn put(list: &[u8], buffer: &mut [u8]) -> usize {
+    buffer[..list.len()].copy_from_slice(list);
+    list.len()
+}

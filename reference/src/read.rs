@@ -1,0 +1,98 @@
+//! The readings of a message: none, one, or the first two in word order.
+
+use crate::code::{Code, Refusal};
+
+#[derive(Clone, PartialEq, Eq, Debug)]
+pub enum Readings {
+    One(Vec<u8>),
+    Two(Vec<u8>, Vec<u8>),
+}
+
+/// The readings of a message, or refusal 11, 12 or 14, the lowest first.
+pub fn read(code: &Code, message: &[u8]) -> Result<Readings, Refusal> {
+    if message.len() > Code::MAX_MESSAGE_SYMBOLS {
+        return Err(Refusal::MessageTooLong);
+    }
+    if message.iter().any(|&symbol| symbol > 15) {
+        return Err(Refusal::MessageSymbol);
+    }
+    first_two(code, message).ok_or(Refusal::NoReading)
+}
+
+/// The first two readings in word order, for a message of any length.
+pub fn first_two(code: &Code, message: &[u8]) -> Option<Readings> {
+    let reader = Reader::new(code, message);
+    let first = reader.lowest_from(Vec::new(), 0)?;
+    Some(match reader.after(&first) {
+        None => Readings::One(first),
+        Some(second) => Readings::Two(first, second),
+    })
+}
+
+/// For each number of symbols read, which words may come next so that the
+/// whole message still has a reading. A set of words is a mask of bits.
+struct Reader<'a> {
+    code: &'a Code,
+    next: Vec<u32>,
+    followers: Vec<u32>,
+    length: usize,
+}
+
+impl<'a> Reader<'a> {
+    fn new(code: &'a Code, message: &[u8]) -> Reader<'a> {
+        let n = code.words.len();
+        let mask_of = |y: usize| (0..n).filter(|&x| code.may_follow(x, y)).fold(0, |mask, x| mask | 1 << x);
+        let followers: Vec<u32> = (0..n).map(mask_of).collect();
+        let mut next = vec![0u32; message.len()];
+        for at in (0..message.len()).rev() {
+            for (number, word) in code.words.iter().enumerate() {
+                if !message[at..].starts_with(word) {
+                    continue;
+                }
+                let end = at + word.len();
+                if end == message.len() || next[end] & followers[number] != 0 {
+                    next[at] |= 1 << number;
+                }
+            }
+        }
+        Reader { code, next, followers, length: message.len() }
+    }
+
+    /// The words that may come after this reading of the first `at` symbols.
+    fn choices(&self, reading: &[u8], at: usize) -> u32 {
+        let allowed = reading.last().map_or(u32::MAX, |&y| self.followers[y as usize]);
+        self.next[at] & allowed
+    }
+
+    /// The reading carried on from `at` with the lowest word each time.
+    fn lowest_from(&self, mut reading: Vec<u8>, mut at: usize) -> Option<Vec<u8>> {
+        while at < self.length {
+            let choices = self.choices(&reading, at);
+            if choices == 0 {
+                return None;
+            }
+            let word = choices.trailing_zeros() as usize;
+            reading.push(word as u8);
+            at += self.code.words[word].len();
+        }
+        Some(reading)
+    }
+
+    /// The reading next in word order: it leaves the given one as late as can
+    /// be, there takes the next higher word, and is lowest from there on.
+    fn after(&self, reading: &[u8]) -> Option<Vec<u8>> {
+        let mut at = self.length;
+        for step in (0..reading.len()).rev() {
+            let word = reading[step] as usize;
+            at -= self.code.words[word].len();
+            let higher = self.choices(&reading[..step], at) & (u32::MAX << word << 1);
+            if higher != 0 {
+                let word = higher.trailing_zeros() as usize;
+                let mut start = reading[..step].to_vec();
+                start.push(word as u8);
+                return self.lowest_from(start, at + self.code.words[word].len());
+            }
+        }
+        None
+    }
+}

@@ -1,0 +1,77 @@
+//! Taking in a code sheet: refusals 1 to 7, the lowest first.
+
+use crate::code::{Code, Refusal};
+
+/// The code a sheet describes, or the lowest refusal that fits the sheet.
+/// Each refusal is tested over the whole sheet before the next one.
+pub fn take_in(sheet: &[u8]) -> Result<Code, Refusal> {
+    if sheet.is_empty() || sheet.len() > Code::MAX_SHEET_BYTES {
+        return Err(Refusal::SheetSize);
+    }
+    if !bytes_fit(sheet) {
+        return Err(Refusal::SheetByte);
+    }
+    let records = records(sheet);
+    let n = records.len();
+    if n > Code::MAX_WORDS {
+        return Err(Refusal::TooManyRecords);
+    }
+    let word_fits = |word: &[u8]| (1..=Code::MAX_WORD_SYMBOLS).contains(&word.len());
+    if !records.iter().all(|record| word_fits(record[0])) {
+        return Err(Refusal::WordLength);
+    }
+    if records.iter().map(|record| record[0].len()).sum::<usize>() > Code::MAX_SYMBOLS {
+        return Err(Refusal::TooManySymbols);
+    }
+    if !records.iter().all(|record| record.len() == n + 1) {
+        return Err(Refusal::FieldCount);
+    }
+    let entry_fits = |entry: &&[u8]| **entry == *b"0" || **entry == *b"1";
+    if !records.iter().all(|record| record[1..].iter().all(entry_fits)) {
+        return Err(Refusal::RowEntry);
+    }
+    Ok(Code {
+        words: records.iter().map(|record| record[0].iter().map(|&b| symbol(b)).collect()).collect(),
+        rows: records.iter().map(|record| record[1..].iter().map(|entry| *entry == b"1").collect()).collect(),
+    })
+}
+
+/// Only digits, commas and line ends, and every CR and LF part of a CR LF?
+fn bytes_fit(sheet: &[u8]) -> bool {
+    (0..sheet.len()).all(|i| match sheet[i] {
+        b'0'..=b'9' | b'A'..=b'F' | b',' => true,
+        b'\r' => sheet.get(i + 1) == Some(&b'\n'),
+        b'\n' => i > 0 && sheet[i - 1] == b'\r',
+        _ => false,
+    })
+}
+
+/// The records as fields. CR LF parts records; one after the last is optional.
+fn records(sheet: &[u8]) -> Vec<Vec<&[u8]>> {
+    let body = sheet.strip_suffix(b"\r\n").unwrap_or(sheet);
+    body.split(|&b| b == b'\n')
+        .map(|line| line.strip_suffix(b"\r").unwrap_or(line))
+        .map(|line| line.split(|&b| b == b',').collect())
+        .collect()
+}
+
+/// The number a hexadecimal digit stands for.
+fn symbol(digit: u8) -> u8 {
+    match digit {
+        b'0'..=b'9' => digit - b'0',
+        _ => digit - b'A' + 10,
+    }
+}
+
+/// A sheet that gives this code, each record ended by CR LF.
+pub fn write(code: &Code) -> Vec<u8> {
+    let mut sheet = Vec::new();
+    for (word, row) in code.words.iter().zip(&code.rows) {
+        sheet.extend(word.iter().map(|&s| crate::print::digit(s)));
+        for &entry in row {
+            sheet.extend([b',', if entry { b'1' } else { b'0' }]);
+        }
+        sheet.extend(b"\r\n");
+    }
+    sheet
+}

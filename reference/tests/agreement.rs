@@ -1,0 +1,157 @@
+//! The pair procedure against the definitions, on every tiny code and on
+//! thousands of small random ones.
+
+use reference::brute::{by_prefixes, by_sequences, readings};
+use reference::code::{Code, Refusal};
+use reference::encode::{encode, joined, permitted};
+use reference::random::Random;
+use reference::read::{read, Readings};
+use reference::sheet::{take_in, write};
+use reference::verdict::{verdict, Verdict};
+
+/// Beginnings kept at once before a brute-force verdict is given up.
+const MOST: usize = 20_000;
+
+/// All lists of binary words with at most `symbols` symbols in all and exactly `count` words.
+fn word_lists(count: usize, symbols: usize) -> Vec<Vec<Vec<u8>>> {
+    if count == 0 {
+        return vec![Vec::new()];
+    }
+    let mut lists = Vec::new();
+    for length in 1..=symbols + 1 - count {
+        for bits in 0..1u32 << length {
+            let word: Vec<u8> = (0..length).map(|i| (bits >> i & 1) as u8).collect();
+            for rest in word_lists(count - 1, symbols - length) {
+                lists.push([vec![word.clone()], rest].concat());
+            }
+        }
+    }
+    lists
+}
+
+fn rows_of_bits(count: usize, bits: u32) -> Vec<Vec<bool>> {
+    (0..count).map(|x| (0..count).map(|y| bits >> (x * count + y) & 1 == 1).collect()).collect()
+}
+
+#[test]
+fn every_binary_code_of_three_words_and_four_symbols() {
+    let mut codes = 0;
+    for count in 1..=3 {
+        for words in word_lists(count, 4) {
+            for bits in 0..1u32 << (count * count) {
+                let code = Code { words: words.clone(), rows: rows_of_bits(count, bits) };
+                let answer = verdict(&code);
+                assert_eq!(answer, by_sequences(&code), "{code:?}");
+                assert_eq!(Some(&answer), by_prefixes(&code, MOST).as_ref(), "{code:?}");
+                codes += 1;
+            }
+        }
+    }
+    assert_eq!(codes, 30 * 2 + 68 * 16 + 56 * 512);
+}
+
+/// A random code with at most `symbols` symbols in all, over few different symbols.
+fn small_code(random: &mut Random, symbols: usize) -> Code {
+    let kinds = *random.pick(&[1, 2, 2, 2, 3]);
+    let mut words = Vec::new();
+    let mut left = random.between(symbols / 2, symbols);
+    while left > 0 {
+        let length = random.between(1, left.min(4));
+        words.push((0..length).map(|_| random.below(kinds) as u8).collect());
+        left -= length;
+    }
+    let bans = random.between(2, 6);
+    let rows = words.iter().map(|_: &Vec<u8>| words.iter().map(|_| !random.one_in(bans)).collect()).collect();
+    Code { words, rows }
+}
+
+#[test]
+fn random_codes_of_ten_symbols() {
+    let mut random = Random(1);
+    let (mut ambiguous, mut delayed, mut unbounded, mut given_up) = (0, 0, 0, 0);
+    for _ in 0..30_000 {
+        let code = small_code(&mut random, 10);
+        let answer = verdict(&code);
+        match by_prefixes(&code, MOST) {
+            None => given_up += 1,
+            Some(brute) => assert_eq!(answer, brute, "{code:?}"),
+        }
+        match answer {
+            Verdict::Ambiguous { .. } => ambiguous += 1,
+            Verdict::Delay(_) => delayed += 1,
+            Verdict::Unbounded => unbounded += 1,
+        }
+    }
+    println!("{ambiguous} ambiguous, {delayed} delayed, {unbounded} unbounded, {given_up} given up");
+    assert!(ambiguous > 1_000 && delayed > 1_000 && unbounded > 300 && given_up < 30);
+}
+
+#[test]
+fn random_codes_of_four_symbols_by_sequences() {
+    let mut random = Random(2);
+    for _ in 0..3_000 {
+        let code = small_code(&mut random, 4);
+        if code.words.len() < 4 {
+            assert_eq!(verdict(&code), by_sequences(&code), "{code:?}");
+        }
+    }
+}
+
+#[test]
+fn readings_are_all_readings() {
+    let mut random = Random(3);
+    let (mut none, mut one, mut several) = (0, 0, 0);
+    for _ in 0..5_000 {
+        let code = small_code(&mut random, 8);
+        let length = random.below(9);
+        let kinds = random.between(1, 2);
+        let message: Vec<u8> = (0..length).map(|_| random.below(kinds) as u8).collect();
+        let all = readings(&code, &message);
+        let expected = match &all[..] {
+            [] => Err(Refusal::NoReading),
+            [first] => Ok(Readings::One(first.clone())),
+            [first, second, ..] => Ok(Readings::Two(first.clone(), second.clone())),
+        };
+        assert_eq!(read(&code, &message), expected, "{code:?} {message:?}");
+        match all.len() {
+            0 => none += 1,
+            1 => one += 1,
+            _ => several += 1,
+        }
+    }
+    println!("{none} without reading, {one} with one, {several} with several");
+    assert!(none > 1_000 && one > 300 && several > 300);
+}
+
+#[test]
+fn what_is_encoded_is_read_again() {
+    let mut random = Random(4);
+    for _ in 0..5_000 {
+        let code = small_code(&mut random, 12);
+        let length = random.below(12);
+        let sequence: Vec<u8> = (0..length).map(|_| random.below(code.words.len()) as u8).collect();
+        if !permitted(&code, &sequence) {
+            assert_eq!(encode(&code, &sequence), Err(Refusal::PairNotPermitted));
+            continue;
+        }
+        let message = encode(&code, &sequence).unwrap();
+        assert_eq!(message, joined(&code, &sequence));
+        match read(&code, &message).unwrap() {
+            Readings::One(only) => assert_eq!(only, sequence),
+            Readings::Two(first, second) => {
+                assert!(first < second && first <= sequence);
+                assert!(sequence == first || second <= sequence);
+                assert_eq!(encode(&code, &second).as_ref(), Ok(&message));
+            }
+        }
+    }
+}
+
+#[test]
+fn a_written_sheet_gives_its_code() {
+    let mut random = Random(5);
+    for _ in 0..1_000 {
+        let code = small_code(&mut random, 30);
+        assert_eq!(take_in(&write(&code)).as_ref(), Ok(&code));
+    }
+}
