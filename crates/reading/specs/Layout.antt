@@ -7,7 +7,7 @@ use native.Mathlib.Numerals.{add-one}
 use native.Mathlib.Omega.{arith}
 use borrow.Author.Count.{below-none, below-more}
 use lib.Dec.{eqb}
-use lib.ListN.{length, take, drop, getD, set, length-drop, take-append-drop, length-map, List·getD-map, List·getD-append}
+use lib.ListN.{length, take, drop, getD, set, length-drop, take-append-drop, List·getD-append}
 use lib.Seq.{paste, length-take-le, take-append-le, drop-append-le, take-at, drop-at, getD-take, getD-drop, getD-set-same, getD-set-other}
 use Rattle.code.specs.declared.Code.{Code}
 use Rattle.code.specs.Definitions.Lists.{table, sum}
@@ -15,6 +15,7 @@ use Rattle.code.specs.Definitions.Tables.{symbolsOf, noWord, noRow, entryOf, ta
 use Rattle.code.specs.Definitions.Sheets.{limits}
 use Rattle.code.specs.Laws.Lists.{sum-more}
 use Rattle.table.specs.WellFormed.{lenOf, WellFormed}
+use Rattle.table.specs.Words.{size-count, word-symbols}
 use Rattle.reading.specs.Firsts.{by-order}
 use Rattle.reading.specs.Flat.{stride, lengthAt, wordAt, Lays}
 
@@ -147,7 +148,7 @@ laid-all {c} {symbols} {base} {follow} well words rows hs hb hf = record {
     shaped = record { small = well .most; bases = omega (arith, well .most); matrix = omega (arith, well .most); rises = words .rises };
     inside = λ x h. omega (arith, words .below x h, words .total, sum-front (lenOf c) (c .count) (limits .words) (well .most), well .total);
   };
-  count = length-map (take (c .count) (c .words)) symbolsOf ∙ length-take-le (c .count) (c .words) (rw (well .words) (well .most));
-  words = λ x h. words .words x h ∙ sym (List·getD-map symbolsOf (take (c .count) (c .words)) x noWord ∙ ap symbolsOf (getD-take (c .count) (c .words) x noWord h));
+  count = size-count well;
+  words = λ x h. words .words x h ∙ sym (word-symbols well x h);
   entries = λ x y hx hy. ap (λ (v : ℕ). eqb v 1) (rows .rows x y hx (omega (arith, well .most)));
 }
