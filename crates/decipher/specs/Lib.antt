@@ -1,0 +1,4 @@
+pub mod Buffers
+pub mod Bounds
+pub mod Twice
+pub mod Decided
