@@ -2,11 +2,12 @@
 use mathlib.Core.Path.{_≡_, refl}
 use mathlib.Core.Bool.{Bool, true, false}
 use mathlib.Core.List.{List}
-use Prim.Native.Nat.{ℕ, suc, _+_}
+use Prim.Native.Nat.{ℕ, _+_, _≤_}
 use native.Mathlib.Numerals.{add-one}
 use native.Mathlib.Omega.{arith}
 use borrow.Author.Tests.{eqb-true, eqb-false}
 use lib.Dec.{eqb}
+use lib.ListN.{length, replicate}
 use Rattle.code.specs.declared.SymbolCount.{SymbolCount}
 use Rattle.code.specs.declared.Verdict.{Verdict}
 use Rattle.code.specs.declared.Verdict.the-variants.{Finite, Unbounded}
@@ -14,10 +15,10 @@ use Rattle.code.specs.Definitions.Answers.{VerdictMeans}
 use Rattle.code.specs.Definitions.Delays.{Delay}
 use Rattle.code.specs.Definitions.Lists.{if_then_else_}
 use Rattle.code.specs.Definitions.Operations.{zeroed}
-use Rattle.code.specs.Definitions.Tables.{Table}
+use Rattle.code.specs.Definitions.Tables.{Table, size}
 use Rattle.code.specs.Laws.Delays.{one-word-delay}
 use Rattle.delay.specs.declared.Extent.{Extent}
-use Rattle.delay.specs.declared.Extent.the-variants.{Finite as Longest-of, Unbounded as Endless-of}
+use Rattle.delay.specs.declared.Extent.the-variants.{Finite as Most, Unbounded as Without-most}
 use Rattle.delay.specs.Answer.{was-finite}
 use Rattle.delay.specs.Answer as Answer
 use Rattle.delay.specs.Extents.{ExtentOf}
@@ -29,7 +30,7 @@ use Rattle.places.specs.Whole.{LaidOut}
 use Rattle.theory.specs.Searches.{search-decipherable, search-delay, search-without-bound}
 
 -- 01: "if the longest path has r steps from the start, the step to a first pair included, the delay is r + 1. A code of one word has delay 0"
-abbrev pub delayOf : (words longest : ℕ) → ℕ
+abbrev pub delayOf : (words r : ℕ) → ℕ
 delayOf n r = if eqb n 1 then 0 else r + 1
 
 -- What the walks over the pairs of f say.
@@ -37,31 +38,35 @@ pub data WalksSay (f : List ℕ) : Verdict → Type 0 where
   finite : {d : SymbolCount} {r : ℕ} → Longest (pairGraph f) r → d .0 ≡ delayOf (wordCount f) r → WalksSay f (Finite d)
   unbounded : Endless (pairGraph f) → WalksSay f Unbounded
 
--- The verdict that they say, and the working buffer zero.
+-- The verdict is what they say, and the working buffer is zero.
 pub record Bounded (f w w′ : List ℕ) (v : Verdict) : Type 0 where
   pub says : WalksSay f v
   pub work : w′ ≡ zeroed w
 
-module _ {f : List ℕ} where
-  pub says-finite : {e : Extent} {r n : ℕ} {d : SymbolCount} → ExtentOf f e → e ≡ Longest-of r → n ≡ wordCount f → d .0 ≡ delayOf n r → WalksSay f (Finite d)
-  says-finite {r = r} x p q h = finite {r = r} (was-finite x p .longest) (rw q at h)
+pub extent-low : {f : List ℕ} {e : Extent} {r : ℕ} → ExtentOf f e → e ≡ Most r → r ≤ 8256
+extent-low x p = was-finite x p .low
 
-  pub says-unbounded : {e : Extent} → ExtentOf f e → e ≡ Endless-of → WalksSay f Unbounded
-  says-unbounded (Answer.finite p) q = let z : _≡_ {A = ℕ} 0 1 = cc in absurd (omega arith)
-  says-unbounded (Answer.unbounded u) q = unbounded u
+module _ {f w w′ : List ℕ} {n : ℕ} (long : n ≡ length w) (clear : w′ ≡ replicate n 0) where
+  pub bounded-finite : {e : Extent} {r k : ℕ} {d : SymbolCount} → ExtentOf f e → e ≡ Most r → k ≡ wordCount f → d .0 ≡ delayOf k r → Bounded f w w′ (Finite d)
+  bounded-finite {r = r} x p q h = record { says = finite {r = r} (was-finite x p .longest) (rw q at h); work = rw long at clear }
+
+  pub bounded-not : {e : Extent} → ExtentOf f e → e ≡ Without-most → Bounded f w w′ Unbounded
+  bounded-not (Answer.finite p) q = let z : _≡_ {A = ℕ} 0 1 = cc in absurd (omega arith)
+  bounded-not (Answer.unbounded u) q = record { says = unbounded u; work = rw long at clear }
 
 module _ {t : Table} {f : List ℕ} (laid : LaidOut t f) (none : NoGoal (pairGraph f)) where
   by-count : (r : ℕ) (b : Bool) → eqb (wordCount f) 1 ≡ b → Longest (pairGraph f) r → Delay t (if b then 0 else r + 1)
   by-count r true e l = one-word-delay (omega (arith, laid .lays .count, eqb-true (wordCount f) 1 e))
   by-count r false e l = rw add-one (search-delay (shows laid) (laid .fits .some) none two l)
     where
-      one-not : wordCount f ≡ 1 → ⊥
-      one-not = eqb-false (wordCount f) 1 e
+      several : wordCount f ≡ 1 → ⊥
+      several = eqb-false (wordCount f) 1 e
 
       two : 2 ≤ size t
-      two = omega (arith, laid .lays .count, laid .fits .one, one-not)
+      two = omega (arith, laid .lays .count, laid .fits .one, several)
 
-  -- Where no walk leads to two ends, what the walks say is the verdict.
+  -- Where no walk leads to two ends, what the walks say is the verdict, whatever the message and its readings are.
   pub says-means : {v : Verdict} (x s u : List ℕ) → WalksSay f v → VerdictMeans t x s u v
-  says-means x s u (finite {d = d} {r = r} l e) = (search-decipherable (shows laid) (laid .fits .some) none, rw e (by-count r (eqb (wordCount f) 1) refl l))
+  says-means x s u (finite {r = r} l e) =
+      (search-decipherable (shows laid) (laid .fits .some) none, rw e (by-count r (eqb (wordCount f) 1) refl l))
   says-means x s u (unbounded e) = (search-decipherable (shows laid) (laid .fits .some) none, search-without-bound (shows laid) (laid .fits .some) e)

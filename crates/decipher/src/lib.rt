@@ -58,8 +58,8 @@ fn ambiguous(
     second: &mut [u8],
     work: &mut [u64],
 ) -> Verdict
-    requires { ⌜ WellFormed limits code × TwoReadings (tableOf code) (now message)
-        × Room (length (now message)) (length (now first)) (length (now second)) (length (now work)) ⌝ }
+    requires { ⌜ WellFormed limits code × TwoReadings (tableOf code) (now message) × (length (now message) ≤ 8256)
+        × (8256 ≤ length (now first)) × (8256 ≤ length (now second)) × (16384 ≤ length (now work)) ⌝ }
     ensures { λ r. ⌜ ReadTwice (tableOf code) (now (message .entry)) (now (first .entry)) (now (second .entry)) (now (work .entry))
         (now (first .exit)) (now (second .exit)) (now (work .exit)) r ⌝ }
 {
@@ -107,8 +107,7 @@ fn decide(
     second: &mut [u8],
     work: &mut [u64],
 ) -> Verdict
-    requires { ⌜ WellFormed limits code × Room 8256 (length (now first)) (length (now second)) (length (now work))
-        × (8256 ≤ length (now message)) × (16384 ≤ length (now work)) ⌝ }
+    requires { ⌜ WellFormed limits code × Room (length (now message)) (length (now first)) (length (now second)) (length (now work)) ⌝ }
     ensures { λ r. ⌜ Decided code (now (message .entry)) (now (first .entry)) (now (second .entry)) (now (work .entry))
         (now (message .exit)) (now (first .exit)) (now (second .exit)) (now (work .exit)) r ⌝ }
 {
