@@ -1,9 +1,9 @@
 -- The message that the search found: it has two readings, at most 8,256 symbols, and is the least that a walk to two ends reads.
-use mathlib.Core.Path.{_≡_, ap, _∙_}
+use mathlib.Core.Path.{_≡_, sym, ap, _∙_}
 use mathlib.Core.List.{List}
 use Prim.Native.Nat.{ℕ, _≤_}
 use native.Mathlib.Omega.{arith}
-use lib.ListN.{length, take, drop}
+use lib.ListN.{length, take, drop, length-take}
 use lib.Seq.{take-at}
 use Rattle.code.specs.Definitions.Operations.{written}
 use Rattle.code.specs.Definitions.Readings.{TwoReadings}
@@ -39,8 +39,11 @@ module _ {places m m′ : List ℕ} {r : Search} (answers : Answers places m m�
     symbols-at = let h = was-found is in ap (take n) (h .list) ∙ take-at (h .symbols) (drop n m) n (h .long)
 
     -- It stands at the start of the message buffer.
-    pub found-long : length (take n m′) ≡ n
-    found-long = ap length symbols-at ∙ was-found is .long
+    pub found-long : n ≡ length (take n m′)
+    found-long = sym (was-found is .long) ∙ sym (ap length symbols-at)
+
+    pub found-inside : n ≤ length m′
+    found-inside = omega (arith, found-long, length-take n m′)
 
     pub found-written : m′ ≡ written (take n m′) m
     found-written = let h = was-found is in rw (symbols-at, h .long) (h .list)
@@ -52,5 +55,5 @@ module _ {places m m′ : List ℕ} {r : Search} (answers : Answers places m m�
       pub found-two : TwoReadings t (take n m′)
       found-two = ends→readings (laid .fits .some) (goal→ends (shows laid) (found-least .goal))
 
-      pub found-few : n ≤ 8256
-      found-few = omega (arith, found-long, least-few (laid .fits) (least-goal (shows laid) found-least))
+      pub found-few : length (take n m′) ≤ 8256
+      found-few = least-few (laid .fits) (least-goal (shows laid) found-least)

@@ -1,6 +1,6 @@
 use borrow.Author.Needs.{needs}
 use Rattle.shortest.specs.Writing.{clear-zeros}
-use Rattle.decipher.specs.Found.{found-long, found-two, found-few}
+use Rattle.decipher.specs.Found.{found-inside, found-long, found-two, found-few}
 use Rattle.decipher.specs.Decided.{decided-ambiguous, decided-decipherable}
 use Rattle.decipher.proofs.decide.Statement.{statement}
 use Rattle.decipher.proofs.decide.Tie as tie
@@ -17,23 +17,23 @@ shortest-requires c κs = (search needs, search needs, clear-zeros, search needs
 
 -- src/lib.rt:118:45
 slice-reshare-prefix-ambiguous : tie.Need-slice-reshare-prefix-ambiguous
-slice-reshare-prefix-ambiguous c = ?
+slice-reshare-prefix-ambiguous c = search found-inside
 
 -- src/lib.rt:118:45
 slice-aggregate-ambiguous : tie.Need-slice-aggregate-ambiguous
-slice-aggregate-ambiguous c = ?
+slice-aggregate-ambiguous c = search found-long
 
 -- src/lib.rt:118:29
 ambiguous-requires : tie.Need-ambiguous-requires
-ambiguous-requires c κs = ?
+ambiguous-requires c κs = (search needs, search found-two, search found-few, search needs, search needs, search needs)
 
 -- src/lib.rt:103:1
 returns : tie.Need-returns
-returns c = ?
+returns c = search decided-ambiguous
 
 -- src/lib.rt:103:1
 returns-2 : tie.Need-returns-2
-returns-2 c = ?
+returns-2 c = search decided-decipherable
 
 pub decide-spec : {M : Type 1} → statement M
 decide-spec =

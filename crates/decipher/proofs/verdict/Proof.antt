@@ -1,4 +1,7 @@
 use borrow.Author.Needs.{needs}
+use borrow.Author.Tests.{not-false}
+use Rattle.table.specs.Given.{well}
+use Rattle.decipher.specs.Buffers.{has-room}
 use Rattle.decipher.specs.Ways.{way-8, way-13, way-judged}
 use Rattle.decipher.proofs.verdict.Statement.{statement}
 use Rattle.decipher.proofs.verdict.Tie as tie
@@ -18,7 +21,7 @@ returns-2 c = search way-13
 
 -- src/lib.rt:141:23
 decide-requires : tie.Need-decide-requires
-decide-requires c κs = ?
+decide-requires c κs = (well (c .before .before .before .before .before .before .before .well-formed .ensures .yes (not-false _ (c .before .before .before .before .before .before .if1 .left))), has-room (c .before .before .before .before .before .is-short .ensures .no (c .before .before .before .before .if2 .left)))
 
 -- src/lib.rt:125:1
 returns-3 : tie.Need-returns-3
