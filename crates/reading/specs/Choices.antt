@@ -12,8 +12,8 @@ use lib.ListN.{length}
 use Rattle.bits.specs.Bits.{bitAt}
 use Rattle.table.specs.Exactly.{Exactly, exactly-true, exactly-false}
 use Rattle.reading.specs.Firsts.{by-order}
-use Rattle.reading.specs.Text.{Text, From, done, word, Can, Opens, opens-of, open-word, Lowest, Highest, Next}
-use Rattle.reading.specs.Flat.{stride, mayAfter, text}
+use Rattle.reading.specs.Text.{Text, From, done, word, Can, Begins, Opens, opens-of, open-word, Lowest, Highest, Next}
+use Rattle.reading.specs.Flat.{stride, mayAfter, flatText, text}
 use Rattle.reading.specs.Marks.{bitOfWord, Marked}
 
 -- Word x has its bit on at position p, and may come after y.
@@ -109,12 +109,19 @@ module _ {K : Text} {work follow : List ℕ} {n p : ℕ} (tells : Tells K work f
   pub sought-highest : {y x z : ℕ} → Sought work follow n p y (x + 1) z → n ≤ z → Highest K p y x
   sought-highest {y} s h v a o = sought-none s v (omega arith) (omega (arith, tells .known y v o)) o
 
+-- Bits that are on just where a word begins are right.
+pub tells-where : (base : List ℕ) {follow work : List ℕ} {n end p : ℕ} {stands : ℕ → ℕ → Type 0}
+    → ((x : ℕ) → x < n → bitAt work (bitOfWord p x) ≡ true → Begins (flatText base follow n stands end) p x)
+    → ((x : ℕ) → Begins (flatText base follow n stands end) p x → bitAt work (bitOfWord p x) ≡ true)
+    → Tells (flatText base follow n stands end) work follow n p
+unfolding usable
+tells-where base {follow} {work} {n} {end} {p} sound full = record {
+  opens = λ y x k u. let b = and-eq-true-iff (bitAt work (bitOfWord p x)) (mayAfter follow n x y) .0 u in record { begins = sound x k (b .0); after = b .1 };
+  known = λ y x o. o .begins .here .0;
+  uses = λ y x o. rw (full x (o .begins)) (o .after);
+}
+
 -- Marks that reach down to position p tell of it.
 pub marked-tells : {symbols base follow m work : List ℕ} {n b : ℕ} (p : ℕ) → n ≤ stride → Marked (text symbols base follow n m) work b → b ≤ p * stride
     → Tells (text symbols base follow n m) work follow n p
-unfolding usable
-marked-tells {follow = follow} {work = work} {n = n} p small m h = record {
-  opens = λ y x k u. let b = and-eq-true-iff (bitAt work (bitOfWord p x)) (mayAfter follow n x y) .0 u in record { begins = m .sound p x (omega arith) (omega arith) (b .0); after = b .1 };
-  known = λ y x o. o .begins .here .0;
-  uses = λ y x o. rw (m .full p x (omega arith) (o .begins)) (o .after);
-}
+marked-tells {base = base} p small m h = tells-where base (λ x k. m .sound p x (omega arith) (omega arith)) (λ x. m .full p x (omega arith))

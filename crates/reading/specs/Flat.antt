@@ -58,11 +58,15 @@ pub record Stands (symbols base m : List ℕ) (p x : ℕ) : Type 0 where
   pub within : p + lengthAt base x ≤ length m
   pub equal : take (lengthAt base x) (drop p m) ≡ wordAt symbols base x
 
+-- The words that flat lists give, where they stand in a message.
+abbrev pub flatText : (base follow : List ℕ) (n : ℕ) (stands : ℕ → ℕ → Type 0) (end : ℕ) → Text
+flatText base follow n stands end = record {
+  len = lengthAt base;
+  stands = λ p x. (x < n) × stands p x;
+  may = λ x y. mayAfter follow n x y ≡ true;
+  end = end;
+}
+
 -- The message m, read by the flat lists.
 abbrev pub text : (symbols base follow : List ℕ) (n : ℕ) (m : List ℕ) → Text
-text symbols base follow n m = record {
-  len = lengthAt base;
-  stands = λ p x. (x < n) × Stands symbols base m p x;
-  may = λ x y. mayAfter follow n x y ≡ true;
-  end = length m;
-}
+text symbols base follow n m = flatText base follow n (Stands symbols base m) (length m)

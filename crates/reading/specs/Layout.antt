@@ -7,7 +7,7 @@ use native.Mathlib.Numerals.{add-one}
 use native.Mathlib.Omega.{arith}
 use borrow.Author.Count.{below-none, below-more}
 use lib.Dec.{eqb}
-use lib.ListN.{length, take, drop, getD, set, length-drop, take-append-drop, length-map, List·getD-map, List·getD-append}
+use lib.ListN.{length, take, drop, getD, set, length-drop, take-append-drop, List·getD-append}
 use lib.Seq.{paste, length-take-le, take-append-le, drop-append-le, take-at, drop-at, getD-take, getD-drop, getD-set-same, getD-set-other}
 use Rattle.code.specs.declared.Code.{Code}
 use Rattle.code.specs.Definitions.Lists.{table, sum}
@@ -15,6 +15,7 @@ use Rattle.code.specs.Definitions.Tables.{symbolsOf, noWord, noRow, entryOf, ta
 use Rattle.code.specs.Definitions.Sheets.{limits}
 use Rattle.code.specs.Laws.Lists.{sum-more}
 use Rattle.table.specs.WellFormed.{lenOf, WellFormed}
+use Rattle.table.specs.Words.{size-count, word-symbols}
 use Rattle.reading.specs.Firsts.{by-order}
 use Rattle.reading.specs.Flat.{stride, lengthAt, wordAt, Lays}
 
@@ -37,6 +38,7 @@ module _ (d s : List ℕ) (at n : ℕ) (within : at + n ≤ length d) (some : n 
   front : length (take at d) ≡ at
   front = length-take-le at d (omega arith)
 
+  -- A copy leaves the stretches before it as they were, and a stretch in its place is the copied one.
   pub paste-before : (p k : ℕ) → p + k ≤ at → take k (drop p (paste d at s n)) ≡ take k (drop p d)
   paste-before p k h = rw append-assoc (stretch-front (take at d) (take n s ++ drop (at + n) d) p k (rw front h))
       ∙ sym (stretch-front (take at d) (drop at d) p k (rw front h)) ∙ rw (take-append-drop at d)
@@ -44,6 +46,7 @@ module _ (d s : List ℕ) (at n : ℕ) (within : at + n ≤ length d) (some : n 
   pub paste-here : take n (drop at (paste d at s n)) ≡ take n s
   paste-here = rw (append-assoc, drop-at (take at d) (take n s ++ drop (at + n) d) at front) (take-at (take n s) (drop (at + n) d) n (length-take-le n s some))
 
+  -- The same for single entries.
   pub paste-at-before : (i : ℕ) → i < at → getD (paste d at s n) i 0 ≡ getD d i 0
   paste-at-before i h = rw append-assoc (List·getD-append (take at d) (take n s ++ drop (at + n) d) 0 i (rw front h)) ∙ getD-take at d i 0 h
 
@@ -66,6 +69,7 @@ pub record NextWord (c : Code) (x : ℕ) : Type 0 where
   pub short : lenOf c x ≤ limits .symbols
   pub total : sum (table (lenOf c) x) + lenOf c x ≤ limits .total
 
+-- A well-formed code has it.
 pub next-word : {c : Code} {x : ℕ} → WellFormed limits c → x < c .count → NextWord c x
 next-word {c} {x} well h =
     let k : x < limits .words = omega (arith, well .most) in
@@ -81,6 +85,7 @@ pub words-none : (c : Code) (symbols : List ℕ) {base : List ℕ} → getD base
 unfolding table sum
 words-none c symbols e = record { total = e; rises = below-none _; below = below-none _; words = below-none _ }
 
+-- No rows.
 pub rows-none : (c : Code) (follow : List ℕ) → LaidRows c 0 follow
 rows-none c follow = record { rows = λ k y h. absurd (omega arith) }
 
@@ -143,7 +148,7 @@ laid-all {c} {symbols} {base} {follow} well words rows hs hb hf = record {
     shaped = record { small = well .most; bases = omega (arith, well .most); matrix = omega (arith, well .most); rises = words .rises };
     inside = λ x h. omega (arith, words .below x h, words .total, sum-front (lenOf c) (c .count) (limits .words) (well .most), well .total);
   };
-  count = length-map (take (c .count) (c .words)) symbolsOf ∙ length-take-le (c .count) (c .words) (rw (well .words) (well .most));
-  words = λ x h. words .words x h ∙ sym (List·getD-map symbolsOf (take (c .count) (c .words)) x noWord ∙ ap symbolsOf (getD-take (c .count) (c .words) x noWord h));
+  count = size-count well;
+  words = λ x h. words .words x h ∙ sym (word-symbols well x h);
   entries = λ x y hx hy. ap (λ (v : ℕ). eqb v 1) (rows .rows x y hx (omega (arith, well .most)));
 }

@@ -30,6 +30,7 @@ short-work {n} {f} {g} {w} hf hg = exactly-iff (λ h. inr (inr (omega arith)), b
     back (inr (inl h)) = absurd (omega arith)
     back (inr (inr h)) = omega arith
 
+-- Where none is short, all three are long enough.
 pub not-short : {n f g w : ℕ} → (Short n f g w → ⊥) → (n ≤ f) × (n ≤ g) × (n < w)
 not-short {n} {f} {g} {w} none = (at-least n f (λ h. none (inl h)), at-least n g (λ h. none (inr (inl h))), omega (arith, at-least (n + 1) w (λ h. none (inr (inr h)))))
   where
@@ -45,6 +46,7 @@ none-holds : {c : Code} (m f g w : List ℕ) → FromSheet limits c → length m
     → (Short (length m) (length f) (length g) (length w) → ⊥) → NoneHolds (readingConditions limits c m f g w)
 none-holds m f g w from short low room = (λ n. n from, (λ n. omega arith, (low, (room, tt))))
 
+-- Each refusal, where it is the first that holds.
 module _ {c : Code} {m f g w : List ℕ} where
   pub refuse-table : (FromSheet limits c → ⊥) → ReadsMessage limits c m f g w f g w (Refused NotFromSheet)
   refuse-table h = Operations.refused (inl (h, refl)) refl refl refl

@@ -30,7 +30,10 @@ returns c =
     let start = after-mark-all .before .before .before .before .before .before .before .before .before .before .before .before .before in
     let p = start .pre in
     let e : length (after-mark-all .mark-all .last .1 .1 .1 .1 .1 .0) ≡ length (start .args .work .now) = omega arith in
-    record { finds = λ t l. answer-finds (p .0 .flat) (after-mark-all .mark-all .ensures) l (after-first-readings .first-readings .ensures); work = rw e at (c .before .before .clear2 .ensures) }
+    record {
+      finds = λ t l. answer-finds (p .0 .flat) (after-mark-all .mark-all .ensures) l (after-first-readings .first-readings .ensures);
+      work = rw e at (c .before .before .clear2 .ensures);
+    }
 
 pub read-core-spec : {M : Type 1} → statement M
 read-core-spec =

@@ -66,8 +66,11 @@ loop-again c =
     let head = c .before .before .before .before .before .before .before .before in
     let start = head .before .before in
     let p = start .pre in
-    let l = head .loop in
-    (omega arith, omega arith, rw (c .before .before .copy-at .ensures) (rows-more (l .follow) (l .inv .2) (p .0 .row (l .x) (omega (arith, p .0 .most)) .array) (omega (arith, p .0 .most))))
+    let l = head .loop in (
+      omega arith,
+      omega arith,
+      rw (c .before .before .copy-at .ensures) (rows-more (l .follow) (l .inv .2) (p .0 .row (l .x) (omega (arith, p .0 .most)) .array) (omega (arith, p .0 .most))),
+    )
 
 same-length : tie.Need-same-length Inv-loop μ-loop
 same-length c = c .before .loop .inv .1

@@ -11,7 +11,8 @@ use Rattle.reading.proofs.layout.lay_words.Statement.{statement}
 use Rattle.reading.proofs.layout.lay_words.Tie as tie
 
 abbrev Inv-loop : tie.InvT-loop
-Inv-loop symbols₀ base₀ code at₀ x₀ symbols base at x = (x ≤ code .count) × (length symbols ≡ length symbols₀) × (length base ≡ length base₀) × (at ≡ getD base x 0) × LaidWords code x symbols base
+Inv-loop symbols₀ base₀ code at₀ x₀ symbols base at x =
+    (x ≤ code .count) × (length symbols ≡ length symbols₀) × (length base ≡ length base₀) × (at ≡ getD base x 0) × LaidWords code x symbols base
 
 abbrev μ-loop : tie.MeasureT-loop
 μ-loop symbols₀ base₀ code at₀ x₀ symbols base at x = code .count - x
@@ -97,8 +98,13 @@ loop-again c =
     let a = start .args in
     let e : length (l .base) ≡ length (a .base .now) = l .inv .2 ∙ simp length-set in
     let within : l .at + lenOf (a .t1) (l .x) ≤ length (l .symbols) = omega (arith, w .total, l .inv .4 .total) in
-    let room : l .x + 1 < length (l .base) = omega (arith, p .0 .most) in
-    (omega arith, omega arith, simp length-set e, sym (getD-set-same (l .base) (l .x + 1) (l .at + lenOf (a .t1) (l .x)) 0 room), rw (after-copy-at .copy-at .ensures) (words-more (l .inv .4) w (l .at) (l .inv .3) within room))
+    let room : l .x + 1 < length (l .base) = omega (arith, p .0 .most) in (
+      omega arith,
+      omega arith,
+      simp length-set e,
+      sym (getD-set-same (l .base) (l .x + 1) (l .at + lenOf (a .t1) (l .x)) 0 room),
+      rw (after-copy-at .copy-at .ensures) (words-more (l .inv .4) w (l .at) (l .inv .3) within room),
+    )
 
 same-length : tie.Need-same-length Inv-loop μ-loop
 same-length c = c .before .loop .inv .1

@@ -11,7 +11,8 @@ use Rattle.reading.proofs.marks.mark_all.Statement.{statement}
 use Rattle.reading.proofs.marks.mark_all.Tie as tie
 
 abbrev Inv-loop : tie.InvT-loop
-Inv-loop symbols base follow n message work₀ pos₀ work pos = (pos ≤ length message) × (length work ≡ length work₀) × Marked (text symbols base follow n message) work (bitOfWord pos 0)
+Inv-loop symbols base follow n message work₀ pos₀ work pos =
+    (pos ≤ length message) × (length work ≡ length work₀) × Marked (text symbols base follow n message) work (bitOfWord pos 0)
 
 abbrev μ-loop : tie.MeasureT-loop
 μ-loop symbols base follow n message work₀ pos₀ work pos = pos

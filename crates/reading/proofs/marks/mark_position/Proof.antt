@@ -11,7 +11,8 @@ use Rattle.reading.proofs.marks.mark_position.Statement.{statement}
 use Rattle.reading.proofs.marks.mark_position.Tie as tie
 
 abbrev Inv-loop : tie.InvT-loop
-Inv-loop symbols base follow n message work₀ pos x₀ work x = (x ≤ n) × (length work ≡ length work₀) × Marked (text symbols base follow n message) work (bitOfWord pos x)
+Inv-loop symbols base follow n message work₀ pos x₀ work x =
+    (x ≤ n) × (length work ≡ length work₀) × Marked (text symbols base follow n message) work (bitOfWord pos x)
 
 abbrev μ-loop : tie.MeasureT-loop
 μ-loop symbols base follow n message work₀ pos x₀ work x = x
@@ -36,8 +37,11 @@ loop-again c =
     let start = head .before .before .before .before .before .before in
     let p = start .pre in
     let l = head .loop in
-    let s = c .before .before .set .ensures in
-    (omega arith, s .long ∙ l .inv .1, mark-on _ (ready-kept (p .0) (l .inv .1)) (omega arith) (mark-next _ (omega arith) (l .inv .2)) (after-begins .begins .ensures .yes (at-if1 .if1 .taken)) s)
+    let s = c .before .before .set .ensures in (
+      omega arith,
+      s .long ∙ l .inv .1,
+      mark-on _ (ready-kept (p .0) (l .inv .1)) (omega arith) (mark-next _ (omega arith) (l .inv .2)) (after-begins .begins .ensures .yes (at-if1 .if1 .taken)) s,
+    )
 
 loop-again-2 : tie.Need-loop-again-2 Inv-loop μ-loop
 loop-again-2 c =

@@ -10,7 +10,8 @@ use Rattle.reading.proofs.walks.least_reading.Statement.{statement}
 use Rattle.reading.proofs.walks.least_reading.Tie as tie
 
 abbrev Inv-loop : tie.InvT-loop
-Inv-loop base follow n end work out₀ from pos last w₀ out w = Walking (shown base follow work n end) n pos last from out₀ out w × (length out ≡ length out₀)
+Inv-loop base follow n end work out₀ from pos last w₀ out w =
+    Walking (shown base follow work n end) n pos last from out₀ out w × (length out ≡ length out₀)
 
 abbrev μ-loop : tie.MeasureT-loop
 μ-loop base follow n end work out₀ from pos last w₀ out w = end - w .pos
