@@ -158,7 +158,7 @@ module _ {base follow work : List ℕ} {n end : ℕ} (walkable : Walkable base f
 
     walking-new : z < n
         → Walking (shown base follow work n end) n p₀ y₀ k old (set new (k + w .count) x)
-            (record { count = w .count + 1; pos = w .pos + lengthAt base x; last = x; at = w .count; start = w .pos; other = z })
+        (record { count = w .count + 1; pos = w .pos + lengthAt base x; last = x; at = w .count; start = w .pos; other = z })
     walking-new q = record {
       words = h .words ++ (x ∷ []);
       size = size;
@@ -174,7 +174,7 @@ module _ {base follow work : List ℕ} {n end : ℕ} (walkable : Walkable base f
 
     walking-kept : n ≤ z
         → Walking (shown base follow work n end) n p₀ y₀ k old (set new (k + w .count) x)
-            (record { count = w .count + 1; pos = w .pos + lengthAt base x; last = x; at = w .at; start = w .start; other = w .other })
+        (record { count = w .count + 1; pos = w .pos + lengthAt base x; last = x; at = w .at; start = w .start; other = w .other })
     walking-kept q = record {
       words = h .words ++ (x ∷ []);
       size = size;

@@ -4,7 +4,6 @@ mod marks;
 mod walks;
 
 use code::Reading;
-
 ghost use Prim.Native.Nat.{_≤_};
 ghost use lib.ListN.{length};
 ghost use Rattle.reading.specs.Marking.{Ready};

@@ -136,6 +136,7 @@ module _ {f : List ℕ} (laid : Laid f) (n : Numbered f) where
     where
       s : (symbolAt f (onward f p j) ≡ symbolAt f (w % 128)) × (symbolAt f (onward f q j) ≡ symbolAt f (w % 128))
       s = arrival-symbol m (decLe (onward f p j) (onward f q j))
+
       go : (a : Bool) → endAt f p ≡ a → (b : Bool) → endAt f q ≡ b → leadsOn f p q (symbolAt f (w % 128)) ≡ true
       go false x b y = on-left p q x (ap (symbolAt f) (sym (inside f p j x)) ∙ s .0)
       go true x false y = on-right p q x (ap (symbolAt f) (sym (inside f q j y)) ∙ s .1)

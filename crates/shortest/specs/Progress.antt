@@ -40,8 +40,7 @@ module _ {f ms : List ℕ} {v t : ℕ} where
   was-final (final h) e = h
 
 module _ {f ms q : List ℕ} {tail a b t k c : ℕ} (laid : Laid f) (n : Numbered f) (s : Stands f ms q tail a b t k c) (r : Ready ms q tail a b t k) {p o : Pair}
-  (u : PlacesOf (nodeOf (getD q k 0)) p) (d : Arrives (toward f (p .low * 128 + p .high) c) o) where
-
+    (u : PlacesOf (nodeOf (getD q k 0)) p) (d : Arrives (toward f (p .low * 128 + p .high) c) o) where
   leads : toward f (nodeAt q k) c ≡ o .low * 128 + o .high
   leads = ap (λ (v : ℕ). toward f v c) (sym (u .node)) ∙ sym (d .node)
 

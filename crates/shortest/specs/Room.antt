@@ -52,5 +52,9 @@ module _ {f ms q : List ℕ} {tail : ℕ} (laid : Laid f) (n : Numbered f) (s : 
       let z = s .size in
       let r = s .room in
       let l : w < length ms = let k = link-node d in omega arith in
-      omega (arith, goal-clear w e, total-set mark ms w 1 l,
-      marks-few (set ms w 1) (length-set ms w 1 ∙ z) (on-set ms w 1 l (λ u x. 1 ≤ x → u / 128 ≤ u % 128) (λ h. link-order laid n d) (λ u ne. marked-order u)))
+      omega (
+        arith,
+        goal-clear w e,
+        total-set mark ms w 1 l,
+        marks-few (set ms w 1) (length-set ms w 1 ∙ z) (on-set ms w 1 l (λ u x. 1 ≤ x → u / 128 ≤ u % 128) (λ h. link-order laid n d) (λ u ne. marked-order u)),
+      )

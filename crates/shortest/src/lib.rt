@@ -387,13 +387,7 @@ fn fill(places: &[u8], queue: &[u64], message: &mut [u8], start: usize, count: u
 }
 
 // Writes the label of a group and one symbol more.
-fn write(
-    places: &[u8],
-    queue: &[u64],
-    message: &mut [u8],
-    start: usize,
-    symbol: usize,
-) -> usize
+fn write(places: &[u8], queue: &[u64], message: &mut [u8], start: usize, symbol: usize) -> usize
     requires { ⌜ Laid (now places) × Met (now places) (now queue) start symbol × (16384 ≤ length (now queue)) × (8256 ≤ length (now message)) ⌝ }
     ensures { λ r. ⌜ Message (now (places .entry)) (now (message .entry)) (now (message .exit)) r ⌝ }
 {
@@ -405,12 +399,7 @@ fn write(
 
 // The length of the shortest message of a walk from a first pair to a pair of two ends, the earliest in symbol order among equals; the
 // message stands at the front of its buffer. The marks are clear at first. What the queue then holds is of no use to the caller.
-pub fn shortest(
-    places: &[u8],
-    marks: &mut [u16],
-    queue: &mut [u64],
-    message: &mut [u8],
-) -> Search
+pub fn shortest(places: &[u8], marks: &mut [u16], queue: &mut [u64], message: &mut [u8]) -> Search
     requires { ⌜ Laid (now places) × Numbered (now places) × Clear (now marks) × (16384 ≤ length (now queue)) × (8256 ≤ length (now message)) ⌝ }
     ensures { λ r. ⌜ Answers (now (places .entry)) (now (message .entry)) (now (message .exit)) r ⌝ }
 {

@@ -34,8 +34,8 @@ returns : tie.Need-returns
 returns c = let p = c .before .before .before .before .before .before .before .before .before .before .before .before .before .before .before .before .before .before .before .before .before .before .before .before .before .before .before .pre in
     let e : length (c .before .before .before .before .before .before .before .before .before .before .before .before .before .before .mark-all .last .1 .1 .1 .1 .1 .0) ≡ length (c .before .before .before .before .before .before .before .before .before .before .before .before .before .before .before .before .before .before .before .before .before .before .before .before .before .before .before .args .work .now) = omega arith in
     record {
-    finds = λ t l. answer-finds (p .0 .flat) (c .before .before .before .before .before .before .before .before .before .before .before .before .before .before .mark-all .ensures) l (c .before .before .before .before .before .before .before .before .first-readings .ensures);
-    work = rw e at (c .before .before .clear2 .ensures);
+      finds = λ t l. answer-finds (p .0 .flat) (c .before .before .before .before .before .before .before .before .before .before .before .before .before .before .mark-all .ensures) l (c .before .before .before .before .before .before .before .before .first-readings .ensures);
+      work = rw e at (c .before .before .clear2 .ensures);
     }
 
 pub read-core-spec : {M : Type 1} → statement M
