@@ -158,13 +158,8 @@ module _ {base follow work : List ℕ} {n end : ℕ} (walkable : Walkable base f
         → Branch (shown base follow work n end) p₀ y₀ n (w .pos + lengthAt base x) x (h .words ++ (x ∷ [])) at start other
         → (other < n → k + at ≤ start)
         → Walking (shown base follow work n end) n p₀ y₀ k old (set new (k + w .count) x)
-<<<<<<< HEAD
         (record { count = w .count + 1; pos = w .pos + lengthAt base x; last = x; at = at; start = start; other = other })
     walking-step at start other branch early = record {
-=======
-        (record { count = w .count + 1; pos = w .pos + lengthAt base x; last = x; at = w .count; start = w .pos; other = z })
-    walking-new q = record {
->>>>>>> 850f970ce766e118c426458a930ae2407edd7ee9
       words = h .words ++ (x ∷ []);
       size = rw (length-append, h .size);
       written = written;
@@ -177,29 +172,11 @@ module _ {base follow work : List ℕ} {n end : ℕ} (walkable : Walkable base f
       early = early;
     }
 
-<<<<<<< HEAD
     branch-at : z < n → Branch (shown base follow work n end) p₀ y₀ n (w .pos + lengthAt base x) x (h .words ++ (x ∷ [])) (w .count) (w .pos) z
     branch-at q = branch-new (walkable .sure .bounded) (h .walked) (h .size) lowest (sought-next (sure-tells (walkable .sure) (w .pos)) t q) q
 
     branch-before : n ≤ z → Branch (shown base follow work n end) p₀ y₀ n (w .pos + lengthAt base x) x (h .words ++ (x ∷ [])) (w .at) (w .start) (w .other)
     branch-before q = branch-kept (walkable .sure .bounded) (h .branch) lowest (sought-highest (sure-tells (walkable .sure) (w .pos)) t q)
-=======
-    walking-kept : n ≤ z
-        → Walking (shown base follow work n end) n p₀ y₀ k old (set new (k + w .count) x)
-        (record { count = w .count + 1; pos = w .pos + lengthAt base x; last = x; at = w .at; start = w .start; other = w .other })
-    walking-kept q = record {
-      words = h .words ++ (x ∷ []);
-      size = size;
-      written = written;
-      walked = walked-on (walkable .sure .bounded) (h .walked) lowest;
-      branch = branch-kept (walkable .sure .bounded) (h .branch) lowest (sought-highest (sure-tells (walkable .sure) (w .pos)) t q);
-      can = can-after;
-      room = omega (arith, h .room, taken .some);
-      within = taken .fits;
-      known = omega (arith, taken .known);
-      early = h .early;
-    }
->>>>>>> 850f970ce766e118c426458a930ae2407edd7ee9
 
     -- One step more, with the lowest word and the next above it as the search found them.
     pub walking-on : Walking (shown base follow work n end) n p₀ y₀ k old (set new (k + w .count) x) (advanced w x (lengthAt base x) z n)

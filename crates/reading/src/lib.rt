@@ -8,13 +8,9 @@ mod walks;
 use code::Code;
 use code::Message;
 use code::Reading;
-<<<<<<< HEAD
 use code::Refusal;
 use code::Word;
 ghost use Prim.Native.Nat.{_^_, _≤_, _<_};
-=======
-ghost use Prim.Native.Nat.{_≤_};
->>>>>>> 850f970ce766e118c426458a930ae2407edd7ee9
 ghost use lib.ListN.{length};
 ghost use Rattle.code.specs.Definitions.Sheets.{limits};
 ghost use Rattle.code.specs.Definitions.Operations.{HasHigh, ReadsMessage};

@@ -1,9 +1,6 @@
 // The readings that the marks show: the first, and from the last step where another word could be taken, the second.
 
-<<<<<<< HEAD
 use crate::copies::copy_at;
-=======
->>>>>>> 850f970ce766e118c426458a930ae2407edd7ee9
 use crate::marks::continues;
 use crate::marks::seek;
 use code::Reading;

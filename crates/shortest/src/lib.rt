@@ -419,14 +419,10 @@ fn fill(places: &[u8], queue: &[u64], message: &mut [u8], start: usize, count: u
 
 // Writes the label of a group and one symbol more.
 fn write(places: &[u8], queue: &[u64], message: &mut [u8], start: usize, symbol: usize) -> usize
-<<<<<<< HEAD
     requires { ⌜ Laid (now places)
         × GoalNext (now places) (now queue) start symbol
         × (16384 ≤ length (now queue))
         × (8256 ≤ length (now message)) ⌝ }
-=======
-    requires { ⌜ Laid (now places) × Met (now places) (now queue) start symbol × (16384 ≤ length (now queue)) × (8256 ≤ length (now message)) ⌝ }
->>>>>>> 850f970ce766e118c426458a930ae2407edd7ee9
     ensures { λ r. ⌜ Message (now (places .entry)) (now (message .entry)) (now (message .exit)) r ⌝ }
 {
     let count = depth(queue, start);
@@ -436,7 +432,6 @@ fn write(places: &[u8], queue: &[u64], message: &mut [u8], start: usize, symbol:
 }
 
 // The length of the shortest message of a walk from a first pair to a pair of two ends, the earliest in symbol order among equals; the
-<<<<<<< HEAD
 // message stands at the front of its buffer. The marks must be clear. What the marks and the queue hold at the end is of no use to the caller.
 pub fn shortest(places: &[u8], marks: &mut [u16], queue: &mut [u64], message: &mut [u8]) -> Search
     requires { ⌜ Laid (now places)
@@ -444,11 +439,6 @@ pub fn shortest(places: &[u8], marks: &mut [u16], queue: &mut [u64], message: &m
         × Clear (now marks)
         × (16384 ≤ length (now queue))
         × (8256 ≤ length (now message)) ⌝ }
-=======
-// message stands at the front of its buffer. The marks are clear at first. What the queue then holds is of no use to the caller.
-pub fn shortest(places: &[u8], marks: &mut [u16], queue: &mut [u64], message: &mut [u8]) -> Search
-    requires { ⌜ Laid (now places) × Numbered (now places) × Clear (now marks) × (16384 ≤ length (now queue)) × (8256 ≤ length (now message)) ⌝ }
->>>>>>> 850f970ce766e118c426458a930ae2407edd7ee9
     ensures { λ r. ⌜ Answers (now (places .entry)) (now (message .entry)) (now (message .exit)) r ⌝ }
 {
     seed(queue);

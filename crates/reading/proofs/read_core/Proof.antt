@@ -31,11 +31,7 @@ returns c =
     let p = start .pre in
     let e : length (after-mark-all .mark-all .last .1 .1 .1 .1 .1 .0) ≡ length (start .args .work .now) = omega arith in
     record {
-<<<<<<< HEAD
       finds = λ t l. answer-finds (p .0 .flat) (after-mark-all .mark-all .ensures) l (after-first-readings .first-readings .ensures);
-=======
-      finds = λ t l. answer-finds (p .0 .flat) (c .before .before .before .before .before .before .before .before .before .before .before .before .before .before .mark-all .ensures) l (c .before .before .before .before .before .before .before .before .first-readings .ensures);
->>>>>>> 850f970ce766e118c426458a930ae2407edd7ee9
       work = rw e at (c .before .before .clear2 .ensures);
     }
 
