@@ -5,6 +5,7 @@ use mathlib.Core.List.{List, _∷_, reverse, _++_}
 use Prim.Native.Nat.{ℕ, _+_, _*_, _%_, _≤_, _<_}
 use lib.ListN.{length, getD, drop}
 use Rattle.places.specs.declared.Pair.{Pair}
+use Rattle.graph.specs.Goals.{NoGoal, LeastGoal}
 use Rattle.places.specs.Flat.{symbolAt, pairGraph}
 use Rattle.shortest.specs.declared.Arrival.{Arrival}
 use Rattle.shortest.specs.declared.Arrival.the-variants.{Passed, Fresh, Goal as Final}
@@ -16,7 +17,6 @@ use Rattle.shortest.specs.declared.Exploration.{Exploration}
 use Rattle.shortest.specs.declared.Exploration.the-variants.{Goal as Reached, Exhausted}
 use Rattle.shortest.specs.declared.Search.{Search}
 use Rattle.shortest.specs.declared.Search.the-variants.{Found, Nothing}
-use Rattle.shortest.specs.Answer.{Least, Without}
 use Rattle.shortest.specs.Entries.{nodeOf, fromOf, nodeAt, fromAt}
 use Rattle.shortest.specs.Labels.{Label, Labelled}
 use Rattle.shortest.specs.Pairs.{toward}
@@ -71,7 +71,7 @@ pub record GoalNext (f q : List ℕ) (a t : ℕ) : Type 0 where
   pub small : a < 8256
   pub low : t < 16
   pub labelled : Labelled (pairGraph f) q a
-  pub least : (l : List ℕ) → Label (pairGraph f) q a l → Least (pairGraph f) (reverse (t ∷ l))
+  pub least : (l : List ℕ) → Label (pairGraph f) q a l → LeastGoal (pairGraph f) (reverse (t ∷ l))
 
 pub data Progressed (f ms q : List ℕ) (a b t k c : ℕ) : Progress → Type 0 where
   met : {x : ℕ} → GoalNext f q a x → Progressed f ms q a b t k c (Goal x)
@@ -85,7 +85,7 @@ pub data Expanded (f ms q : List ℕ) (a : ℕ) : Expansion → Type 0 where
 -- After all groups.
 pub data Explored (f q : List ℕ) : Exploration → Type 0 where
   reached : {a x : ℕ} → GoalNext f q a x → Explored f q (Reached a x)
-  exhausted : Without (pairGraph f) → Explored f q Exhausted
+  exhausted : NoGoal (pairGraph f) → Explored f q Exhausted
 
 -- The source stands at the front of the queue.
 pub record Seeded (q : List ℕ) : Type 0 where
@@ -101,10 +101,10 @@ pub record Clear (ms : List ℕ) : Type 0 where
 pub record Message (f o p : List ℕ) (n : ℕ) : Type 0 where
   pub symbols : List ℕ
   pub long : length symbols ≡ n
-  pub least : Least (pairGraph f) symbols
+  pub least : LeastGoal (pairGraph f) symbols
   pub list : p ≡ symbols ++ drop n o
 
 -- The answer, and what becomes of the message list o.
 pub data Answers (f o p : List ℕ) : Search → Type 0 where
   found : {n : ℕ} → Message f o p n → Answers f o p (Found n)
-  nothing : p ≡ o → Without (pairGraph f) → Answers f o p Nothing
+  nothing : p ≡ o → NoGoal (pairGraph f) → Answers f o p Nothing

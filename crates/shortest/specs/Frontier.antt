@@ -9,8 +9,8 @@ use native.Mathlib.Nat.{le-refl}
 use native.Mathlib.Decide.{decLt}
 use native.Mathlib.Omega.{arith}
 use Rattle.code.specs.Definitions.Orders.{Shortlex}
+use Rattle.graph.specs.Goals.{NoGoal, LeastGoal}
 use Rattle.graph.specs.Graph.{Graph}
-use Rattle.shortest.specs.Answer.{Least, Without}
 use Rattle.shortest.specs.Backward.{NoLater, ahead, no-later-trans, sooner-no-later, sooner-longer, more-no-later, sooner-shortlex}
 use Rattle.shortest.specs.Links.{Link, Walk, none, more, link-node, reach-node, reach-walk, walk-reach}
 use Rattle.shortest.specs.Entries.{nodeAt}
@@ -100,20 +100,22 @@ module _ {g : Graph} {ms q : List ℕ} {tail a b t k : ℕ} (s : Stage g ms q ta
       before (no z) (no e) c = inr (inr (ahead (sooner-no-later (sooner-label (s .queue) first u (s .group .after i (omega arith) u) x y) n)))
 
   -- The first goal that is met has the least message.
-  pub first-goal : (w : ℕ) → k < b → Link g (nodeAt q k) w → g .symbol w ≡ t → g .goal w ≡ true → (l : List ℕ) → Label g q a l → Least g (reverse (t ∷ l))
+  pub first-goal : (w : ℕ) → k < b → Link g (nodeAt q k) w → g .symbol w ≡ t → g .goal w ≡ true → (l : List ℕ) → Label g q a l → LeastGoal g (reverse (t ∷ l))
   first-goal w inside d c e l x =
       let f = s .group .ends in
       record {
-        end = w;
-        walk = walk-reach (more (label-walk (s .queue) x k (omega arith) (s .group .same k (s .from) inside)) d c) (link-node d);
-        met = e;
-        least = λ n v r y.
+        goal = record {
+          v = w;
+          walk = walk-reach (more (label-walk (s .queue) x k (omega arith) (s .group .same k (s .from) inside)) d c) (link-node d);
+          met = e;
+        };
+        least = λ n y.
             no-later-reach (t ∷ l) n
-            (goal-past (s .queue) (λ m. NoLater (t ∷ l) m) (λ m z p. no-later-trans p (inr (sooner-longer z m))) (stage-closed x) (reach-walk r)
-            (reach-node r) y);
+            (goal-past (s .queue) (λ m. NoLater (t ∷ l) m) (λ m z p. no-later-trans p (inr (sooner-longer z m))) (stage-closed x) (reach-walk (y .walk))
+            (reach-node (y .walk)) (y .met));
       }
 
 -- With every group done, no walk leads to a goal.
-pub no-goal : {g : Graph} {ms q : List ℕ} {tail a : ℕ} → Between g ms q tail a → tail ≤ a → Without g
-no-goal s h n v r e =
-    goal-past (s .queue) (λ m. ⊥) (λ m c z. z) (λ i w l m u x y d. inl (s .done i w (omega arith) d)) (reach-walk r) (reach-node r) e
+pub no-goal : {g : Graph} {ms q : List ℕ} {tail a : ℕ} → Between g ms q tail a → tail ≤ a → NoGoal g
+no-goal s h n y =
+    goal-past (s .queue) (λ m. ⊥) (λ m c z. z) (λ i w l m u x y d. inl (s .done i w (omega arith) d)) (reach-walk (y .walk)) (reach-node (y .walk)) (y .met)

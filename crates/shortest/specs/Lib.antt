@@ -1,4 +1,3 @@
-pub mod Answer
 pub mod Backward
 pub mod Contracts
 pub mod Depth

@@ -7,13 +7,13 @@ use native.Mathlib.Numerals.{add-one}
 use native.Mathlib.Omega.{arith}
 use lib.ListN.{length, getD, drop, set, replicate, length-set, length-reverse, length-replicate, getD-replicate, List·getD-eq-default}
 use lib.Seq.{drop-cons, drop-set-lt, getD-set-same}
+use Rattle.graph.specs.Goals.{NoGoal}
 use Rattle.places.specs.declared.Pair.{Pair}
 use Rattle.places.specs.Flat.{Laid, pairGraph}
 use Rattle.places.specs.Roots.{Numbered}
 use Rattle.shortest.specs.declared.Exploration.{Exploration}
 use Rattle.shortest.specs.declared.Exploration.the-variants.{Goal as Reached, Exhausted}
 use Rattle.shortest.specs.declared.Search.the-variants.{Nothing}
-use Rattle.shortest.specs.Answer.{Without}
 use Rattle.shortest.specs.Contracts.{PlacesOf, GoalNext, Explored, reached, exhausted, Seeded, Clear, Message, Answers, nothing}
 use Rattle.shortest.specs.Depth.{Depth, HasDepth, label-depth, depth-unique}
 use Rattle.shortest.specs.Entries.{entryOf, nodeOf, fromOf, node-entry, from-entry}
@@ -84,7 +84,7 @@ module _ {f q : List ℕ} where
   was-reached {a} {x} (reached {a = b} {x = y} m) e = let z : b ≡ a = cc in let w : y ≡ x = cc in rw (z, w) at m
   was-reached (exhausted h) e = let z : _≡_ {A = ℕ} 0 1 = cc in absurd (omega arith)
 
-  was-exhausted : {r : Exploration} → Explored f q r → r ≡ Exhausted → Without (pairGraph f)
+  was-exhausted : {r : Exploration} → Explored f q r → r ≡ Exhausted → NoGoal (pairGraph f)
   was-exhausted (reached m) e = let z : _≡_ {A = ℕ} 0 1 = cc in absurd (omega arith)
   was-exhausted (exhausted h) e = h
 
