@@ -1,0 +1,5 @@
+pub mod Printed
+pub mod Decimals
+pub mod Lengths
+pub mod Puts
+pub mod Examples
