@@ -1,3 +1,9 @@
+-- Each test that fails refutes a part; where the others hold, the room decides.
+use mathlib.Core.Path.{sym}
+use native.Mathlib.Omega.{arith}
+use lib.Seq.{length-take-le}
+use Rattle.table.specs.Exactly.{exactly-false}
+use Rattle.printing.specs.Rooms.{same-lengths, no-symbols, room-left}
 use borrow.Author.Needs.{needs}
 use Rattle.printing.proofs.printable.Statement.{statement}
 use Rattle.printing.proofs.printable.Tie as tie
@@ -7,41 +13,33 @@ use Rattle.printing.proofs.Lengths.fit.Reads as fit-reads
 use Rattle.printing.proofs.all_symbols.Reads as all-symbols-reads
 use Rattle.printing.proofs.shown.Reads as shown-reads
 
--- src/lib.rt:99:9
 shown-requires : tie.Need-shown-requires
 shown-requires c κs = search needs
 
--- src/lib.rt:102:9
 returns : tie.Need-returns
-returns c = ?
+returns c = exactly-false (λ p. omega (arith, same-lengths (c .before .shown .ensures)))
 
--- src/lib.rt:105:9
 returns-2 : tie.Need-returns-2
-returns-2 c = ?
+returns-2 c = exactly-false (λ p. omega (arith, same-lengths (c .before .before .before .shown .ensures)))
 
--- src/lib.rt:108:9
 returns-3 : tie.Need-returns-3
-returns-3 c = ?
+returns-3 c = exactly-false (λ p. omega (arith, same-lengths (c .before .before .before .before .before .shown .ensures)))
 
--- src/lib.rt:110:20
 slice-aggregate-all-symbols : tie.Need-slice-aggregate-all-symbols
-slice-aggregate-all-symbols c = ?
+slice-aggregate-all-symbols c = sym (length-take-le _ _ (omega arith))
 
--- src/lib.rt:110:8
 all-symbols-requires : tie.Need-all-symbols-requires
 all-symbols-requires c κs = search needs
 
--- src/lib.rt:111:9
 fit-requires : tie.Need-fit-requires
 fit-requires c κs = search needs
 
--- src/lib.rt:96:1
 returns-4 : tie.Need-returns-4
-returns-4 c = ?
+returns-4 c = let n = c .before .before .before .before .before .before .before .before .before .shown in
+    room-left _ _ _ _ _ (n .result) (n .ensures) (omega arith) (omega arith) (omega arith) (c .before .before .all-symbols .ensures .yes (c .before .if4 .taken)) (c .fit .ensures)
 
--- src/lib.rt:96:1
 returns-5 : tie.Need-returns-5
-returns-5 c = ?
+returns-5 c = no-symbols _ _ _ _ _ _ (c .before .before .before .before .before .before .before .before .shown .ensures) (c .before .all-symbols .ensures .no (c .if4 .left))
 
 pub printable-spec : {M : Type 1} → statement M
 printable-spec =
