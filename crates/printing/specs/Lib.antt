@@ -5,4 +5,5 @@ pub mod Fields
 pub mod Lengths
 pub mod Prints
 pub mod Rooms
+pub mod Results
 pub mod Examples

@@ -46,6 +46,10 @@ sets-all text o p at i h k e =
     let same : i ≡ length text = omega arith in
     record { end = omega arith; out = e ∙ rw (same, take-length text) }
 
--- A text put at the start of a buffer that has room for it.
-pub puts-whole : {r : ℕ} {text o p : List ℕ} → Puts 0 text o p r → length text ≤ length o → (r ≡ length text) × (p ≡ written text o)
-puts-whole {r} {text} {o} {p} f h = (omega (arith, f .end), f .out ∙ sets-eq text o 0 (omega arith) ∙ rw zero-add)
+-- The text stands at the start of the buffer, and r is its length.
+pub record Starts (text o o′ : List ℕ) (r : ℕ) : Type 0 where
+  pub count : r ≡ length text
+  pub out : o′ ≡ written text o
+
+pub starts : {r : ℕ} {text o p : List ℕ} → Puts 0 text o p r → length text ≤ length o → Starts text o p r
+starts {r} {text} {o} {p} f h = record { count = omega (arith, f .end); out = f .out ∙ sets-eq text o 0 (omega arith) ∙ rw zero-add }

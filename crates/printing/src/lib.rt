@@ -3,20 +3,24 @@
 pub mod puts;
 
 use code::Judgement;
+use code::SymbolCount;
 use code::Verdict;
 use code::Word;
+use code::WordCount;
 use puts::put;
 use puts::put_decimal;
 use puts::put_digits;
 use puts::put_reading;
 ghost use mathlib.Core.Path.{_≡_};
-ghost use mathlib.Core.List.{[], _∷_, _++_};
+ghost use mathlib.Core.List.{[], _∷_, _++_, map};
 ghost use Prim.Native.Nat.{ℕ, _+_, _≤_, _<_};
 ghost use lib.ListN.{length, getD};
+ghost use Rattle.code.specs.declared.Verdict.the-variants.{Ambiguous};
 ghost use Rattle.code.specs.declared.Judgement.the-variants.{Judged};
+ghost use Rattle.table.specs.Digits.{digitOf};
 ghost use Rattle.table.specs.Exactly.{Exactly};
-ghost use Rattle.printing.specs.Printed.{decimal, printed};
-ghost use Rattle.printing.specs.Puts.{Puts};
+ghost use Rattle.printing.specs.Printed.{decimal, recordOf, ambiguous};
+ghost use Rattle.printing.specs.Puts.{Puts, Starts};
 ghost use Rattle.printing.specs.Prints.{lengthsOf, needed, Symbols, Printable, result, Prints};
 
 // How much of the verdict's three buffers a judgement shows: symbols of the message, words of the first reading and of the second.
@@ -111,5 +115,105 @@ fn printable(judgement: Judgement, message: &[u8], first: &[u8], second: &[u8], 
         lengths.fit(size)
     } else {
         false
+    }
+}
+
+// A record of a word, which ends with its comma, and a number.
+fn put_pair(word: &[u8], number: u64, out: &mut [u8]) -> usize
+    requires { ⌜ length (now word) + 22 ≤ length (now out) ⌝ }
+    ensures { λ r. ⌜ Starts (now (word .entry) ++ decimal number ++ (13 ∷ 10 ∷ [])) (now (out .entry)) (now (out .exit)) r ⌝ }
+{
+    let comma = put(out, 0, word);
+    let end = put_decimal(out, comma, number);
+    put(out, end, b"\r\n")
+}
+
+// The record of an ambiguous message.
+fn put_message(message: &[u8], out: &mut [u8]) -> usize
+    requires { ⌜ (length (now message) + 12 ≤ length (now out)) × Symbols (now message) ⌝ }
+    ensures { λ r. ⌜ Puts 0 (recordOf (ambiguous ∷ map digitOf (now (message .entry)) ∷ [])) (now (out .entry)) (now (out .exit)) r ⌝ }
+{
+    let comma = put(out, 0, b"ambiguous,");
+    let end = put_digits(out, comma, message);
+    put(out, end, b"\r\n")
+}
+
+// The records of a message, of its earlier reading and of its later one.
+fn put_ambiguous(
+    symbols: SymbolCount,
+    earlier: WordCount,
+    later: WordCount,
+    message: &[u8],
+    first: &[u8],
+    second: &[u8],
+    out: &mut [u8],
+) -> usize
+    requires { ⌜ Printable (Judged (Ambiguous symbols earlier later)) (now message) (now first) (now second) (length (now out)) ⌝ }
+    ensures { λ r. ⌜ Starts (result (Judged (Ambiguous symbols earlier later)) (now (message .entry)) (now (first .entry)) (now (second .entry))) (now (out .entry)) (now (out .exit)) r ⌝ }
+{
+    let m = symbols.0;
+    let f = earlier.0;
+    let g = later.0;
+    let line = put_message(&message[..m], out);
+    let next = put_reading(out, line, &first[..f]);
+    put_reading(out, next, &second[..g])
+}
+
+fn put_verdict(
+    verdict: Verdict,
+    message: &[u8],
+    first: &[u8],
+    second: &[u8],
+    out: &mut [u8],
+) -> usize
+    requires { ⌜ Printable (Judged verdict) (now message) (now first) (now second) (length (now out)) ⌝ }
+    ensures { λ r. ⌜ Starts (result (Judged verdict) (now (message .entry)) (now (first .entry)) (now (second .entry))) (now (out .entry)) (now (out .exit)) r ⌝ }
+{
+    match verdict {
+        Verdict::Ambiguous(symbols, earlier, later) => put_ambiguous(
+            symbols,
+            earlier,
+            later,
+            message,
+            first,
+            second,
+            out,
+        ),
+        Verdict::Finite(delay) => put_pair(b"decipherable,", delay.0 as u64, out),
+        Verdict::Unbounded => put(out, 0, b"decipherable,unbounded\r\n"),
+    }
+}
+
+fn put_result(
+    judgement: Judgement,
+    message: &[u8],
+    first: &[u8],
+    second: &[u8],
+    out: &mut [u8],
+) -> usize
+    requires { ⌜ Printable judgement (now message) (now first) (now second) (length (now out)) ⌝ }
+    ensures { λ r. ⌜ Starts (result judgement (now (message .entry)) (now (first .entry)) (now (second .entry))) (now (out .entry)) (now (out .exit)) r ⌝ }
+{
+    match judgement {
+        Judgement::Judged(verdict) => put_verdict(verdict, message, first, second, out),
+        Judgement::Refused(refusal) => put_pair(b"refused,", refusal.number() as u64, out),
+    }
+}
+
+// Prints a judgement at the start of `out`, with the message and the two readings at the start of the verdict's buffers, and gives the number of
+// bytes. Where a buffer is shorter than what the judgement shows of it, or an entry is no symbol, or `out` has no room, it prints nothing and gives 0.
+pub fn print_result(
+    judgement: Judgement,
+    message: &[u8],
+    first: &[u8],
+    second: &[u8],
+    out: &mut [u8],
+) -> usize
+    ensures { λ r. ⌜ Prints judgement (now (message .entry)) (now (first .entry)) (now (second .entry)) (now (out .entry)) (now (out .exit)) r ⌝ }
+{
+    if printable(judgement, message, first, second, out.len()) {
+        put_result(judgement, message, first, second, out)
+    } else {
+        0
     }
 }
