@@ -1,0 +1,3 @@
+// The operations for C and for Rust.
+
+pub mod image;
