@@ -4,3 +4,6 @@ pub mod Blocks
 pub mod Packing
 pub mod Unpacking
 pub mod RoundTrip
+pub mod Answers
+pub mod Calls
+pub mod Ways

@@ -1,3 +1,67 @@
-// The operations for C and for Rust.
+// The operations for C and for Rust. A table crosses as its image, a flat run of bytes; an answer crosses as the number returned, 0 for a result or the
+// refusal's, and as entries of a lent buffer. include/furlazon.h declares these functions for C.
 
+pub mod answers;
 pub mod image;
+
+use answers::Entries;
+use answers::number;
+use answers::put_encoding;
+use code::Refusal;
+use code::SheetAnswer;
+use image::Image;
+use image::pack;
+use image::unpack;
+ghost use lib.ListN.{length};
+ghost use Rattle.table.specs.Exactly.{Exactly};
+ghost use Rattle.capi.specs.Calls.{Short, TakesIn, EncodeCall};
+
+// Whether an image or an answer, by their lengths, is too short.
+fn is_short(image: usize, answer: usize, entries: usize) -> bool
+    ensures { λ r. ⌜ Exactly r (Short image answer entries) ⌝ }
+{
+    if image < Image::LENGTH {
+        return true;
+    }
+    answer < entries
+}
+
+// Takes in a sheet. 0: accepted, and the table's image stands at the start of `table`. Else the refusal's number, and `table` is as it was.
+#[no_mangle]
+pub extern "C" fn furlazon_take_in(sheet: &[u8], table: &mut [u8]) -> u64
+    ensures { λ r. ⌜ TakesIn (now (sheet .entry)) (now (table .entry)) (now (table .exit)) r ⌝ }
+{
+    if table.len() < Image::LENGTH {
+        return number(Refusal::ShortBuffer);
+    }
+    let taken = sheet::take_in(sheet);
+    let answer = taken.answer;
+    match answer {
+        SheetAnswer::Accepted => {
+            let code = taken.code;
+            pack(code, table);
+            0
+        }
+        SheetAnswer::Refused(r) => number(r),
+    }
+}
+
+// Encodes a sequence of word numbers. 0: the message stands at the start of `message`, and its length in the first entry of `answer`. Else the
+// refusal's number, and both are as they were.
+#[no_mangle]
+pub extern "C" fn furlazon_encode(
+    table: &[u8],
+    words: &[u8],
+    message: &mut [u8],
+    answer: &mut [u64],
+) -> u64
+    ensures { λ r. ⌜ EncodeCall (now (table .entry)) (now (words .entry)) (now (message .entry)) (now (answer .entry))
+        (now (message .exit)) (now (answer .exit)) r ⌝ }
+{
+    if is_short(table.len(), answer.len(), Entries::ENCODING) {
+        return number(Refusal::ShortBuffer);
+    }
+    let code = unpack(table);
+    let e = encoding::encode(code, words, message);
+    put_encoding(e, answer)
+}
