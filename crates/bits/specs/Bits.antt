@@ -3,7 +3,7 @@
 use mathlib.Core.Path.{_≡_, refl}
 use mathlib.Core.Bool.{Bool, true, false}
 use mathlib.Core.List.{List}
-use Prim.Native.Nat.{ℕ, zero, suc, _+_, _-_, _*_, _/_, _%_, _^_, _≤_, _<_}
+use Prim.Native.Nat.{ℕ, zero, suc, _+_, _-_, _*_, _/_, _%_, _^_, _<_}
 use native.Mathlib.Decide.{decLt, ℕ-discrete}
 use native.Mathlib.Nat.{mod-eq-of-lt, one-mul, div-eq-of-lt, div-self, mul-div-cancel-left, mul-mod-left, zero-div, zero-mod, pow-suc}
 use native.Mathlib.Omega.{arith}
@@ -13,9 +13,11 @@ use lib.ListN.{length, getD, set, replicate, length-set, length-replicate, getD-
 use lib.Pow.{pow-lt, pow-pos, pow-add}
 use lib.Seq.{getD-set-same, getD-set-other}
 
+-- Bit k of a number: its binary digit at place k is 1.
 unfoldable pub bitOf : ℕ → ℕ → Bool
 bitOf x k = eqb (x / 2 ^ k % 2) 1
 
+-- Bit b of the table.
 unfoldable pub bitAt : List ℕ → ℕ → Bool
 bitAt work b = bitOf (getD work (b / 64) 0) (b % 64)
 
@@ -40,6 +42,7 @@ power-digit j k ne = by (decLt j k)
     by (yes h) = rw (div-eq-of-lt (pow-lt h)) (zero-mod 2)
     by (no h) = let e : k + suc (j - k - 1) ≡ j = omega arith in rw e at (below (j - k - 1))
 
+-- `or` with a power of two turns its bit on, and leaves every other bit as it was.
 or-same : (x k : ℕ) → bitOf (bitOr x (2 ^ k)) k ≡ true
 unfolding bitOf
 or-same x k = rw (or-shr x (2 ^ k) k, div-self (pow-pos k), or-mod (x / 2 ^ k) 1 1) (by (x / 2 ^ k % 2) (omega arith))
@@ -53,10 +56,14 @@ or-other : (x j k : ℕ) → (k ≡ j → ⊥) → bitOf (bitOr x (2 ^ j)) k ≡
 unfolding bitOf
 or-other x j k ne = rw (or-shr x (2 ^ j) k, or-mod (x / 2 ^ k) (2 ^ j / 2 ^ k) 1, power-digit j k ne, or-zero-r)
 
--- `or` with a power of two in the entry of bit b turns it on.
+-- Where the entry of bit b is changed so, bit b of the table is on and every other bit as it was.
 pub set-bit : (old : List ℕ) (b : ℕ) → b < 64 * length old → SetBit old b (set old (b / 64) (bitOr (getD old (b / 64) 0) (2 ^ (b % 64))))
 unfolding bitAt
-set-bit old b h = record { long = simp length-set; on = rw (getD-set-same old (b / 64) new 0 (omega arith)) (or-same entry (b % 64)); others = λ k ne. by k ne (ℕ-discrete (k / 64) (b / 64)) }
+set-bit old b h = record {
+  long = simp length-set;
+  on = rw (getD-set-same old (b / 64) new 0 (omega arith)) (or-same entry (b % 64));
+  others = λ k ne. by k ne (ℕ-discrete (k / 64) (b / 64));
+}
   where
     entry : ℕ
     entry = getD old (b / 64) 0
@@ -68,6 +75,7 @@ set-bit old b h = record { long = simp length-set; on = rw (getD-set-same old (b
     by k ne (yes e) = rw (e, getD-set-same old (b / 64) new 0 (omega arith)) (or-other entry (b % 64) (k % 64) (λ q. ne (omega arith)))
     by k ne (no n) = rw (getD-set-other old (b / 64) (k / 64) new 0 n)
 
+-- A read from a list of zeros, also past its end, gives zero.
 zero-at : (n i : ℕ) → getD {A = ℕ} (replicate n 0) i 0 ≡ 0
 zero-at n i = by (decLt i n)
   where

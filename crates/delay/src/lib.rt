@@ -1,5 +1,6 @@
-// The longest walk over the pairs of a code, from which its delay follows: a depth-first search with heights. Every pair has a mark in a
-// list of marks and, while the search goes through its successors, an entry on a stack; the caller lends both.
+// The longest walk over the pairs of a code, from which its delay follows: a depth-first search with heights. Every pair has a mark and,
+// while the search goes through its successors, an entry on the stack; the caller lends both buffers. A slot of a pair is looked up at most
+// three times: when it is reached, when the search returns from where it leads, and for the height.
 
 use places::Layout;
 use places::Pair;
@@ -27,7 +28,8 @@ enum Progress {
     Cycle,
 }
 
-// The mark of a pair: 0 before the search meets it; while it is on the stack, 1 and its next slot; then `FINISHED` and its height.
+// The mark of a pair is 0 before the search meets it, 1 more than its next slot while it is on the stack, and `FINISHED` more than its
+// height after that.
 struct Mark {}
 
 impl Mark {

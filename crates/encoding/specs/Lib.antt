@@ -1,5 +1,4 @@
 pub mod Messages
-pub mod Words
 pub mod Passes
 pub mod Ways
 pub mod Permitted

@@ -16,7 +16,7 @@ use Rattle.code.specs.Definitions.Operations.{HasUnknown, HasForbidden, written
 use Rattle.table.specs.Exactly.{Exactly, exactly-true, exactly-false}
 use Rattle.table.specs.WellFormed.{WordFits, WellFormed}
 use Rattle.encoding.specs.Messages.{messageOf, message-more, message-all, message-part}
-use Rattle.encoding.specs.Words.{size-count, word-symbols, word-length}
+use Rattle.table.specs.Words.{size-count, word-symbols, word-length}
 
 -- Refusal 9: the entries passed are words.
 

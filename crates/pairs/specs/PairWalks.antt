@@ -7,6 +7,7 @@ use Prim.Native.Nat.{ℕ, _+_, _*_, _<_, min, max}
 use native.Mathlib.Decide.{decLt}
 use native.Mathlib.Omega.{arith}
 use Rattle.code.specs.Definitions.Tables.{Table, size}
+use Rattle.graph.specs.Goals.{GoalBy}
 use Rattle.graph.specs.Graph.{Reach, start, onward}
 use Rattle.places.specs.Flat.{firstAt, slotsOf, pairGraph}
 use Rattle.places.specs.Flat as Flat
@@ -16,7 +17,6 @@ use Rattle.places.specs.Whole.{LaidOut}
 use Rattle.theory.specs.Pairs.{compatible-reached, compatible-same, compatible-is}
 use Rattle.theory.specs.Paths.{first-is, step-is}
 use Rattle.theory.specs.Places.{Place, symbol, Is, Compatible, FirstPair, CommonStep, Reached, start as begin, onward as on}
-use Rattle.theory.specs.Searches.{GoalBy}
 use Rattle.pairs.specs.Numbers.{number, Way, inner, outer, number-below, number-symbol, number-first, step-way}
 
 -- the node of two places, in either order

@@ -8,6 +8,7 @@ use Prim.Native.Nat.{ℕ, _/_, _%_}
 use native.Mathlib.Omega.{arith}
 use lib.ListN.{length, length-append}
 use Rattle.code.specs.Definitions.Tables.{Table}
+use Rattle.graph.specs.Goals.{GoalBy, GoalBefore, NoGoal, LeastGoal}
 use Rattle.graph.specs.Graph.{Reach, WalkOf}
 use Rattle.places.specs.Flat.{endAt, pairGraph}
 use Rattle.places.specs.Nodes.{node-goal}
@@ -15,7 +16,7 @@ use Rattle.places.specs.Whole.{LaidOut}
 use Rattle.theory.specs.Ambiguity.{LeastTwoEnds, at-most}
 use Rattle.theory.specs.Pairs.{compatible-same, compatible-is}
 use Rattle.theory.specs.Places.{Place, Ends, Compatible, NoTwoEnds, PairAfter}
-use Rattle.theory.specs.Searches.{GoalBy, GoalBefore, NoGoal, LeastGoal, PairAt, WalkTo, Shows, goal→ends, ends→goal, no-goal, least-goal}
+use Rattle.theory.specs.Searches.{PairAt, WalkTo, Shows, goal→ends, ends→goal, no-goal, least-goal}
 use Rattle.pairs.specs.Numbers.{ends-marked, marked-ends}
 use Rattle.pairs.specs.PairWalks.{GoalOnTheWay, nodeOf, place-node, pair-walk}
 use Rattle.pairs.specs.WalkPairs.{ReachesPair, walk-pair}

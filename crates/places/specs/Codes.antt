@@ -1,17 +1,18 @@
 -- The table of a well-formed code is within the limits, and the code's words and rows are the table's.
-use mathlib.Core.Path.{_≡_, refl, sym, ap, _∙_}
+use mathlib.Core.Path.{_≡_, refl, sym, ap}
 use mathlib.Core.List.{List}
 use Prim.Native.Nat.{ℕ, _+_, _≤_, _<_}
 use native.Mathlib.Decide.{decLt}
 use native.Mathlib.Omega.{arith}
-use lib.ListN.{getD, take, length-map, List·getD-map, List·getD-eq-default}
-use lib.Seq.{length-take-le, getD-take}
+use lib.ListN.{getD, List·getD-eq-default}
+use lib.Seq.{getD-take}
 use Rattle.code.specs.declared.Code.{Code}
 use Rattle.code.specs.Definitions.Lists.{table, sum}
 use Rattle.code.specs.Definitions.Sheets.{limits}
-use Rattle.code.specs.Definitions.Tables.{size, word, symbolsOf, noWord, noRow, tableOf}
+use Rattle.code.specs.Definitions.Tables.{word, noWord, noRow, tableOf}
 use Rattle.code.specs.Laws.Lists.{table-same, sum-past}
 use Rattle.table.specs.WellFormed.{lenOf, WellFormed}
+use Rattle.table.specs.Words.{size-count, word-symbols, word-length}
 use Rattle.places.specs.Bases.{base-more, base-before}
 use Rattle.places.specs.Lays.{lengthOf, base}
 use Rattle.places.specs.Layouts.{LaysTo, Holds, lays-more}
@@ -19,30 +20,18 @@ use Rattle.places.specs.Whole.{Fits}
 use Rattle.places.specs.Words.{Room, WordLaid}
 
 module _ (c : Code) (well : WellFormed limits c) where
-  -- The table has `count` words.
-  pub size-count : size (tableOf c) ≡ c .count
-  size-count = length-map (take (c .count) (c .words)) symbolsOf ∙ length-take-le (c .count) (c .words) (omega (arith, well .most, well .words))
-
-  pub word-symbols : (x : ℕ) → x < c .count → word (tableOf c) x ≡ symbolsOf (getD (c .words) x noWord)
-  word-symbols x h = List·getD-map symbolsOf (take (c .count) (c .words)) x noWord ∙ ap symbolsOf (getD-take (c .count) (c .words) x noWord h)
-
-  pub word-length : (x : ℕ) → x < c .count → lengthOf (tableOf c) x ≡ lenOf c x
-  word-length x h =
-      let w = well .word x (omega (arith, well .most)) in
-      rw (word-symbols x h) (length-take-le (lenOf c x) (getD (c .words) x noWord .symbols) (omega (arith, w .short, w .array)))
-
   pub holds : (x : ℕ) → x < c .count → Holds (tableOf c) x (getD (c .words) x noWord) (getD (c .rows) x noRow)
   holds x h =
-      let len = word-length x h in
+      let len = word-length well x h in
       record {
         len = sym len;
-        symbols = λ k l. rw (word-symbols x h) (sym (getD-take (lenOf c x) (getD (c .words) x noWord .symbols) k 0 (omega arith)));
+        symbols = λ k l. rw (word-symbols well x h) (sym (getD-take (lenOf c x) (getD (c .words) x noWord .symbols) k 0 (omega arith)));
         follow = λ y l. refl;
       }
 
   pub base-sum : (x : ℕ) → x ≤ c .count → base (tableOf c) x ≡ sum (table (lenOf c) x)
   unfolding base
-  base-sum x h = ap sum (table-same (lengthOf (tableOf c)) (lenOf c) x (λ k l. word-length k (omega arith)))
+  base-sum x h = ap sum (table-same (lengthOf (tableOf c)) (lenOf c) x (λ k l. word-length well k (omega arith)))
 
   total : base (tableOf c) (c .count) ≤ 128
   total = omega (arith, base-sum (c .count) (omega arith), sum-past (lenOf c) (c .count) 32 (well .most) (λ k h b. well .word k b .unused h), well .total)
@@ -54,13 +43,13 @@ module _ (c : Code) (well : WellFormed limits c) where
   -- The table is within the limits.
   pub code-fits : Fits (tableOf c)
   code-fits =
-      let n = size-count in
+      let n = size-count well in
       record {
         one = omega (arith, well .one);
         most = omega (arith, well .most);
-        some = λ x h. omega (arith, word-length x (omega arith), well .word x (omega (arith, well .most)) .some (omega arith));
+        some = λ x h. omega (arith, word-length well x (omega arith), well .word x (omega (arith, well .most)) .some (omega arith));
         low = λ x k h. by-symbol x k (omega arith) (decLt k (lengthOf (tableOf c) x));
-        total = rw size-count total;
+        total = rw (size-count well) total;
       }
 
   module _ (x at : ℕ) (f : List ℕ) (h : x < c .count) (start : at ≡ base (tableOf c) x) (old : LaysTo (tableOf c) x f) where
@@ -73,19 +62,19 @@ module _ (c : Code) (well : WellFormed limits c) where
           known = omega (arith, well .most);
           some = w .some h;
           short = w .short;
-          places = omega (arith, base-before (tableOf c) x (c .count) h, word-length x h, total);
+          places = omega (arith, base-before (tableOf c) x (c .count) h, word-length well x h, total);
           symbols = w .array;
           entries = well .row x (omega (arith, well .most)) .array;
         }
 
     -- The next word starts where this one ends.
     pub next-start : at + lenOf c x ≡ base (tableOf c) (x + 1)
-    next-start = omega (arith, base-more (tableOf c) x, word-length x h)
+    next-start = omega (arith, base-more (tableOf c) x, word-length well x h)
 
     -- Laying out word x after those before it lays out the first x + 1.
     pub next-lays : (g : List ℕ) → WordLaid at x (getD (c .words) x noWord) (getD (c .rows) x noRow) f g → LaysTo (tableOf c) (x + 1) g
     next-lays g laid =
-        let n = size-count in
+        let n = size-count well in
         lays-more (tableOf c) x (getD (c .words) x noWord) (getD (c .rows) x noRow)
         (rw start at laid)
         (holds x h)

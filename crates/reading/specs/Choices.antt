@@ -12,8 +12,8 @@ use lib.ListN.{length}
 use Rattle.bits.specs.Bits.{bitAt}
 use Rattle.table.specs.Exactly.{Exactly, exactly-true, exactly-false}
 use Rattle.reading.specs.Firsts.{by-order}
-use Rattle.reading.specs.Text.{Text, Bounded, From, done, word, Can, Begins, Opens, Lowest, Highest, Next}
-use Rattle.reading.specs.Flat.{stride, mayAfter, text}
+use Rattle.reading.specs.Text.{Text, From, done, word, Can, Begins, Opens, opens-of, open-word, Lowest, Highest, Next}
+use Rattle.reading.specs.Flat.{stride, mayAfter, flatText, text}
 use Rattle.reading.specs.Marks.{bitOfWord, Marked}
 
 -- Word x has its bit on at position p, and may come after y.
@@ -25,6 +25,7 @@ pub record Asks (work follow : List ℕ) (n p y : ℕ) : Type 0 where
   pub small : n ≤ stride
   pub matrix : n * stride ≤ length follow
   pub room : p < length work
+  -- so that the number of a bit fits 64 bits
   pub near : p < 2 ^ 32
   pub last : y ≤ n
 
@@ -67,26 +68,23 @@ sought-continues {work} {follow} {n} {end} {p} {y} {r} ne s = by (decLt r n)
     by (no h) = rw (le-ltb r n (omega arith)) (exactly-false (not-yet (omega arith)))
 
 opens-can : {K : Text} {p y x : ℕ} → Opens K p y x → Can K p y
-opens-can {x = x} o = record { rest = x ∷ o .begins .after .rest; reads = word (o .begins .here) (o .after) (o .begins .after .reads) }
+opens-can {x = x} o = record { rest = x ∷ o .begins .after .rest; reads = open-word o (o .begins .after .reads) }
 
 module _ {K : Text} {work follow : List ℕ} {n p : ℕ} (tells : Tells K work follow n p) where
+  -- The bits let the message be read on just where it can be.
   pub continues-can : {y : ℕ} → Continues work follow n (K .end) p y → Can K p y
   continues-can (at-end e) = record { rest = []; reads = done e }
   continues-can {y} (by-word x h u) = opens-can (tells .opens y x h u)
 
   reads-continues : {y : ℕ} {s : List ℕ} → From K p y s → Continues work follow n (K .end) p y
   reads-continues (done e) = at-end e
-  reads-continues {y} (word {x = x} {s = t} g m f) = by-word x (tells .known y x o) (tells .uses y x o)
-    where
-      o : Opens K p y x
-      o = record { begins = record { here = g; after = record { rest = t; reads = f } }; after = m }
+  reads-continues {y} (word {x = x} g m f) = let o = opens-of g m f in by-word x (tells .known y x o) (tells .uses y x o)
 
   pub can-continues : {y : ℕ} → Can K p y → Continues work follow n (K .end) p y
   can-continues c = reads-continues (c .reads)
 
-  module _ {y from r : ℕ} (s : Sought work follow n p y from r) where
-    sought-none : (z : ℕ) → from ≤ z → z < r → Opens K p y z → ⊥
-    sought-none z a b o = false≢true (sym (s .none z a b) ∙ tells .uses y z o)
+  sought-none : {y from r : ℕ} → Sought work follow n p y from r → (z : ℕ) → from ≤ z → z < r → Opens K p y z → ⊥
+  sought-none {y} s z a b o = false≢true (sym (s .none z a b) ∙ tells .uses y z o)
 
   -- Where the message can be read on before its end, some word is found.
   pub sought-some : {y r : ℕ} → Sought work follow n p y 0 r → p < K .end → Can K p y → r < n
@@ -96,9 +94,11 @@ module _ {K : Text} {work follow : List ℕ} {n p : ℕ} (tells : Tells K work f
       by (at-end e) = absurd (omega arith)
       by (by-word x k u) = by-order x r (λ b. absurd (false≢true (sym (s .none x (omega arith) b) ∙ u))) (λ e. omega arith) (λ b. omega arith)
 
+  -- The word found from 0 on is the lowest that opens a reading.
   pub sought-lowest : {y r : ℕ} → Sought work follow n p y 0 r → r < n → Lowest K p y r
   sought-lowest {y} {r} s h = record { opens = tells .opens y r h (s .is h); low = λ z b o. sought-none s z (omega arith) b o }
 
+  -- The word found above x is the next that does; where none is found, none does.
   pub sought-next : {y x z : ℕ} → Sought work follow n p y (x + 1) z → z < n → Next K p y x z
   sought-next {y} {x} {z} s h = record {
     above = omega (arith, s .low);
@@ -109,12 +109,19 @@ module _ {K : Text} {work follow : List ℕ} {n p : ℕ} (tells : Tells K work f
   pub sought-highest : {y x z : ℕ} → Sought work follow n p y (x + 1) z → n ≤ z → Highest K p y x
   sought-highest {y} s h v a o = sought-none s v (omega arith) (omega (arith, tells .known y v o)) o
 
+-- Bits that are on just where a word begins are right.
+pub tells-where : (base : List ℕ) {follow work : List ℕ} {n end p : ℕ} {stands : ℕ → ℕ → Type 0}
+    → ((x : ℕ) → x < n → bitAt work (bitOfWord p x) ≡ true → Begins (flatText base follow n stands end) p x)
+    → ((x : ℕ) → Begins (flatText base follow n stands end) p x → bitAt work (bitOfWord p x) ≡ true)
+    → Tells (flatText base follow n stands end) work follow n p
+unfolding usable
+tells-where base {follow} {work} {n} {end} {p} sound full = record {
+  opens = λ y x k u. let b = and-eq-true-iff (bitAt work (bitOfWord p x)) (mayAfter follow n x y) .0 u in record { begins = sound x k (b .0); after = b .1 };
+  known = λ y x o. o .begins .here .0;
+  uses = λ y x o. rw (full x (o .begins)) (o .after);
+}
+
 -- Marks that reach down to position p tell of it.
 pub marked-tells : {symbols base follow m work : List ℕ} {n b : ℕ} (p : ℕ) → n ≤ stride → Marked (text symbols base follow n m) work b → b ≤ p * stride
     → Tells (text symbols base follow n m) work follow n p
-unfolding usable
-marked-tells {follow = follow} {work = work} {n = n} p small m h = record {
-  opens = λ y x k u. let b = and-eq-true-iff (bitAt work (bitOfWord p x)) (mayAfter follow n x y) .0 u in record { begins = m .sound p x (omega arith) (omega arith) (b .0); after = b .1 };
-  known = λ y x o. o .begins .here .0;
-  uses = λ y x o. rw (m .full p x (omega arith) (o .begins)) (o .after);
-}
+marked-tells {base = base} p small m h = tells-where base (λ x k. m .sound p x (omega arith) (omega arith)) (λ x. m .full p x (omega arith))

@@ -1,9 +1,9 @@
 -- What reading by flat lists promises, for every table that they hold, and how marks and walks give it.
 use mathlib.Core.Path.{_≡_}
 use mathlib.Core.List.{List}
-use Prim.Native.Nat.{ℕ, _<_}
+use Prim.Native.Nat.{ℕ}
 use native.Mathlib.Omega.{arith}
-use lib.ListN.{length, replicate}
+use lib.ListN.{length}
 use Rattle.code.specs.declared.Reading.{Reading}
 use Rattle.code.specs.declared.Reading.the-variants.{One, Two, Refused}
 use Rattle.code.specs.declared.Refusal.the-variants.{NoReading as Unreadable}
@@ -34,9 +34,11 @@ pub record ReadsFlat (symbols base follow : List ℕ) (n : ℕ) (m f g w f′ g�
   pub work : w′ ≡ zeroed w
 
 module _ {symbols base follow m : List ℕ} {n : ℕ} where
+  -- A clear table is marked from the end on.
   pub clear-marked : {work new : List ℕ} → Ready symbols base follow n m work → new ≡ zeroed work → Marked (text symbols base follow n m) new (bitOfWord (length m) 0)
   clear-marked {work} r e = rw e (marked-none (flat-bounded (r .flat) m) (λ p x s. omega (arith, s .0, r .flat .shaped .small)) (length work))
 
+  -- Full marks can be walked.
   pub marked-walkable : {work : List ℕ} → Ready symbols base follow n m work → Marked (text symbols base follow n m) work 0 → Walkable base follow work n (length m)
   marked-walkable r k = record { shaped = r .flat .shaped; long = r .long; near = r .near; sure = marked-sure (r .flat) k }
 

@@ -7,11 +7,12 @@ use native.Mathlib.Omega.{arith}
 use lib.Dec.{eqb}
 use lib.ListN.{length, take, drop, getD}
 use Rattle.code.specs.Definitions.Tables.{Table, size, word}
+use Rattle.code.specs.Definitions.Sheets.{limits}
 use Rattle.reading.specs.Text.{Text}
 
 -- The stride of the matrix and of the bits of a position: the limit on words.
 abbrev pub stride : ℕ
-stride = 32
+stride = limits .words
 
 -- the length of word x
 abbrev pub lengthAt : List ℕ → ℕ → ℕ
@@ -57,11 +58,15 @@ pub record Stands (symbols base m : List ℕ) (p x : ℕ) : Type 0 where
   pub within : p + lengthAt base x ≤ length m
   pub equal : take (lengthAt base x) (drop p m) ≡ wordAt symbols base x
 
+-- The words that flat lists give, where they stand in a message.
+abbrev pub flatText : (base follow : List ℕ) (n : ℕ) (stands : ℕ → ℕ → Type 0) (end : ℕ) → Text
+flatText base follow n stands end = record {
+  len = lengthAt base;
+  stands = λ p x. (x < n) × stands p x;
+  may = λ x y. mayAfter follow n x y ≡ true;
+  end = end;
+}
+
 -- The message m, read by the flat lists.
 abbrev pub text : (symbols base follow : List ℕ) (n : ℕ) (m : List ℕ) → Text
-text symbols base follow n m = record {
-  len = lengthAt base;
-  stands = λ p x. (x < n) × Stands symbols base m p x;
-  may = λ x y. mayAfter follow n x y ≡ true;
-  end = length m;
-}
+text symbols base follow n m = flatText base follow n (Stands symbols base m) (length m)

@@ -11,3 +11,5 @@ pub mod Shown
 pub mod Steps
 pub mod Answers
 pub mod Core
+pub mod Layout
+pub mod Public

@@ -2,13 +2,13 @@
 use mathlib.Core.Path.{_≡_}
 use mathlib.Core.Bool.{Bool}
 use mathlib.Core.List.{List}
-use Prim.Native.Nat.{ℕ, _+_, _-_, _*_, _^_, _≤_, _<_}
+use Prim.Native.Nat.{ℕ, _+_, _-_, _^_, _≤_, _<_}
 use native.Mathlib.Omega.{arith}
 use lib.ListN.{length}
 use Rattle.bits.specs.Bits.{SetBit}
 use Rattle.table.specs.Exactly.{Exactly}
 use Rattle.reading.specs.Text.{Text, Begins}
-use Rattle.reading.specs.Flat.{stride, lengthAt, Flat, Stands, text}
+use Rattle.reading.specs.Flat.{lengthAt, Flat, Stands, text}
 use Rattle.reading.specs.Marks.{bitOfWord, Marked, marked-on, marked-down}
 use Rattle.reading.specs.Choices.{Continues, Tells, continues-can, can-continues, marked-tells}
 
@@ -16,6 +16,7 @@ use Rattle.reading.specs.Choices.{Continues, Tells, continues-can, can-c
 pub record Ready (symbols base follow : List ℕ) (n : ℕ) (m work : List ℕ) : Type 0 where
   pub flat : Flat symbols base follow n
   pub long : length m < length work
+  -- so that the number of a bit fits 64 bits
   pub near : length m < 2 ^ 32
 
 pub ready-kept : {symbols base follow m work new : List ℕ} {n : ℕ} → Ready symbols base follow n m work → length new ≡ length work
@@ -44,6 +45,7 @@ module _ {symbols base follow m work : List ℕ} {n x : ℕ} (p : ℕ) (ready : 
     no = λ e b. d .no e (can-continues tells-after (b .after));
   }
 
+  -- Where it does not begin, its bit stays off; where it does, its bit is set.
   pub mark-off : (Begins (text symbols base follow n m) p x → ⊥) → Marked (text symbols base follow n m) work (bitOfWord p x)
   mark-off none = marked-down (bitOfWord p x) marked (omega arith) λ q z a b o. none (same q z a b o)
     where

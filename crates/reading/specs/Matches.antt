@@ -16,8 +16,15 @@ Alike a b p q j = take j (drop p a) ≡ take j (drop q b)
 
 pub alike-more : (a b : List ℕ) (p q j : ℕ) → p + j < length a → q + j < length b → Alike a b p q j → getD a (p + j) 0 ≡ getD b (q + j) 0
     → Alike a b p q (j + 1)
-alike-more a b p q j ha hb e s = rw (add-one, take-suc (drop p a) j 0 (rw length-drop (omega arith)), take-suc (drop q b) j 0 (rw length-drop (omega arith)),
-    getD-drop p a j 0, getD-drop q b j 0, e, s)
+alike-more a b p q j ha hb e s = rw (
+  add-one,
+  take-suc (drop p a) j 0 (rw length-drop (omega arith)),
+  take-suc (drop q b) j 0 (rw length-drop (omega arith)),
+  getD-drop p a j 0,
+  getD-drop q b j 0,
+  e,
+  s,
+)
 
 -- Where two symbols differ, the stretches do.
 pub not-alike : (a b : List ℕ) (p q j n : ℕ) → j < n → (getD a (p + j) 0 ≡ getD b (q + j) 0 → ⊥) → Alike a b p q n → ⊥

@@ -1,21 +1,20 @@
 -- Where flat lists hold a table, reading the message from its first position, after the start, is reading it by the table. The sequences from any position
 -- are compared: permitted, in order after the word before, and with the rest of the message.
 use mathlib.Core.Path.{_≡_, refl, sym, ap, _∙_}
-use mathlib.Core.Bool.{Bool, true, false, _||_}
-use mathlib.Core.List.{List, [], _∷_, _++_}
-use Prim.Native.Nat.{ℕ, _+_, _-_, _*_, _≤_, _<_}
-use native.Mathlib.Nat.{zero-add}
+use mathlib.Core.Bool.{true}
+use mathlib.Core.List.{List, [], _∷_}
+use Prim.Native.Nat.{ℕ, _+_, _≤_, _<_}
 use native.Mathlib.Omega.{arith}
 use borrow.Author.Tests.{eq-eqb, ne-eqb}
-use lib.Dec.{eqb}
-use lib.ListN.{length, take, drop, getD, length-append, length-drop, take-append-drop, drop-of-length-le}
+use lib.ListN.{length, drop, getD, length-append, length-drop, take-append-drop, drop-of-length-le}
 use lib.Seq.{length-take-le, take-at, drop-at, drop-drop}
-use Rattle.code.specs.Definitions.Tables.{Table, size, word, Permitted, none, one, more, message}
+use Rattle.code.specs.Definitions.Tables.{Table, word, Permitted, none, one, more, message}
 use Rattle.code.specs.Definitions.Readings.{Reads}
 use Rattle.code.specs.Laws.Sequences.{first-word, second-follows, rest-permitted}
-use Rattle.reading.specs.Text.{Text, Bounded, From, done, word as first}
-use Rattle.reading.specs.Flat.{stride, lengthAt, wordAt, mayAfter, Flat, Lays, Stands, text}
+use Rattle.reading.specs.Text.{Bounded, From, done, word as first}
+use Rattle.reading.specs.Flat.{lengthAt, mayAfter, Flat, Lays, Stands, text}
 
+-- The words of flat lists are not empty, and where they stand they do not run past the end.
 pub flat-bounded : {symbols base follow : List ℕ} {n : ℕ} → Flat symbols base follow n → (m : List ℕ) → Bounded (text symbols base follow n m)
 flat-bounded l m = record { some = λ p x s. omega (arith, l .shaped .rises x (s .0)); fits = λ p x s. s .1 .within }
 
@@ -29,6 +28,7 @@ module _ {t : Table} {symbols base follow : List ℕ} {n : ℕ} (l : Lays t symb
   After y [] = Unit
   After y (x ∷ s) = mayAfter follow n x y ≡ true
 
+  -- The sequence s is permitted, may come after y, and has the message from position p on.
   record Rest (p y : ℕ) (s : List ℕ) : Type 0 where
     permitted : Permitted t s
     after : After y s
@@ -53,6 +53,7 @@ module _ {t : Table} {symbols base follow : List ℕ} {n : ℕ} (l : Lays t symb
   cons {x} [] h r a = one {x = x} (rw (l .count) h)
   cons {x} (z ∷ s) h r a = more {y = x} (rw (l .count) h) (rw (may-table z x (head-known r) h) at a) r
 
+  -- A word in front.
   rest-word : {p y x : ℕ} (s : List ℕ) → x < n → Stands symbols base m p x → mayAfter follow n x y ≡ true → Rest (p + lengthAt base x) x s → Rest p y (x ∷ s)
   rest-word {p} {y} {x} s k h a r = record {
     permitted = cons s k (r .permitted) (r .after);
@@ -88,7 +89,7 @@ module _ {t : Table} {symbols base follow : List ℕ} {n : ℕ} (l : Lays t symb
   from-rest [] p y h r = done (end-of h r)
   from-rest (x ∷ s) p y h r = first (head-known (r .permitted), stands-first s h r) (r .after) (from-rest s (p + lengthAt base x) x (stands-first s h r .within) (rest-after s h r))
 
-  -- Reading from the first position after the start is reading by the table.
+  -- What reads the message from its first position, after the start, is a reading in the table, and the other way round.
   pub from-reads : (s : List ℕ) → From (text symbols base follow n m) 0 n s → Reads t m s
   from-reads s f = let r = rest-of f in record { permitted = r .permitted; joined = r .joined }
 

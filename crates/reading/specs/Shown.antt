@@ -1,24 +1,19 @@
 -- Once every position is marked, the marks alone show the message: the text in which a word stands where its bit is on has the same readings.
 use mathlib.Core.Path.{_≡_}
-use mathlib.Core.Bool.{true, and-eq-true-iff}
+use mathlib.Core.Bool.{true}
 use mathlib.Core.List.{List, _∷_}
-use Prim.Native.Nat.{ℕ, _+_, _≤_, _<_}
+use Prim.Native.Nat.{ℕ, _+_, _<_}
 use native.Mathlib.Omega.{arith}
 use lib.ListN.{length}
 use Rattle.bits.specs.Bits.{bitAt}
-use Rattle.reading.specs.Text.{Text, Bounded, From, done, word, Can, Begins}
-use Rattle.reading.specs.Flat.{stride, lengthAt, mayAfter, Flat, text}
+use Rattle.reading.specs.Text.{Text, Bounded, From, done, word, Begins}
+use Rattle.reading.specs.Flat.{lengthAt, mayAfter, Flat, flatText, text}
 use Rattle.reading.specs.Readings.{flat-bounded}
 use Rattle.reading.specs.Marks.{bitOfWord, Marked}
-use Rattle.reading.specs.Choices.{usable, Tells}
+use Rattle.reading.specs.Choices.{Tells, tells-where}
 
 abbrev pub shown : (base follow work : List ℕ) (n end : ℕ) → Text
-shown base follow work n end = record {
-  len = lengthAt base;
-  stands = λ p x. (x < n) × (bitAt work (bitOfWord p x) ≡ true);
-  may = λ x y. mayAfter follow n x y ≡ true;
-  end = end;
-}
+shown base follow work n end = flatText base follow n (λ p x. bitAt work (bitOfWord p x) ≡ true) end
 
 -- Every mark begins a reading of what is left of the message.
 pub record Sure (base follow work : List ℕ) (n end : ℕ) : Type 0 where
@@ -27,12 +22,7 @@ pub record Sure (base follow work : List ℕ) (n end : ℕ) : Type 0 where
 
 -- Sure marks tell of every position.
 pub sure-tells : {base follow work : List ℕ} {n end : ℕ} → Sure base follow work n end → (p : ℕ) → Tells (shown base follow work n end) work follow n p
-unfolding usable
-sure-tells {follow = follow} {work = work} {n = n} s p = record {
-  opens = λ y x k u. let b = and-eq-true-iff (bitAt work (bitOfWord p x)) (mayAfter follow n x y) .0 u in record { begins = s .begins p x k (b .0); after = b .1 };
-  known = λ y x o. o .begins .here .0;
-  uses = λ y x o. rw (o .begins .here .1) (o .after);
-}
+sure-tells {base} s p = tells-where base (s .begins p) (λ x b. b .here .1)
 
 module _ {symbols base follow m work : List ℕ} {n : ℕ} (flat : Flat symbols base follow n) (marked : Marked (text symbols base follow n m) work 0) where
   begins-text : (p x : ℕ) → x < n → bitAt work (bitOfWord p x) ≡ true → Begins (text symbols base follow n m) p x
@@ -41,6 +31,7 @@ module _ {symbols base follow m work : List ℕ} {n : ℕ} (flat : Flat symbols 
   shows : (p x : ℕ) → Begins (text symbols base follow n m) p x → bitAt work (bitOfWord p x) ≡ true
   shows p x b = marked .full p x (omega arith) b
 
+  -- One word of a reading, from the message to the marks and back.
   shown-word : {p y x : ℕ} {s : List ℕ} → Begins (text symbols base follow n m) p x → mayAfter follow n x y ≡ true
       → From (shown base follow work n (length m)) (p + lengthAt base x) x s → From (shown base follow work n (length m)) p y (x ∷ s)
   shown-word {p} {y} {x} b a f = word (b .here .0, shows p x b) a f
@@ -58,6 +49,7 @@ module _ {symbols base follow m work : List ℕ} {n : ℕ} (flat : Flat symbols 
   shown-from (done e) = done e
   shown-from (word h a f) = text-word (h .0) (h .1) a (shown-from f)
 
+  -- Full marks are sure.
   pub marked-sure : Sure base follow work n (length m)
   marked-sure = record {
     bounded = record {

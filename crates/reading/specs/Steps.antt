@@ -1,19 +1,18 @@
 -- The state of a walk that writes the words it takes: what holds after each step, and at the end.
-use mathlib.Core.Path.{_≡_, refl, sym, _∙_}
+use mathlib.Core.Path.{_≡_, refl, sym}
 use mathlib.Core.List.{List, [], _∷_, _++_, append-assoc, append-nil}
-use Prim.Native.Nat.{ℕ, suc, _+_, _-_, _^_, _≤_, _<_}
+use Prim.Native.Nat.{ℕ, suc, _+_, _^_, _≤_, _<_}
 use native.Mathlib.Decide.{decLt}
-use native.Mathlib.Numerals.{add-one}
-use native.Mathlib.Nat.{add-assoc, add-zero}
+use native.Mathlib.Nat.{add-zero}
 use native.Mathlib.Omega.{arith}
 use borrow.Author.Tests.{lt-ltb, le-ltb}
 use lib.Dec.{ltb}
 use lib.ListN.{length, take, drop, getD, set, length-append, take-append-drop}
-use lib.Seq.{length-take-le, drop-cons, set-at, append-snoc}
+use lib.Seq.{length-take-le, drop-cons, set-at}
 use Rattle.code.specs.Definitions.Lists.{if_then_else_}
 use Rattle.reading.specs.declared.walks.Walk.{Walk}
 use Rattle.reading.specs.Firsts.{Least, Only, FirstPair, only-least}
-use Rattle.reading.specs.Text.{Text, Bounded, From, Can, Begins, Lowest, Highest, Next, only-end}
+use Rattle.reading.specs.Text.{Text, Bounded, From, Can, Begins, Lowest, only-end}
 use Rattle.reading.specs.Walks.{Walked, Branch, walked-none, branch-none, walked-on, branch-kept, branch-new}
 use Rattle.reading.specs.Flat.{lengthAt, Shaped}
 use Rattle.reading.specs.Choices.{Sought, Tells, sought-some, sought-lowest, sought-next, sought-highest}
@@ -65,6 +64,7 @@ pub record Ended (K : Text) (n p₀ y₀ k : ℕ) (old new : List ℕ) (w : Walk
   pub known : w .other ≤ n
   pub room : k + w .count ≤ K .end
 
+-- Writing at index k: nothing yet, and one word more.
 write-none : (k : ℕ) (old : List ℕ) → old ≡ take k old ++ [] ++ drop (k + 0) old
 write-none k old = rw (append-nil, add-zero k) (sym (take-append-drop k old))
 
@@ -79,6 +79,7 @@ write-more k c x old words e h = rw (next, drop-cons old (k + c) 0 h, set-at (ta
     next : k + (c + 1) ≡ suc (k + c)
     next = omega arith
 
+-- A walk sets out with no words.
 pub walking-start : (K : Text) {n p y : ℕ} (k : ℕ) (old : List ℕ) → Can K p y → k ≤ p → p ≤ K .end → y ≤ n
     → Walking K n p y k old old (record { count = 0; pos = p; last = y; at = 0; start = 0; other = n })
 walking-start K {n} {p} {y} k old can room within known = record {
@@ -122,6 +123,7 @@ pub record Taken (base : List ℕ) (n end p x : ℕ) : Type 0 where
   pub fits : p + lengthAt base x ≤ end
 
 module _ {base follow work : List ℕ} {n end : ℕ} (walkable : Walkable base follow work n end) where
+  -- A word that begins at p can be taken there.
   pub begins-taken : {p x : ℕ} → x < n → Begins (shown base follow work n end) p x → Taken base n end p x
   begins-taken {p} {x} h b = record {
     known = h;
@@ -130,6 +132,7 @@ module _ {base follow work : List ℕ} {n end : ℕ} (walkable : Walkable base f
     fits = walkable .sure .bounded .fits p x (b .here);
   }
 
+  -- So can the word that is found from 0 on, where the message can be read on.
   pub sought-taken : {p y x : ℕ} → p < end → Can (shown base follow work n end) p y → Sought work follow n p y 0 x → Taken base n end p x
   sought-taken {p} {y} {x} h can s = begins-taken known (sought-lowest tells s known .opens .begins)
     where
@@ -150,48 +153,35 @@ module _ {base follow work : List ℕ} {n end : ℕ} (walkable : Walkable base f
     written : set new (k + w .count) x ≡ take k old ++ (h .words ++ (x ∷ [])) ++ drop (k + (w .count + 1)) old
     written = rw (h .written) (write-more k (w .count) x old (h .words) (h .size) (omega (arith, h .room)))
 
-    size : length (h .words ++ (x ∷ [])) ≡ w .count + 1
-    size = rw (length-append, h .size)
-
-    can-after : Can (shown base follow work n end) (w .pos + lengthAt base x) x
-    can-after = lowest .opens .begins .after
-
-    walking-new : z < n
+    -- The step, whatever it does to the branch.
+    walking-step : (at start other : ℕ)
+        → Branch (shown base follow work n end) p₀ y₀ n (w .pos + lengthAt base x) x (h .words ++ (x ∷ [])) at start other
+        → (other < n → k + at ≤ start)
         → Walking (shown base follow work n end) n p₀ y₀ k old (set new (k + w .count) x)
-            (record { count = w .count + 1; pos = w .pos + lengthAt base x; last = x; at = w .count; start = w .pos; other = z })
-    walking-new q = record {
+        (record { count = w .count + 1; pos = w .pos + lengthAt base x; last = x; at = at; start = start; other = other })
+    walking-step at start other branch early = record {
       words = h .words ++ (x ∷ []);
-      size = size;
+      size = rw (length-append, h .size);
       written = written;
       walked = walked-on (walkable .sure .bounded) (h .walked) lowest;
-      branch = branch-new (walkable .sure .bounded) (h .walked) (h .size) lowest (sought-next (sure-tells (walkable .sure) (w .pos)) t q) q;
-      can = can-after;
+      branch = branch;
+      can = lowest .opens .begins .after;
       room = omega (arith, h .room, taken .some);
       within = taken .fits;
       known = omega (arith, taken .known);
-      early = λ o. h .room;
+      early = early;
     }
 
-    walking-kept : n ≤ z
-        → Walking (shown base follow work n end) n p₀ y₀ k old (set new (k + w .count) x)
-            (record { count = w .count + 1; pos = w .pos + lengthAt base x; last = x; at = w .at; start = w .start; other = w .other })
-    walking-kept q = record {
-      words = h .words ++ (x ∷ []);
-      size = size;
-      written = written;
-      walked = walked-on (walkable .sure .bounded) (h .walked) lowest;
-      branch = branch-kept (walkable .sure .bounded) (h .branch) lowest (sought-highest (sure-tells (walkable .sure) (w .pos)) t q);
-      can = can-after;
-      room = omega (arith, h .room, taken .some);
-      within = taken .fits;
-      known = omega (arith, taken .known);
-      early = h .early;
-    }
+    branch-at : z < n → Branch (shown base follow work n end) p₀ y₀ n (w .pos + lengthAt base x) x (h .words ++ (x ∷ [])) (w .count) (w .pos) z
+    branch-at q = branch-new (walkable .sure .bounded) (h .walked) (h .size) lowest (sought-next (sure-tells (walkable .sure) (w .pos)) t q) q
+
+    branch-before : n ≤ z → Branch (shown base follow work n end) p₀ y₀ n (w .pos + lengthAt base x) x (h .words ++ (x ∷ [])) (w .at) (w .start) (w .other)
+    branch-before q = branch-kept (walkable .sure .bounded) (h .branch) lowest (sought-highest (sure-tells (walkable .sure) (w .pos)) t q)
 
     -- One step more, with the lowest word and the next above it as the search found them.
     pub walking-on : Walking (shown base follow work n end) n p₀ y₀ k old (set new (k + w .count) x) (advanced w x (lengthAt base x) z n)
     walking-on = by (decLt z n)
       where
         by : Dec (z < n) → Walking (shown base follow work n end) n p₀ y₀ k old (set new (k + w .count) x) (advanced w x (lengthAt base x) z n)
-        by (yes q) = rw (lt-ltb z n q) (walking-new q)
-        by (no q) = rw (le-ltb z n (omega arith)) (walking-kept (omega arith))
+        by (yes q) = rw (lt-ltb z n q) (walking-step (w .count) (w .pos) z (branch-at q) (λ o. h .room))
+        by (no q) = rw (le-ltb z n (omega arith)) (walking-step (w .at) (w .start) (w .other) (branch-before (omega arith)) (h .early))

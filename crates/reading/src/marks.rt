@@ -2,7 +2,6 @@
 // three lists: the symbols of all words, where each word begins, and the follow matrix.
 
 use code::Code;
-
 ghost use mathlib.Core.Path.{_≡_};
 ghost use Prim.Native.Nat.{_+_, _*_, _≤_, _<_};
 ghost use lib.ListN.{length};

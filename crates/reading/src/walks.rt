@@ -1,8 +1,11 @@
 // The readings that the marks show: the first, and from the last step where another word could be taken, the second.
 
-use crate::marks::{continues, seek};
-use code::{Reading, Refusal, WordCount};
-
+use crate::copies::copy_at;
+use crate::marks::continues;
+use crate::marks::seek;
+use code::Reading;
+use code::Refusal;
+use code::WordCount;
 ghost use mathlib.Core.Path.{_≡_};
 ghost use Prim.Native.Nat.{_+_, _^_, _≤_, _<_};
 ghost use mathlib.Core.List.{_∷_, _++_};
@@ -83,24 +86,12 @@ fn least_reading(
     w
 }
 
-// Copies the first `count` entries.
-fn copy_first(to: &mut [u8], from: &[u8], count: usize)
-    requires { ⌜ (count ≤ length (now to)) × (count ≤ length (now from)) ⌝ }
-    ensures { λ _. ⌜ now (to .exit) ≡ take count (now (from .entry)) ++ drop count (now (to .entry)) ⌝ }
-{
-    let mut i: usize = 0;
-    while i < count {
-        to[i] = from[i];
-        i += 1;
-    }
-}
-
 // Copies the first `at` entries of `first`, and writes `other` behind them.
 fn copy_branch(first: &[u8], second: &mut [u8], at: usize, other: usize)
     requires { ⌜ (at ≤ length (now first)) × (at < length (now second)) × (other < 256) ⌝ }
     ensures { λ _. ⌜ now (second .exit) ≡ take at (now (first .entry)) ++ (other ∷ drop (at + 1) (now (second .entry))) ⌝ }
 {
-    copy_first(second, first, at);
+    copy_at(second, 0, first, at);
     second[at] = other as u8;
 }
 

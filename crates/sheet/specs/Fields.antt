@@ -1,13 +1,13 @@
 -- How a pass over the bytes of a sheet meets refusal 2, the final CR LF, and the digits of a field.
-use mathlib.Core.Path.{_≡_, refl, sym, _∙_}
-use mathlib.Core.Bool.{Bool, true, false, not, _||_, _&&_, false≢true, and-true, and-false, or-false}
+use mathlib.Core.Path.{_≡_, refl}
+use mathlib.Core.Bool.{Bool, true, false, not, _||_, false≢true, and-true, and-false, or-false, or-assoc}
 use mathlib.Core.List.{List, [], _∷_}
 use Prim.Native.Nat.{ℕ, zero, suc, _+_, _-_, _≤_, _<_}
 use native.Mathlib.Numerals.{add-one}
 use native.Mathlib.Omega.{arith}
 use lib.Dec.{leb, eqb}
 use lib.ListN.{length, take, drop, getD, drop-of-length-le}
-use lib.Seq.{drop-cons, take-length, getD-drop}
+use lib.Seq.{drop-cons, take-length}
 use borrow.Author.Tests.{le-leb, lt-leb, leb-true, eqb-true, ne-eqb, eq-eqb}
 use Rattle.code.specs.Definitions.Lists.{if_then_else_}
 use Rattle.code.specs.Definitions.Sheets.{isDigit, valueOf, badBytes, body, crlf}
@@ -51,14 +51,10 @@ unfolding badBytes
 bad-more true a s = refl
 bad-more false a s = refl
 
-or-again : (a b c : Bool) → (a || b) || c ≡ a || (b || c)
-or-again true b c = refl
-or-again false b c = refl
-
 -- a pass over the bytes: what was bad so far, and what the rest adds
 pub bad-on : (bad cr : Bool) (s : List ℕ) (i : ℕ) → i < length s
     → (bad || badByte cr (getD s i 0)) || badBytes (afterCr cr (getD s i 0)) (drop (i + 1) s) ≡ bad || badBytes cr (drop i s)
-bad-on bad cr s i h = rw (add-one i, drop-cons s i 0 h, bad-more, or-again)
+bad-on bad cr s i h = rw (add-one i, drop-cons s i 0 h, bad-more, or-assoc)
 
 pub bad-end : (bad cr : Bool) (s : List ℕ) (i : ℕ) → length s ≤ i → bad || badBytes cr (drop i s) ≡ bad || cr
 unfolding badBytes

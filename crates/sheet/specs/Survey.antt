@@ -1,19 +1,19 @@
 -- A survey of the records, field by field, and that its counts and flags are the refusals 3 to 7.
-use mathlib.Core.Path.{_≡_, refl, sym, ap, ap₂, _∙_}
+use mathlib.Core.Path.{_≡_, refl, ap, ap₂, _∙_}
 use mathlib.Core.Bool.{Bool, true, false, not, _&&_, _||_, or-false, or-true, or-assoc}
 use mathlib.Core.List.{List, [], _∷_, map}
 use Prim.Native.Nat.{ℕ, suc, _+_, _≤_}
 use native.Mathlib.Nat.{add-zero}
 use native.Mathlib.Omega.{arith}
 use lib.Dec.{ltb, eqb}
-use lib.ListN.{length, drop, getD}
+use lib.ListN.{length, getD}
 use borrow.Author.Tests.{ne-eqb, eqb-true, eq-eqb}
 use Rattle.code.specs.declared.SheetAnswer.{SheetAnswer}
 use Rattle.code.specs.declared.SheetAnswer.the-variants.{Accepted, Refused}
 use Rattle.code.specs.declared.Refusal.the-variants.{RecordCount, WordLength, CodeLength, FieldCount, RowEntry}
 use Rattle.code.specs.declared.Taken.{Taken}
 use Rattle.code.specs.Definitions.Lists.{if_then_else_, any, sum}
-use Rattle.code.specs.Definitions.Sheets.{limits, fields, push, badEntry, badRow, badWord, badWidth, wordLength, refused6, takenGrid, refusedBy, codeOf}
+use Rattle.code.specs.Definitions.Sheets.{limits, fields, badEntry, badRow, badWord, wordLength, refused6, takenGrid, refusedBy, codeOf}
 use Rattle.sheet.specs.declared.survey.Survey.{Survey}
 
 -- a survey by its parts: records, fields, width, symbols, and the flags of refusals 4, 6 and 7

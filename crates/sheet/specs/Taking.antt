@@ -5,15 +5,13 @@ use mathlib.Core.List.{List, [], _∷_, map}
 use Prim.Native.Nat.{ℕ, _+_, _≤_, _<_}
 use native.Mathlib.Omega.{arith}
 use lib.Dec.{ltb, eqb}
-use lib.ListN.{length, drop, getD}
-use borrow.Author.Tests.{eq-eqb, ne-eqb, lt-ltb, le-ltb, ltb-false}
+use lib.ListN.{length}
+use borrow.Author.Tests.{ne-eqb, lt-ltb, le-ltb, ltb-false}
 use Rattle.code.specs.declared.SheetAnswer.{SheetAnswer}
 use Rattle.code.specs.declared.SheetAnswer.the-variants.{Accepted, Refused}
 use Rattle.code.specs.declared.Refusal.{Refusal}
 use Rattle.code.specs.declared.Refusal.the-variants.{SheetLength, SheetBytes}
-use Rattle.code.specs.declared.Taken.{Taken}
-use Rattle.code.specs.Definitions.Lists.{if_then_else_, any, sum}
-use Rattle.code.specs.Definitions.Sheets.{limits, records, fields, grid, body, badBytes, badWord, badRow, refused6, wordLength, codeOf, refusedBy, taken, takenGrid}
+use Rattle.code.specs.Definitions.Sheets.{limits, records, fields, grid, body, badBytes, codeOf, refusedBy, taken, takenGrid}
 use Rattle.code.specs.Laws.Clean.{recordFields, records-some, fields-some}
 use Rattle.sheet.specs.declared.survey.Survey.{Survey}
 use Rattle.sheet.specs.Survey.{start, surveyRecords, answerBy, answerOf, Rows, no-row, row, resultOf, survey-answers, survey-flags, Flags}

@@ -1,36 +1,36 @@
--- Every walk ends at a place of the queue whose label comes no later than its word, or runs past the frontier, where the search stands. So the first goal that is
--- met has the least word, and an empty queue leaves no walk to a goal.
+-- Every walk ends at a node that is queued with a label no later than the walk's message, or its message lies past the frontier, where the search stands. So the
+-- first goal that is met has the least message, and a queue that is done leaves no walk to a goal.
 use mathlib.Core.Path.{_≡_, refl, sym, _∙_}
 use mathlib.Core.Bool.{Bool, true, false}
 use mathlib.Core.List.{List, [], _∷_, reverse, reverse-reverse}
 use mathlib.Core.Logic.{_⊎_, inl, inr, ⊎-elim}
-use Prim.Native.Nat.{ℕ, _+_, _*_, _≤_, _<_}
+use Prim.Native.Nat.{ℕ, _≤_, _<_}
 use native.Mathlib.Nat.{le-refl}
-use native.Mathlib.Decide.{ℕ-discrete, decLt}
+use native.Mathlib.Decide.{decLt}
 use native.Mathlib.Omega.{arith}
 use Rattle.code.specs.Definitions.Orders.{Shortlex}
-use Rattle.graph.specs.Graph.{Graph, Reach}
-use Rattle.shortest.specs.Answer.{Least, Without}
-use Rattle.shortest.specs.Backward.{Sooner, NoLater, ahead, no-later-trans, sooner-no-later, sooner-longer, more-no-later, sooner-shortlex}
+use Rattle.graph.specs.Goals.{NoGoal, LeastGoal}
+use Rattle.graph.specs.Graph.{Graph}
+use Rattle.shortest.specs.Backward.{NoLater, ahead, no-later-trans, sooner-no-later, sooner-longer, more-no-later, sooner-shortlex}
 use Rattle.shortest.specs.Links.{Link, Walk, none, more, link-node, reach-node, reach-walk, walk-reach}
-use Rattle.shortest.specs.Entries.{nodeAt, fromAt}
-use Rattle.shortest.specs.Queue.{key, Met, Queue, Stage, Between, after-source}
-use Rattle.shortest.specs.Labels.{Label, Labelled, source, grown, label-of, same-label, sooner-label, no-later-label, label-walk}
+use Rattle.shortest.specs.Entries.{nodeAt}
+use Rattle.shortest.specs.Queue.{Met, Queue, Stage, Between, after-source}
+use Rattle.shortest.specs.Labels.{Label, source, grown, label-of, same-label, sooner-label, no-later-label, label-walk}
 
--- Number v stands at a place whose label comes no later than m.
+-- Number v is queued with a label that comes no later than m.
 pub record Reached (g : Graph) (q : List ℕ) (tail : ℕ) (m : List ℕ) (v : ℕ) : Type 0 where
-  pub place : ℕ
-  pub below : place < tail
-  pub node : nodeAt q place ≡ v
-  pub word : List ℕ
-  pub label : Label g q place word
-  pub early : NoLater word m
+  pub index : ℕ
+  pub below : index < tail
+  pub node : nodeAt q index ≡ v
+  pub message : List ℕ
+  pub label : Label g q index message
+  pub early : NoLater message m
 
 module _ {g : Graph} {ms q : List ℕ} {tail : ℕ} (s : Queue g ms q tail) where
-  -- A node that was met from place k has a label that comes no later than one symbol after that of k.
+  -- A node that was met from entry k has a label that comes no later than one symbol after that of k.
   met-reached : {k w : ℕ} {l m : List ℕ} → k < tail → Label g q k l → NoLater l m → Met q tail k w → w < g .nodes → Reached g q tail (g .symbol w ∷ m) w
   met-reached {k} {w} {l} {m} u x n r inside =
-      let p = r .place in
+      let p = r .index in
       let z : 1 ≤ p = after-source s p (rw (r .node) inside) in
       let o = s .origin p z (r .below) in
       let b : o .first < tail = let d = o .early in let e = r .below in omega arith in
@@ -38,10 +38,10 @@ module _ {g : Graph} {ms q : List ℕ} {tail : ℕ} (s : Queue g ms q tail) wher
       let y = label-of s (o .first) b in
       let c : g .symbol (nodeAt q p) ≤ g .symbol w = rw (r .node) (le-refl (g .symbol w)) in
       record {
-        place = p;
+        index = p;
         below = r .below;
         node = r .node;
-        word = g .symbol (nodeAt q p) ∷ y .word;
+        message = g .symbol (nodeAt q p) ∷ y .message;
         label = grown (o .early) (o .from) refl (y .label);
         early = more-no-later (no-later-trans (no-later-label s b u (s .ascending .keys (o .first) k h u) (y .label) x) n) c;
       }
@@ -49,16 +49,16 @@ module _ {g : Graph} {ms q : List ℕ} {tail : ℕ} (s : Queue g ms q tail) wher
   -- No goal is queued.
   not-queued : {m : List ℕ} {v : ℕ} → v < g .nodes → g .goal v ≡ true → Reached g q tail m v → ⊥
   not-queued {m} {v} l e r =
-      let z : 1 ≤ r .place = after-source s (r .place) (rw (r .node) l) in
-      let d : g .goal v ≡ false = rw (r .node) at (s .fair (r .place) z (r .below)) in
+      let z : 1 ≤ r .index = after-source s (r .index) (rw (r .node) l) in
+      let d : g .goal v ≡ false = rw (r .node) at (s .plain (r .index) z (r .below)) in
       let y : _≡_ {A = Bool} true false = cc in
       let x : _≡_ {A = ℕ} 0 1 = cc in
       omega arith
 
   reached-source : {v : ℕ} → v ≡ g .nodes → Reached g q tail [] v
-  reached-source e = record { place = 0; below = s .some; node = s .source ∙ sym e; word = []; label = source refl; early = inl refl }
+  reached-source e = record { index = 0; below = s .some; node = s .source-node ∙ sym e; message = []; label = source refl; early = inl refl }
 
-  -- Past holds of the words past the frontier.
+  -- Past holds of the messages past the frontier.
   module _ (Past : List ℕ → Type 0) (longer : (m : List ℕ) (c : ℕ) → Past m → Past (c ∷ m))
       (closed : (k w : ℕ) (l m : List ℕ) → k < tail → Label g q k l → NoLater l m → Link g (nodeAt q k) w → Met q tail k w ⊎ Past (g .symbol w ∷ m)) where
     reached-more : {v w c : ℕ} {m : List ℕ} → Link g v w → g .symbol w ≡ c → Reached g q tail m v ⊎ Past m → Reached g q tail (c ∷ m) w ⊎ Past (c ∷ m)
@@ -66,7 +66,7 @@ module _ {g : Graph} {ms q : List ℕ} {tail : ℕ} (s : Queue g ms q tail) wher
     reached-more {v} {w} {c} {m} d e (inl r) =
         rw (← e)
         (⊎-elim (λ x. inl (met-reached (r .below) (r .label) (r .early) x (link-node d))) inr
-        (closed (r .place) w (r .word) m (r .below) (r .label) (r .early) (rw (r .node) d)))
+        (closed (r .index) w (r .message) m (r .below) (r .label) (r .early) (rw (r .node) d)))
 
     walk-reached : {m : List ℕ} {v : ℕ} → Walk g m v → Reached g q tail m v ⊎ Past m
     walk-reached (none e) = inl (reached-source e)
@@ -76,6 +76,7 @@ module _ {g : Graph} {ms q : List ℕ} {tail : ℕ} (s : Queue g ms q tail) wher
     goal-past : {m : List ℕ} {v : ℕ} → Walk g m v → v < g .nodes → g .goal v ≡ true → Past m
     goal-past p l e = ⊎-elim (λ r. absurd (not-queued l e r)) (λ x. x) (walk-reached p)
 
+-- The order from the back, turned round.
 no-later-reach : (m n : List ℕ) → NoLater m (reverse n) → (reverse m ≡ n) ⊎ Shortlex (reverse m) n
 no-later-reach m n (inl e) = inl (rw e (reverse-reverse n))
 no-later-reach m n (inr p) = inr (rw (reverse-reverse n) at (sooner-shortlex p))
@@ -99,20 +100,22 @@ module _ {g : Graph} {ms q : List ℕ} {tail a b t k : ℕ} (s : Stage g ms q ta
       before (no z) (no e) c = inr (inr (ahead (sooner-no-later (sooner-label (s .queue) first u (s .group .after i (omega arith) u) x y) n)))
 
   -- The first goal that is met has the least message.
-  pub first-goal : (w : ℕ) → k < b → Link g (nodeAt q k) w → g .symbol w ≡ t → g .goal w ≡ true → (l : List ℕ) → Label g q a l → Least g (reverse (t ∷ l))
+  pub first-goal : (w : ℕ) → k < b → Link g (nodeAt q k) w → g .symbol w ≡ t → g .goal w ≡ true → (l : List ℕ) → Label g q a l → LeastGoal g (reverse (t ∷ l))
   first-goal w inside d c e l x =
       let f = s .group .ends in
       record {
-        end = w;
-        walk = walk-reach (more (label-walk (s .queue) x k (omega arith) (s .group .same k (s .from) inside)) d c) (link-node d);
-        met = e;
-        least = λ n v r y.
+        goal = record {
+          v = w;
+          walk = walk-reach (more (label-walk (s .queue) x k (omega arith) (s .group .same k (s .from) inside)) d c) (link-node d);
+          met = e;
+        };
+        least = λ n y.
             no-later-reach (t ∷ l) n
-            (goal-past (s .queue) (λ m. NoLater (t ∷ l) m) (λ m z p. no-later-trans p (inr (sooner-longer z m))) (stage-closed x) (reach-walk r)
-            (reach-node r) y);
+            (goal-past (s .queue) (λ m. NoLater (t ∷ l) m) (λ m z p. no-later-trans p (inr (sooner-longer z m))) (stage-closed x) (reach-walk (y .walk))
+            (reach-node (y .walk)) (y .met));
       }
 
 -- With every group done, no walk leads to a goal.
-pub no-goal : {g : Graph} {ms q : List ℕ} {tail a : ℕ} → Between g ms q tail a → tail ≤ a → Without g
-no-goal s h n v r e =
-    goal-past (s .queue) (λ m. ⊥) (λ m c z. z) (λ i w l m u x y d. inl (s .done i w (omega arith) d)) (reach-walk r) (reach-node r) e
+pub no-goal : {g : Graph} {ms q : List ℕ} {tail a : ℕ} → Between g ms q tail a → tail ≤ a → NoGoal g
+no-goal s h n y =
+    goal-past (s .queue) (λ m. ⊥) (λ m c z. z) (λ i w l m u x y d. inl (s .done i w (omega arith) d)) (reach-walk (y .walk)) (reach-node (y .walk)) (y .met)

@@ -1,9 +1,9 @@
--- The label of a place of the queue: the word of its group, read off the entries along `from`. One group has one label, labels ascend with keys, and a walk to
--- each queued node reads its label.
-use mathlib.Core.Path.{_≡_, refl, sym, ap, ap₂, _∙_}
+-- The label of a queue entry: the message of its group, from the back, read off the entries along `from`. One group has one label, labels ascend with keys, and
+-- a walk to each queued node reads its label.
+use mathlib.Core.Path.{_≡_, refl, sym, ap₂, _∙_}
 use mathlib.Core.List.{List, [], _∷_}
 use mathlib.Core.Logic.{inl, inr, ⊎-elim}
-use Prim.Native.Nat.{ℕ, zero, suc, _+_, _*_, _≤_, _<_}
+use Prim.Native.Nat.{ℕ, zero, suc, _+_, _≤_, _<_}
 use native.Mathlib.Nat.{lt-trans, eq-or-lt-of-le}
 use native.Mathlib.Decide.{ℕ-discrete, decLt}
 use native.Mathlib.Omega.{arith}
@@ -13,33 +13,34 @@ use Rattle.shortest.specs.Links.{Walk, none, more}
 use Rattle.shortest.specs.Entries.{nodeAt, fromAt}
 use Rattle.shortest.specs.Queue.{key, Queue, from-early}
 
+-- m is the label of entry k.
 pub data Label (g : Graph) (q : List ℕ) : ℕ → List ℕ → Type 0 where
   source : {k : ℕ} → k ≡ 0 → Label g q k []
   grown : {k f c : ℕ} {m : List ℕ} → f < k → fromAt q k ≡ f + 1 → g .symbol (nodeAt q k) ≡ c → Label g q f m → Label g q k (c ∷ m)
 
 pub record Labelled (g : Graph) (q : List ℕ) (k : ℕ) : Type 0 where
-  pub word : List ℕ
-  pub label : Label g q k word
+  pub message : List ℕ
+  pub label : Label g q k message
 
 module _ {g : Graph} {ms q : List ℕ} {tail : ℕ} (s : Queue g ms q tail) where
   label-more : (k : ℕ) → k < tail → ((f : ℕ) → f < k → Labelled g q f) → Dec (k ≡ 0) → Labelled g q k
-  label-more k l h (yes z) = record { word = []; label = source z }
+  label-more k l h (yes z) = record { message = []; label = source z }
   label-more k l h (no n) =
       let o = s .origin k (omega arith) l in
       let r = h (o .first) (o .early) in
-      record { word = g .symbol (nodeAt q k) ∷ r .word; label = grown (o .early) (o .from) refl (r .label) }
+      record { message = g .symbol (nodeAt q k) ∷ r .message; label = grown (o .early) (o .from) refl (r .label) }
 
   label-below : (n k : ℕ) → k < n → k < tail → Labelled g q k
   label-below zero k h l = absurd (omega arith)
   label-below (suc n) k h l = label-more k l (λ f d. label-below n f (omega arith) (omega arith)) (ℕ-discrete k 0)
 
-  -- Every place has a label.
+  -- Every entry has a label.
   pub label-of : (k : ℕ) → k < tail → Labelled g q k
   label-of k l = label-below (k + 1) k (omega arith) l
 
   -- Only the source has a key below 16.
   source-key : (i : ℕ) → i ≡ 0 → key g q i < 16
-  source-key i e = let c = s .bounded .symbols (nodeAt q i) in let f : fromAt q i ≡ 0 = rw e (s .before) in omega arith
+  source-key i e = let c = s .bounded .symbols (nodeAt q i) in let f : fromAt q i ≡ 0 = rw e (s .source-from) in omega arith
 
   -- A key is its `from` and its symbol.
   module _ (i j : ℕ) (e : key g q i ≡ key g q j) where
@@ -55,14 +56,14 @@ module _ {g : Graph} {ms q : List ℕ} {tail : ℕ} (s : Queue g ms q tail) wher
       let z : f ≡ h = let p = same-from i j e in omega arith in
       ap₂ _∷_ (sym b ∙ same-symbol i j e ∙ y) (r (rw z))
 
-  -- Places with one key have one label.
+  -- Entries with one key have one label.
   pub same-label : {i j : ℕ} {l m : List ℕ} → key g q i ≡ key g q j → Label g q i l → Label g q j m → l ≡ m
   same-label e (source x) (source y) = refl
   same-label {i} {j} e (source x) (grown p a b y) = let c = source-key i x in absurd (omega arith)
   same-label {i} {j} e (grown p a b x) (source y) = let c = source-key j y in absurd (omega arith)
   same-label {i} {j} e (grown {f = f} p a b x) (grown {f = h} r c d y) = same-cons i j f h e a b c d (λ z. same-label z x y)
 
-  -- The places before the group from which a place comes have smaller keys.
+  -- The entries before the group from which an entry comes have smaller keys.
   from-begins : (i f j : ℕ) → f < i → i < tail → fromAt q i ≡ f + 1 → j < f → key g q j < key g q f
   from-begins i f j p l e h =
       let o = s .origin i (omega arith) l in
@@ -101,7 +102,7 @@ module _ {g : Graph} {ms q : List ℕ} {tail : ℕ} (s : Queue g ms q tail) wher
   walk-source j k l e z = go (ℕ-discrete j 0)
     where
       go : Dec (j ≡ 0) → Walk g [] (nodeAt q j)
-      go (yes y) = none {v = nodeAt q j} (rw y (s .source))
+      go (yes y) = none {v = nodeAt q j} (rw y (s .source-node))
       go (no n) = let c = source-key k z in let o = s .origin j (omega arith) l in let f = o .from in absurd (omega arith)
 
   walk-grown : (j k f : ℕ) {c : ℕ} {m : List ℕ} → j < tail → key g q j ≡ key g q k → fromAt q k ≡ f + 1 → g .symbol (nodeAt q k) ≡ c

@@ -1,17 +1,18 @@
 -- What the small functions of the search return, way by way.
-use mathlib.Core.Path.{_≡_, refl, sym, ap, _∙_}
-use mathlib.Core.Bool.{Bool, true, false, _&&_}
+use mathlib.Core.Path.{_≡_, sym, ap, _∙_}
+use mathlib.Core.Bool.{Bool, true, false}
 use mathlib.Core.List.{List}
 use Prim.Native.Nat.{ℕ, _+_, _*_, _/_, _%_, _≤_, _<_}
 use native.Mathlib.Omega.{arith}
-use lib.ListN.{length, getD}
+use lib.ListN.{getD}
 use borrow.Author.Tests.{eq-eqb, ne-eqb}
 use Rattle.places.specs.declared.Pair.{Pair}
 use Rattle.places.specs.Flat.{Laid, symbolAt, endAt, wordCount, slotsOf, arcFrom, pairGraph}
 use Rattle.places.specs.Steps.{Arrives, startNode, nowhere}
 use Rattle.shortest.specs.declared.Arrival.the-variants.{Passed, Fresh, Goal}
 use Rattle.shortest.specs.Contracts.{PlacesOf, Seen, passed, fresh, final}
-use Rattle.shortest.specs.Pairs.{firstFrom, toward, innerOf, leadsOn, width, toward-node, toward-source, first-words, first-disorder, first-past, width-on, width-off, width-source}
+use Rattle.shortest.specs.Pairs.{firstFrom, toward, innerOf, width, toward-node, toward-source, width-on, width-off, width-source}
+use Rattle.shortest.specs.Pairs.{first-words, first-disorder, first-past}
 
 -- The places of a node.
 pub low-of : (low high : ℕ) → high < 128 → (low * 128 + high) / 128 ≡ low

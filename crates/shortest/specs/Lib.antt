@@ -1,6 +1,6 @@
-pub mod Answer
 pub mod Backward
 pub mod Contracts
+pub mod Depth
 pub mod Entries
 pub mod Frontier
 pub mod Groups
@@ -8,12 +8,14 @@ pub mod Labels
 pub mod Leaves
 pub mod Links
 pub mod Pairs
-pub mod Progress
+pub mod Parts
 pub mod Push
 pub mod Queue
 pub mod Room
-pub mod Rows
+pub mod Runs
+pub mod Slots
 pub mod Spelling
+pub mod Steps
 pub mod Triangle
 pub mod Turns
 pub mod Writing

@@ -1,5 +1,5 @@
--- The slots of a pair of places, and of the source, as the search goes through them: they lead along the links of the graph of pairs, along every link, and only to
--- pairs with the lower place first.
+-- The slots of a pair of places, and of the source, as the search goes through them. They lead along the links of the graph of pairs, along every link, and only
+-- to pairs with the lower place first.
 use mathlib.Core.Path.{_≡_, refl, sym, ap, _∙_}
 use mathlib.Core.Bool.{Bool, true, false, _&&_}
 use mathlib.Core.List.{List}
@@ -9,7 +9,6 @@ use native.Mathlib.Omega.{arith}
 use lib.Dec.{ltb, eqb}
 use borrow.Author.Tests.{lt-ltb, le-ltb, eq-eqb}
 use Rattle.code.specs.Definitions.Lists.{if_then_else_}
-use Rattle.graph.specs.Graph.{Edge}
 use Rattle.places.specs.Flat.{symbolAt, endAt, firstAt, wordCount, Laid, onward, slotsOf, arcFrom, pairGraph}
 use Rattle.places.specs.Nodes.{NodeOf, Leads, node-of, of-node, node-high, node-pair, edge-leads, slots-few}
 use Rattle.places.specs.Onward.{inside, arc-within, arc-past}
@@ -17,7 +16,7 @@ use Rattle.places.specs.Roots.{Numbered, Starts, symbol-low, root-starts, start
 use Rattle.places.specs.Steps.{startNode}
 use Rattle.shortest.specs.Links.{Link, begin, along}
 use Rattle.shortest.specs.Queue.{Bounded}
-use Rattle.shortest.specs.Turns.{Slot, Slots}
+use Rattle.shortest.specs.Slots.{Slot, Slots}
 
 module _ (f : List ℕ) where
   -- Slot j of the source stands for the words j / 32 and j % 32.
@@ -136,6 +135,7 @@ module _ {f : List ℕ} (laid : Laid f) (n : Numbered f) where
     where
       s : (symbolAt f (onward f p j) ≡ symbolAt f (w % 128)) × (symbolAt f (onward f q j) ≡ symbolAt f (w % 128))
       s = arrival-symbol m (decLe (onward f p j) (onward f q j))
+
       go : (a : Bool) → endAt f p ≡ a → (b : Bool) → endAt f q ≡ b → leadsOn f p q (symbolAt f (w % 128)) ≡ true
       go false x b y = on-left p q x (ap (symbolAt f) (sym (inside f p j x)) ∙ s .0)
       go true x false y = on-right p q x (ap (symbolAt f) (sym (inside f q j y)) ∙ s .1)

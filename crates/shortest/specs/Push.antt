@@ -1,5 +1,5 @@
 -- A node that is met for the first time is marked and queued: each fact about the queue holds of the old entries and of the new one.
-use mathlib.Core.Path.{_≡_, refl, ap, _∙_}
+use mathlib.Core.Path.{_≡_, refl, _∙_}
 use mathlib.Core.Bool.{false}
 use mathlib.Core.List.{List}
 use Prim.Native.Nat.{ℕ, _+_, _*_, _≤_, _<_}
@@ -25,18 +25,18 @@ on-push q tail e h P p r = on-set q tail e h (λ i x. i < tail + 1 → P i x) (�
 pub met-old : (q : List ℕ) (tail e : ℕ) {i w : ℕ} → Met q tail i w → Met (set q tail e) (tail + 1) i w
 met-old q tail e m =
     record {
-      place = m .place;
+      index = m .index;
       below = let l = m .below in omega arith;
-      node = rw (entry-old q tail e (m .place) (m .below)) (m .node);
-      soon = rw (entry-old q tail e (m .place) (m .below)) (m .soon);
+      node = rw (entry-old q tail e (m .index) (m .below)) (m .node);
+      soon = rw (entry-old q tail e (m .index) (m .below)) (m .soon);
     }
 
 queued-old : (q : List ℕ) (tail e : ℕ) {v : ℕ} → Queued q tail v → Queued (set q tail e) (tail + 1) v
 queued-old q tail e m =
     record {
-      place = m .place;
+      index = m .index;
       below = let l = m .below in omega arith;
-      node = rw (entry-old q tail e (m .place) (m .below)) (m .node);
+      node = rw (entry-old q tail e (m .index) (m .below)) (m .node);
     }
 
 origin-old : {g : Graph} (q : List ℕ) (tail e : ℕ) {i v x : ℕ} → i ≤ tail → Origin g q tail i v x → Origin g (set q tail e) (tail + 1) i v x
@@ -55,7 +55,7 @@ origin-old {g} q tail e h o =
       link = rw (entry-old q tail e (o .member) m) (o .link);
     }
 
--- The new entry e holds the node w that comes next after member k, and the place a where the group begins.
+-- The new entry e holds the node w that comes next after member k, and the index a where the group begins.
 module _ {g : Graph} {ms q : List ℕ} {tail a b t k : ℕ} (s : Stage g ms q tail a b t k) (w e : ℕ) (wide : tail < length q) (inside : k < b)
     (link : Link g (nodeAt q k) w) (symbol : g .symbol w ≡ t) (plain : g .goal w ≡ false) (clear : getD ms w 0 ≡ 0)
     (node : nodeOf e ≡ w) (from : fromOf e ≡ a + 1) where
@@ -71,15 +71,15 @@ module _ {g : Graph} {ms q : List ℕ} {tail a b t k : ℕ} (s : Stage g ms q ta
   push-found : (v : ℕ) → 1 ≤ getD (set ms w 1) v 0 → Queued (set q tail e) (tail + 1) v
   push-found =
       on-set ms w 1 in-marks (λ v x. 1 ≤ x → Queued (set q tail e) (tail + 1) v)
-      (λ h. record { place = tail; below = omega arith; node = at-tail })
+      (λ h. record { index = tail; below = omega arith; node = at-tail })
       (λ v ne h. queued-old q tail e (s .queue .found v h))
 
   push-room : tail + 1 ≤ total mark (set ms w 1) + 1
   unfolding mark
   push-room = let r = s .queue .room in omega (arith, total-set mark ms w 1 in-marks)
 
-  push-fair : (i : ℕ) → 1 ≤ i → i < tail + 1 → g .goal (nodeAt (set q tail e) i) ≡ false
-  push-fair i p l = on-push q tail e wide (λ j x. 1 ≤ j → g .goal (nodeOf x) ≡ false) (λ h. rw node plain) (λ j h d. s .queue .fair j d h) i l p
+  push-plain : (i : ℕ) → 1 ≤ i → i < tail + 1 → g .goal (nodeAt (set q tail e) i) ≡ false
+  push-plain i p l = on-push q tail e wide (λ j x. 1 ≤ j → g .goal (nodeOf x) ≡ false) (λ h. rw node plain) (λ j h d. s .queue .plain j d h) i l p
 
   -- No key is larger than the new one.
   push-near : (i : ℕ) → i < tail + 1 → key g (set q tail e) i ≤ (a + 1) * 16 + t
@@ -123,14 +123,14 @@ module _ {g : Graph} {ms q : List ℕ} {tail a b t k : ℕ} (s : Stage g ms q ta
         some = omega arith;
         found = push-found;
         room = push-room;
-        source = rw (entry-old q tail e 0 l) (s .queue .source);
-        before = rw (entry-old q tail e 0 l) (s .queue .before);
-        fair = push-fair;
+        source-node = rw (entry-old q tail e 0 l) (s .queue .source-node);
+        source-from = rw (entry-old q tail e 0 l) (s .queue .source-from);
+        plain = push-plain;
         ascending = record { keys = push-ascending };
         origin = push-origin;
       }
 
-  -- The group's key is below the new one: its `from` is at most its place.
+  -- The group's key is below the new one: its `from` is at most its index.
   group-before : key g q a < (a + 1) * 16 + t
   group-before =
       let u = s .group .ends in
@@ -178,4 +178,4 @@ module _ {g : Graph} {ms q : List ℕ} {tail a b t k : ℕ} (s : Stage g ms q ta
   pushed-met =
       let y = s .from in
       let f : fromAt (set q tail e) tail ≡ a + 1 = rw (getD-set-same q tail e 0 wide) from in
-      record { place = tail; below = omega arith; node = at-tail; soon = omega arith }
+      record { index = tail; below = omega arith; node = at-tail; soon = omega arith }

@@ -1,5 +1,5 @@
--- The state of the search: a queue of nodes in groups, and the marks of the nodes in it. A group is a run of entries with one key, which stands for their word:
--- keys ascend along the queue as words do, and they are numbers.
+-- The state of the search: a queue of nodes in groups, and the marks of the nodes in it. A group is a run of entries with one key. Keys are numbers, and they
+-- ascend along the queue as the messages of the groups do.
 use mathlib.Core.Path.{_≡_}
 use mathlib.Core.Bool.{false}
 use mathlib.Core.List.{List}
@@ -21,24 +21,24 @@ pub record Bounded (g : Graph) : Type 0 where
   pub symbols : (v : ℕ) → g .symbol v < 16
   pub nodes : g .nodes ≤ 16384
 
--- The group of place i: where the group of its predecessor begins, and its own symbol.
+-- The group of entry i: where the group of its predecessor begins, and its own symbol.
 abbrev pub key : Graph → List ℕ → ℕ → ℕ
 key g q i = fromAt q i * 16 + g .symbol (nodeAt q i)
 
--- Node v stands at some place below tail.
+-- Node v is queued.
 pub record Queued (q : List ℕ) (tail v : ℕ) : Type 0 where
-  pub place : ℕ
-  pub below : place < tail
-  pub node : nodeAt q place ≡ v
+  pub index : ℕ
+  pub below : index < tail
+  pub node : nodeAt q index ≡ v
 
--- Node w stands at some place below tail, after a group that begins at place i or before it.
+-- Node w was met from entry i, or from an earlier group: it is queued, and comes from a group that begins at i or before.
 pub record Met (q : List ℕ) (tail i w : ℕ) : Type 0 where
-  pub place : ℕ
-  pub below : place < tail
-  pub node : nodeAt q place ≡ w
-  pub soon : fromAt q place ≤ i + 1
+  pub index : ℕ
+  pub below : index < tail
+  pub node : nodeAt q index ≡ w
+  pub soon : fromAt q index ≤ i + 1
 
--- Why node v is queued with `from` x: it comes next after the node of a member of the group that begins at `first`.
+-- Why entry i holds node v and `from` x: v comes next after a member of the group that begins at `first`.
 pub record Origin (g : Graph) (q : List ℕ) (tail i v x : ℕ) : Type 0 where
   pub first : ℕ
   pub early : first < i
@@ -53,40 +53,46 @@ pub record Origin (g : Graph) (q : List ℕ) (tail i v x : ℕ) : Type 0 where
 pub record Ascending (g : Graph) (q : List ℕ) (tail : ℕ) : Type 0 where
   pub keys : (i j : ℕ) → i ≤ j → j < tail → key g q i ≤ key g q j
 
--- The first `tail` entries of q are in use, and ms marks the nodes among them. Place 0 holds the source; no goal is ever queued.
+-- The first `tail` entries of q are in use, entry 0 for the source; ms marks the nodes that are queued.
 pub record Queue (g : Graph) (ms q : List ℕ) (tail : ℕ) : Type 0 where
   pub bounded : Bounded g
   pub size : length ms ≡ g .nodes
   pub some : 1 ≤ tail
+  -- a marked node is queued
   pub found : (v : ℕ) → 1 ≤ getD ms v 0 → Queued q tail v
+  -- no more entries than marks, and the source
   pub room : tail ≤ total mark ms + 1
-  pub source : nodeAt q 0 ≡ g .nodes
-  pub before : fromAt q 0 ≡ 0
-  pub fair : (i : ℕ) → 1 ≤ i → i < tail → g .goal (nodeAt q i) ≡ false
+  pub source-node : nodeAt q 0 ≡ g .nodes
+  pub source-from : fromAt q 0 ≡ 0
+  -- no goal is queued
+  pub plain : (i : ℕ) → 1 ≤ i → i < tail → g .goal (nodeAt q i) ≡ false
   pub ascending : Ascending g q tail
   pub origin : (i : ℕ) → 1 ≤ i → i < tail → Origin g q tail i (nodeAt q i) (fromAt q i)
 
--- Places a to b - 1 are one group.
+-- Entries a to b - 1 are one group.
 pub record IsGroup (g : Graph) (q : List ℕ) (tail a b : ℕ) : Type 0 where
   pub some : a < b
   pub ends : b ≤ tail
   pub same : (i : ℕ) → a ≤ i → i < b → key g q i ≡ key g q a
   pub after : (i : ℕ) → b ≤ i → i < tail → key g q a < key g q i
 
--- In the group a to b - 1, the symbols below t are done for every member, and symbol t for the members before k; so are all groups before.
+-- The search stands in the group a to b - 1, at symbol t and member k.
 pub record Stage (g : Graph) (ms q : List ℕ) (tail a b t k : ℕ) : Type 0 where
   pub queue : Queue g ms q tail
   pub group : IsGroup g q tail a b
   pub from : a ≤ k
   pub to : k ≤ b
   pub high : t ≤ 16
+  -- the group begins at a
   pub begins : (i : ℕ) → i < a → key g q i < key g q a
+  -- nothing is queued yet that comes after this group by a later symbol
   pub near : (i : ℕ) → i < tail → key g q i ≤ (a + 1) * 16 + t
+  -- what comes next was met: after the earlier groups, by the symbols below t, and by t after the members before k
   pub done : (i w : ℕ) → i < a → Link g (nodeAt q i) w → Met q tail i w
   pub part : (i w : ℕ) → i < b → g .symbol w < t → Link g (nodeAt q i) w → Met q tail i w
   pub here : (i w : ℕ) → i < k → g .symbol w ≤ t → Link g (nodeAt q i) w → Met q tail i w
 
--- All groups before place a are done.
+-- All groups before entry a are done, and a group begins there if the queue goes on.
 pub record Between (g : Graph) (ms q : List ℕ) (tail a : ℕ) : Type 0 where
   pub queue : Queue g ms q tail
   pub order : a ≤ tail
@@ -100,7 +106,7 @@ module _ {g : Graph} {ms q : List ℕ} {tail : ℕ} (s : Queue g ms q tail) wher
   from-early i l = go (ℕ-discrete i 0)
     where
       go : Dec (i ≡ 0) → fromAt q i ≤ i
-      go (yes z) = let d : fromAt q i ≡ 0 = rw z (s .before) in omega arith
+      go (yes z) = let d : fromAt q i ≡ 0 = rw z (s .source-from) in omega arith
       go (no n) = let o = s .origin i (omega arith) l in let f = o .from in let h = o .early in omega arith
 
   -- Every entry but the source holds a node.
@@ -111,13 +117,13 @@ module _ {g : Graph} {ms q : List ℕ} {tail : ℕ} (s : Queue g ms q tail) wher
   entry-most i l = go (ℕ-discrete i 0)
     where
       go : Dec (i ≡ 0) → nodeAt q i ≤ g .nodes
-      go (yes z) = let d : nodeAt q i ≡ g .nodes = rw z (s .source) in omega arith
+      go (yes z) = let d : nodeAt q i ≡ g .nodes = rw z (s .source-node) in omega arith
       go (no n) = let h = entry-node i (omega arith) l in omega arith
 
-  -- Only the source stands at place 0.
+  -- Only the source stands at index 0.
   pub after-source : (i : ℕ) → nodeAt q i < g .nodes → 1 ≤ i
   after-source i l = go (ℕ-discrete i 0)
     where
       go : Dec (i ≡ 0) → 1 ≤ i
-      go (yes z) = let d : nodeAt q i ≡ g .nodes = rw z (s .source) in absurd (omega arith)
+      go (yes z) = let d : nodeAt q i ≡ g .nodes = rw z (s .source-node) in absurd (omega arith)
       go (no n) = omega arith

@@ -1,22 +1,24 @@
 // The shortest message of a walk from a first pair of a code to a pair of two ends, the earliest in symbol order among equals.
 //
 // A breadth-first search in groups. The queue holds the pairs met, each once, behind the source of all walks; every entry knows where the
-// group of its predecessor begins. A group is a run of entries with the same predecessors' group and the same symbol: the pairs that are
-// met by one message. Group after group, symbol after symbol, the search queues the pairs that come next, so messages ascend along the
-// queue, and the first pair of two ends that comes next has the least. The message is then read off the entries, back to front.
+// group of its predecessor begins. A group is a run of entries with the same such group and the same symbol: pairs that are met by one
+// message. Group after group, symbol after symbol, the search queues the pairs that come next, so messages ascend along the queue, and the
+// first pair of two ends that comes next has the least. The message is then read off the entries, back to front.
 
 use code::Word;
 use places::Layout;
 use places::Pair;
 ghost use mathlib.Core.Path.{_≡_};
-ghost use Prim.Native.Nat.{_+_, _*_, _%_, _≤_, _<_};
+ghost use Prim.Native.Nat.{_+_, _*_, _^_, _≤_, _<_};
 ghost use lib.ListN.{length, getD};
-ghost use Rattle.places.specs.Flat.{Laid, symbolAt, pairGraph};
+ghost use Rattle.places.specs.Flat.{Laid, pairGraph};
 ghost use Rattle.places.specs.Roots.{Numbered};
 ghost use Rattle.places.specs.Steps.{Arrives};
-ghost use Rattle.shortest.specs.Contracts.{PlacesOf, Seen, Stands, Ready, Met, Progressed, Expanded, Explored, Seeded, Clear, Message, Answers};
+ghost use Rattle.shortest.specs.Contracts.{PlacesOf, keyOf, Seen, Stands, Ready, Progressed};
+ghost use Rattle.shortest.specs.Contracts.{GoalNext, Expanded, Explored, Seeded, Clear, Message, Answers};
 ghost use Rattle.shortest.specs.Queue.{Ascending, IsGroup, Between};
-ghost use Rattle.shortest.specs.Spelling.{HasDepth, Depth, Spelled, Stored};
+ghost use Rattle.shortest.specs.Spelling.{Spelled, Stored};
+ghost use Rattle.shortest.specs.Depth.{HasDepth, Depth};
 ghost use Rattle.shortest.specs.Entries.{entryOf, nodeOf, fromOf};
 ghost use Rattle.shortest.specs.Pairs.{firstFrom, toward, innerOf, width};
 
@@ -26,10 +28,10 @@ pub enum Search {
     Nothing,
 }
 
-// A group of the queue: places `start` to `end` - 1.
-pub struct Group {
-    pub start: usize,
-    pub end: usize,
+// A group of the queue: entries `start` to `end` - 1.
+struct Group {
+    start: usize,
+    end: usize,
 }
 
 // Where a slot leads: to nothing new, to a pair that was not met before, or to a pair of two ends.
@@ -39,19 +41,19 @@ enum Arrival {
     Goal,
 }
 
-// After a part of a group: a goal comes next by a symbol, or the queue's new end.
+// After a part of a group: a goal comes next by a symbol; or how many entries the queue has.
 enum Progress {
     Goal(usize),
     Tail(usize),
 }
 
-// After a group: a goal comes next by a symbol, or where the next group starts and the queue's new end.
+// After a group: a goal comes next by a symbol; or where the next group starts, and how many entries the queue has.
 enum Expansion {
     Goal(usize),
     Next(usize, usize),
 }
 
-// After the whole search: a goal comes next after the group that starts at a place, by a symbol, or there is none.
+// After the whole search: a goal comes next after the group that starts at an entry, by a symbol; or there is none.
 enum Exploration {
     Goal(usize, usize),
     Exhausted,
@@ -65,7 +67,7 @@ fn node(pair: Pair) -> usize
     (pair.low << 7) + pair.high
 }
 
-// A queue entry.
+// The queue entry of a pair whose predecessor's group begins at `from` - 1.
 fn entry(from: usize, pair: Pair) -> u64
     requires { ⌜ (from ≤ 16384) × (pair .low ≤ 128) × (pair .high < 128) ⌝ }
     ensures { λ r. ⌜ r ≡ entryOf from (pair .low * 128 + pair .high) ⌝ }
@@ -87,7 +89,7 @@ fn pair_of(entry: u64) -> Pair
 
 // One more than where the group of an entry's predecessor begins; 0 for the source.
 fn from_of(entry: u64) -> usize
-    ensures { λ r. ⌜ (r ≡ fromOf entry) × (r < 562949953421312) ⌝ }
+    ensures { λ r. ⌜ (r ≡ fromOf entry) × (r < 2 ^ 49) ⌝ }
 {
     (entry >> 15) as usize
 }
@@ -95,7 +97,7 @@ fn from_of(entry: u64) -> usize
 // The group of an entry, as a number: where the group of its predecessor begins, and its symbol.
 fn key(places: &[u8], entry: u64) -> usize
     requires { ⌜ Laid (now places) ⌝ }
-    ensures { λ r. ⌜ r ≡ fromOf entry * 16 + symbolAt (now (places .entry)) (nodeOf entry % 128) ⌝ }
+    ensures { λ r. ⌜ r ≡ keyOf (now (places .entry)) entry ⌝ }
 {
     let pair = pair_of(entry);
     (from_of(entry) << 4) + places::symbol(places, pair.high)
@@ -187,7 +189,7 @@ fn look(places: &[u8], marks: &[u16], pair: Pair, symbol: usize) -> Arrival
     Arrival::Fresh
 }
 
-// Deals with the slot of a member: a pair that was not met before is marked and queued.
+// Deals with one slot of a member: a pair that was not met before is marked and queued.
 fn step(
     places: &[u8],
     marks: &mut [u16],
@@ -198,8 +200,13 @@ fn step(
     slot: usize,
     tail: usize,
 ) -> Progress
-    requires { ⌜ Laid (now places) × Numbered (now places) × Stands (now places) (now marks) (now queue) tail (group .start) (group .end) symbol member slot × Ready (now marks) (now queue) tail (group .start) (group .end) symbol member ⌝ }
-    ensures { λ r. ⌜ Progressed (now (places .entry)) (now (marks .exit)) (now (queue .exit)) (group .start) (group .end) symbol member (slot + 1) r × (getD (now (queue .exit)) member 0 ≡ getD (now (queue .entry)) member 0) ⌝ }
+    requires { ⌜ Laid (now places)
+        × Numbered (now places)
+        × Stands (now places) (now marks) (now queue) tail (group .start) (group .end) symbol member slot
+        × Ready (now marks) (now queue) tail (group .start) (group .end) symbol member ⌝ }
+    ensures { λ r. ⌜ Progressed (now (places .entry)) (now (marks .exit)) (now (queue .exit))
+        (group .start) (group .end) symbol member (slot + 1) r
+        × (getD (now (queue .exit)) member 0 ≡ getD (now (queue .entry)) member 0) ⌝ }
 {
     let pair = next(places, pair_of(queue[member]), slot);
     match look(places, marks, pair, symbol) {
@@ -214,7 +221,7 @@ fn step(
 }
 
 // Deals with all slots of a member for one symbol.
-fn row(
+fn expand_member(
     places: &[u8],
     marks: &mut [u16],
     queue: &mut [u64],
@@ -223,8 +230,12 @@ fn row(
     member: usize,
     tail: usize,
 ) -> Progress
-    requires { ⌜ Laid (now places) × Numbered (now places) × Stands (now places) (now marks) (now queue) tail (group .start) (group .end) symbol member 0 × Ready (now marks) (now queue) tail (group .start) (group .end) symbol member ⌝ }
-    ensures { λ r. ⌜ Progressed (now (places .entry)) (now (marks .exit)) (now (queue .exit)) (group .start) (group .end) symbol (member + 1) 0 r ⌝ }
+    requires { ⌜ Laid (now places)
+        × Numbered (now places)
+        × Stands (now places) (now marks) (now queue) tail (group .start) (group .end) symbol member 0
+        × Ready (now marks) (now queue) tail (group .start) (group .end) symbol member ⌝ }
+    ensures { λ r. ⌜ Progressed (now (places .entry)) (now (marks .exit)) (now (queue .exit))
+        (group .start) (group .end) symbol (member + 1) 0 r ⌝ }
 {
     let end = width(places, pair_of(queue[member]), symbol);
     let mut slot: usize = 0;
@@ -240,7 +251,7 @@ fn row(
 }
 
 // Deals with all members of a group for one symbol.
-fn rows(
+fn expand_symbol(
     places: &[u8],
     marks: &mut [u16],
     queue: &mut [u64],
@@ -248,13 +259,18 @@ fn rows(
     symbol: usize,
     tail: usize,
 ) -> Progress
-    requires { ⌜ Laid (now places) × Numbered (now places) × (16384 ≤ length (now queue)) × (symbol < 16) × Stands (now places) (now marks) (now queue) tail (group .start) (group .end) symbol (group .start) 0 ⌝ }
-    ensures { λ r. ⌜ Progressed (now (places .entry)) (now (marks .exit)) (now (queue .exit)) (group .start) (group .end) (symbol + 1) (group .start) 0 r ⌝ }
+    requires { ⌜ Laid (now places)
+        × Numbered (now places)
+        × (16384 ≤ length (now queue))
+        × (symbol < 16)
+        × Stands (now places) (now marks) (now queue) tail (group .start) (group .end) symbol (group .start) 0 ⌝ }
+    ensures { λ r. ⌜ Progressed (now (places .entry)) (now (marks .exit)) (now (queue .exit))
+        (group .start) (group .end) (symbol + 1) (group .start) 0 r ⌝ }
 {
     let mut member = group.start;
     let mut tail = tail;
     while member < group.end {
-        match row(places, marks, queue, group, symbol, member, tail) {
+        match expand_member(places, marks, queue, group, symbol, member, tail) {
             Progress::Goal(x) => return Progress::Goal(x),
             Progress::Tail(e) => tail = e,
         }
@@ -264,20 +280,24 @@ fn rows(
 }
 
 // Deals with a group, symbol after symbol.
-fn symbols(
+fn expand_group(
     places: &[u8],
     marks: &mut [u16],
     queue: &mut [u64],
     group: Group,
     tail: usize,
 ) -> Progress
-    requires { ⌜ Laid (now places) × Numbered (now places) × (16384 ≤ length (now queue)) × Stands (now places) (now marks) (now queue) tail (group .start) (group .end) 0 (group .start) 0 ⌝ }
-    ensures { λ r. ⌜ Progressed (now (places .entry)) (now (marks .exit)) (now (queue .exit)) (group .start) (group .end) 16 (group .start) 0 r ⌝ }
+    requires { ⌜ Laid (now places)
+        × Numbered (now places)
+        × (16384 ≤ length (now queue))
+        × Stands (now places) (now marks) (now queue) tail (group .start) (group .end) 0 (group .start) 0 ⌝ }
+    ensures { λ r. ⌜ Progressed (now (places .entry)) (now (marks .exit)) (now (queue .exit))
+        (group .start) (group .end) 16 (group .start) 0 r ⌝ }
 {
     let mut symbol: usize = 0;
     let mut tail = tail;
     while symbol < Word::ALPHABET as usize {
-        match rows(places, marks, queue, group, symbol, tail) {
+        match expand_symbol(places, marks, queue, group, symbol, tail) {
             Progress::Goal(x) => return Progress::Goal(x),
             Progress::Tail(e) => tail = e,
         }
@@ -286,7 +306,7 @@ fn symbols(
     Progress::Tail(tail)
 }
 
-// The end of the group that starts at a place.
+// The end of the group that starts at an entry.
 fn group_end(places: &[u8], queue: &[u64], start: usize, tail: usize) -> usize
     requires { ⌜ Laid (now places) × Ascending (pairGraph (now places)) (now queue) tail × (start < tail) × (tail ≤ length (now queue)) ⌝ }
     ensures { λ r. ⌜ IsGroup (pairGraph (now (places .entry))) (now (queue .entry)) tail start r ⌝ }
@@ -302,15 +322,20 @@ fn group_end(places: &[u8], queue: &[u64], start: usize, tail: usize) -> usize
     end
 }
 
-// Deals with the group that starts at a place.
-fn expand(
+// Deals with the group that starts at an entry.
+fn advance(
     places: &[u8],
     marks: &mut [u16],
     queue: &mut [u64],
     start: usize,
     tail: usize,
 ) -> Expansion
-    requires { ⌜ Laid (now places) × Numbered (now places) × (16384 ≤ length (now queue)) × (start < tail) × (tail ≤ 8257) × Between (pairGraph (now places)) (now marks) (now queue) tail start ⌝ }
+    requires { ⌜ Laid (now places)
+        × Numbered (now places)
+        × (16384 ≤ length (now queue))
+        × (start < tail)
+        × (tail ≤ 8257)
+        × Between (pairGraph (now places)) (now marks) (now queue) tail start ⌝ }
     ensures { λ r. ⌜ Expanded (now (places .entry)) (now (marks .exit)) (now (queue .exit)) start r ⌝ }
 {
     let end = group_end(places, queue, start, tail);
@@ -318,7 +343,7 @@ fn expand(
         start: start,
         end: end,
     };
-    match symbols(places, marks, queue, group, tail) {
+    match expand_group(places, marks, queue, group, tail) {
         Progress::Goal(x) => Expansion::Goal(x),
         Progress::Tail(e) => Expansion::Next(end, e),
     }
@@ -326,13 +351,16 @@ fn expand(
 
 // Deals with group after group.
 fn explore(places: &[u8], marks: &mut [u16], queue: &mut [u64]) -> Exploration
-    requires { ⌜ Laid (now places) × Numbered (now places) × (16384 ≤ length (now queue)) × Between (pairGraph (now places)) (now marks) (now queue) 1 0 ⌝ }
+    requires { ⌜ Laid (now places)
+        × Numbered (now places)
+        × (16384 ≤ length (now queue))
+        × Between (pairGraph (now places)) (now marks) (now queue) 1 0 ⌝ }
     ensures { λ r. ⌜ Explored (now (places .entry)) (now (queue .exit)) r ⌝ }
 {
     let mut start: usize = 0;
     let mut tail: usize = 1;
     while start < tail {
-        match expand(places, marks, queue, start, tail) {
+        match advance(places, marks, queue, start, tail) {
             Expansion::Goal(x) => return Exploration::Goal(start, x),
             Expansion::Next(b, e) => {
                 start = b;
@@ -355,46 +383,46 @@ fn seed(queue: &mut [u64])
     queue[0] = entry(0, source);
 }
 
-// How many steps lead from a place to the source.
+// How many steps along `from` lead from an entry to the source.
 fn depth(queue: &[u64], start: usize) -> usize
     requires { ⌜ HasDepth (now queue) start × (start < length (now queue)) × (start < 16384) ⌝ }
     ensures { λ r. ⌜ Depth (now (queue .entry)) start r × (r ≤ start) ⌝ }
 {
-    let mut place = start;
+    let mut index = start;
     let mut count: usize = 0;
-    while 0 < place {
-        place = from_of(queue[place]) - 1;
+    while 0 < index {
+        index = from_of(queue[index]) - 1;
         count += 1;
     }
     count
 }
 
-// Writes the label of a place, of `count` symbols, to the front of the message, the last symbol first.
+// Writes the label of an entry, of `count` symbols, to the front of the message, the last symbol first.
 fn fill(places: &[u8], queue: &[u64], message: &mut [u8], start: usize, count: usize)
-    requires { ⌜ Laid (now places) × Spelled (pairGraph (now places)) (now queue) start count × (start < length (now queue)) × (count ≤ length (now message)) ⌝ }
+    requires { ⌜ Laid (now places)
+        × Spelled (pairGraph (now places)) (now queue) start count
+        × (start < length (now queue))
+        × (count ≤ length (now message)) ⌝ }
     ensures { λ _. ⌜ Stored (pairGraph (now (places .entry))) (now (queue .entry)) start count (now (message .entry)) (now (message .exit)) ⌝ }
 {
-    let mut place = start;
+    let mut index = start;
     let mut at = count;
-    while 0 < place {
-        let entry = queue[place];
+    while 0 < index {
+        let entry = queue[index];
         let pair = pair_of(entry);
         let high = pair.high;
         at -= 1;
         message[at] = places[high];
-        place = from_of(entry) - 1;
+        index = from_of(entry) - 1;
     }
 }
 
 // Writes the label of a group and one symbol more.
-fn write(
-    places: &[u8],
-    queue: &[u64],
-    message: &mut [u8],
-    start: usize,
-    symbol: usize,
-) -> usize
-    requires { ⌜ Laid (now places) × Met (now places) (now queue) start symbol × (16384 ≤ length (now queue)) × (8256 ≤ length (now message)) ⌝ }
+fn write(places: &[u8], queue: &[u64], message: &mut [u8], start: usize, symbol: usize) -> usize
+    requires { ⌜ Laid (now places)
+        × GoalNext (now places) (now queue) start symbol
+        × (16384 ≤ length (now queue))
+        × (8256 ≤ length (now message)) ⌝ }
     ensures { λ r. ⌜ Message (now (places .entry)) (now (message .entry)) (now (message .exit)) r ⌝ }
 {
     let count = depth(queue, start);
@@ -404,14 +432,13 @@ fn write(
 }
 
 // The length of the shortest message of a walk from a first pair to a pair of two ends, the earliest in symbol order among equals; the
-// message stands at the front of its buffer. The marks are clear at first. What the queue then holds is of no use to the caller.
-pub fn shortest(
-    places: &[u8],
-    marks: &mut [u16],
-    queue: &mut [u64],
-    message: &mut [u8],
-) -> Search
-    requires { ⌜ Laid (now places) × Numbered (now places) × Clear (now marks) × (16384 ≤ length (now queue)) × (8256 ≤ length (now message)) ⌝ }
+// message stands at the front of its buffer. The marks must be clear. What the marks and the queue hold at the end is of no use to the caller.
+pub fn shortest(places: &[u8], marks: &mut [u16], queue: &mut [u64], message: &mut [u8]) -> Search
+    requires { ⌜ Laid (now places)
+        × Numbered (now places)
+        × Clear (now marks)
+        × (16384 ≤ length (now queue))
+        × (8256 ≤ length (now message)) ⌝ }
     ensures { λ r. ⌜ Answers (now (places .entry)) (now (message .entry)) (now (message .exit)) r ⌝ }
 {
     seed(queue);

@@ -1,5 +1,6 @@
 pub mod Exactly
 pub mod WellFormed
+pub mod Words
 pub mod Cells
 pub mod Tested
 pub mod Accepts

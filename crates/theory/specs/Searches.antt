@@ -4,39 +4,17 @@ use mathlib.Core.Path.{_≡_}
 use mathlib.Core.Bool.{true}
 use mathlib.Core.List.{List}
 use mathlib.Core.Logic.{_⊎_, inl, inr}
-use Prim.Native.Nat.{ℕ, suc, _≤_, _<_}
+use Prim.Native.Nat.{ℕ, suc, _≤_}
 use native.Mathlib.Omega.{arith}
-use lib.ListN.{length}
 use Rattle.code.specs.Definitions.Tables.{Table, size}
 use Rattle.code.specs.Definitions.Orders.{Shortlex, shorter}
 use Rattle.code.specs.Definitions.Readings.{FirstTwo, Ambiguous, Decipherable}
 use Rattle.code.specs.Definitions.Delays.{Delay, WithoutBound}
+use Rattle.graph.specs.Goals.{GoalBy, GoalBefore, NoGoal, LeastGoal}
 use Rattle.graph.specs.Graph.{Graph, Reach, WalkOf, Longest, Endless}
 use Rattle.theory.specs.Places.{Place, NonEmpty, Ends, Compatible, TwoEnds, NoTwoEnds, PairAfter, LongestPath}
 use Rattle.theory.specs.Ambiguity.{LeastTwoEnds, at-most, ambiguous, decipherable}
 use Rattle.theory.specs.Sharing.{delay, without-bound}
-
-module _ (g : Graph) where
-  -- A walk that reads m leads to a goal.
-  pub record GoalBy (m : List ℕ) : Type 0 where
-    pub v : ℕ
-    pub walk : Reach g m v
-    pub met : g .goal v ≡ true
-
-  -- A walk that reads fewer symbols than those of m leads to a goal.
-  pub record GoalBefore (m : List ℕ) : Type 0 where
-    pub n : List ℕ
-    pub goal : GoalBy n
-    pub before : length n < length m
-
-  -- No walk leads to a goal.
-  abbrev pub NoGoal : Type 0
-  NoGoal = (m : List ℕ) → GoalBy m → ⊥
-
-  -- A walk to a goal reads m, and every other one reads m or what comes after m.
-  pub record LeastGoal (m : List ℕ) : Type 0 where
-    pub goal : GoalBy m
-    pub least : (n : List ℕ) → GoalBy n → (m ≡ n) ⊎ Shortlex m n
 
 module _ (t : Table) (g : Graph) where
   -- The compatible pair that m reaches where a walk over m ends at v; if v is a goal, two ends.

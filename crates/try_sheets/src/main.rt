@@ -5,7 +5,7 @@ use code::Row;
 use code::SheetAnswer;
 use code::Word;
 use libc::STDOUT_FILENO;
-ghost use Prim.Native.Nat.{_<_, _≤_};
+ghost use Prim.Native.Nat.{_<_};
 
 const DIGITS: [u8; 16] = *b"0123456789ABCDEF";
 

@@ -20,7 +20,7 @@ use Rattle.code.specs.declared.Verdict.the-variants.{Ambiguous as Two-wa
 use Rattle.code.specs.declared.Judgement.{Judgement}
 use Rattle.code.specs.declared.Judgement.the-variants.{Judged, Refused as Not-judged}
 use Rattle.code.specs.Definitions.Tables.{Table, size, message, tableOf}
-use Rattle.code.specs.Definitions.Readings.{NoReading, OnlyReading, FirstTwo, Ambiguous}
+use Rattle.code.specs.Definitions.Readings.{NoReading, OnlyReading, FirstTwo}
 use Rattle.code.specs.Definitions.Answers.{VerdictMeans}
 use Rattle.code.specs.Definitions.Sheets.{FromSheet}
 

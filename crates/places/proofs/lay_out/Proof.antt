@@ -4,7 +4,8 @@ use mathlib.Core.Path.{_≡_, sym}
 use native.Mathlib.Omega.{arith}
 use borrow.Author.Needs.{needs}
 use Rattle.code.specs.Definitions.Tables.{size, tableOf}
-use Rattle.places.specs.Codes.{size-count, code-fits, word-room, next-start, next-lays}
+use Rattle.table.specs.Words.{size-count}
+use Rattle.places.specs.Codes.{code-fits, word-room, next-start, next-lays}
 use Rattle.places.specs.Bases.{base-none}
 use Rattle.places.specs.Lays.{base}
 use Rattle.places.specs.Layouts.{LaysTo, lays-none}
@@ -24,7 +25,7 @@ cast-places c = omega (arith, c .pre .most)
 loop-holds : tie.Need-loop-holds Inv-loop μ-loop
 loop-holds c =
     let t = tableOf (c .args .t1) in
-    (omega arith, sym (base-none t), lays-none t (c .args .t1 .count) (sym (size-count (c .args .t1) (c .pre))))
+    (omega arith, sym (base-none t), lays-none t (c .args .t1 .count) (sym (size-count (c .pre))))
 
 lay-word-requires : tie.Need-lay-word-requires Inv-loop μ-loop
 lay-word-requires c κs =
@@ -50,7 +51,7 @@ loop-again c =
 returns : tie.Need-returns Inv-loop μ-loop
 returns c =
     let l = c .before in
-    let n = size-count (l .before .args .t1) (l .before .pre) in
+    let n = size-count (l .before .pre) in
     let e : l .loop .x ≡ size (tableOf (l .before .args .t1)) = omega arith in
     laid-out (code-fits (l .before .args .t1) (l .before .pre)) (rw e at (l .loop .inv .2))
 

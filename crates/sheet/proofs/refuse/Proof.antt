@@ -2,7 +2,6 @@
 use borrow.Author.Needs.{needs}
 use Rattle.sheet.proofs.refuse.Statement.{statement}
 use Rattle.sheet.proofs.refuse.Tie as tie
-use Rattle.sheet.proofs.build.blank_code.Reads as blank-code-reads
 
 blank-code-requires : tie.Need-blank-code-requires
 blank-code-requires c κs = search needs

@@ -4,10 +4,6 @@ use Rattle.sheet.specs.Taking.{way-refused, way-accepted, count-accepted
 use borrow.Author.Needs.{needs}
 use Rattle.sheet.proofs.take_body.Statement.{statement}
 use Rattle.sheet.proofs.take_body.Tie as tie
-use Rattle.sheet.proofs.build.build.Reads as build-reads
-use Rattle.sheet.proofs.refuse.Reads as refuse-reads
-use Rattle.sheet.proofs.survey.judge.Reads as judge-reads
-use Rattle.sheet.proofs.survey.survey_all.Reads as survey-all-reads
 
 survey-all-requires : tie.Need-survey-all-requires
 survey-all-requires c κs = search needs

@@ -1,17 +1,12 @@
 -- The refusals 1 and 2 first; then the body without a final CR LF, whose records decide.
 use mathlib.Core.Path.{sym, _∙_}
 use native.Mathlib.Omega.{arith}
-use lib.ListN.{length, take}
 use lib.Seq.{length-take-le}
 use Rattle.code.specs.Laws.Clean.{clean-body}
 use Rattle.sheet.specs.Taking.{way-empty, way-long, way-bytes, way-records}
 use borrow.Author.Needs.{needs}
 use Rattle.sheet.proofs.take_in.Statement.{statement}
 use Rattle.sheet.proofs.take_in.Tie as tie
-use Rattle.sheet.proofs.bytes.bad_bytes.Reads as bad-bytes-reads
-use Rattle.sheet.proofs.bytes.body_len.Reads as body-len-reads
-use Rattle.sheet.proofs.refuse.Reads as refuse-reads
-use Rattle.sheet.proofs.take_body.Reads as take-body-reads
 
 refuse-requires : tie.Need-refuse-requires
 refuse-requires c κs = search needs

@@ -1,3 +1,5 @@
+-- `explore` deals with group after group. The invariant: all groups before `start` are done. The measure falls as `start` rises: the queue has at most 8,257
+-- entries.
 use borrow.Author.Needs.{needs}
 use mathlib.Core.Path.{_≡_}
 use Prim.Native.Nat.{_≤_, _-_}
@@ -7,61 +9,50 @@ use Rattle.shortest.specs.Groups.{was-moved, explore-goal, explore-end, 
 use Rattle.shortest.specs.Queue.{Between}
 use Rattle.shortest.proofs.explore.Statement.{statement}
 use Rattle.shortest.proofs.explore.Tie as tie
-use Rattle.shortest.proofs.explore.Reads as reads
-use Rattle.shortest.proofs.explore.Lts as lts
-use Rattle.shortest.proofs.expand.Reads as expand-reads
 
 abbrev Inv-loop : tie.InvT-loop
-Inv-loop places marks₀ queue₀ start₀ tail₀ marks queue start tail = Between (pairGraph places) marks queue tail start × (16384 ≤ length queue) × (tail ≤ 8257) × (length marks ≡ length marks₀) × (length queue ≡ length queue₀)
+Inv-loop places marks₀ queue₀ start₀ tail₀ marks queue start tail
+    =
+    Between (pairGraph places) marks queue tail start × (16384 ≤ length queue) × (tail ≤ 8257)
+    × (length marks ≡ length marks₀)
+    × (length queue ≡ length queue₀)
 
 abbrev μ-loop : tie.MeasureT-loop
 μ-loop places marks₀ queue₀ start₀ tail₀ marks queue start tail = 8257 - start
 
--- src/lib.rt:334:5
 loop-holds : tie.Need-loop-holds Inv-loop μ-loop
 loop-holds c = (search needs, search needs, search needs, search needs, search needs)
 
--- src/lib.rt:335:15
-expand-requires : tie.Need-expand-requires Inv-loop μ-loop
-expand-requires c κs = search needs
+advance-requires : tie.Need-advance-requires Inv-loop μ-loop
+advance-requires c κs = search needs
 
--- src/lib.rt:336:29
 enum-known-x : tie.Need-enum-known-x Inv-loop μ-loop
 enum-known-x c = search needs
 
--- src/lib.rt:336:35
 same-length : tie.Need-same-length Inv-loop μ-loop
 same-length c = cc
 
--- src/lib.rt:336:35
 same-length-2 : tie.Need-same-length-2 Inv-loop μ-loop
 same-length-2 c = cc
 
--- src/lib.rt:336:35
 returns : tie.Need-returns Inv-loop μ-loop
 returns c = search explore-goal
 
--- src/lib.rt:337:29
 enum-known-b : tie.Need-enum-known-b Inv-loop μ-loop
 enum-known-b c = search needs
 
--- src/lib.rt:334:5
 loop-less : tie.Need-loop-less Inv-loop μ-loop
 loop-less c = search explore-less
 
--- src/lib.rt:334:5
 loop-again : tie.Need-loop-again Inv-loop μ-loop
 loop-again c = (search was-moved, search needs, search moved-few, (cc), (cc))
 
--- src/lib.rt:328:1
 same-length-3 : tie.Need-same-length-3 Inv-loop μ-loop
 same-length-3 c = cc
 
--- src/lib.rt:328:1
 same-length-4 : tie.Need-same-length-4 Inv-loop μ-loop
 same-length-4 c = cc
 
--- src/lib.rt:328:1
 returns-2 : tie.Need-returns-2 Inv-loop μ-loop
 returns-2 c = search explore-end
 
@@ -72,7 +63,7 @@ explore-spec =
     Inv-loop
     μ-loop
     loop-holds
-    expand-requires
+    advance-requires
     enum-known-x
     same-length
     same-length-2

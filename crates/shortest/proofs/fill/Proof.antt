@@ -1,3 +1,5 @@
+-- `fill` stores a label back to front. The invariant: the last symbols are stored from `at` on, and the label of `index` comes before them. The measure is
+-- `index`.
 use borrow.Author.Needs.{needs}
 use mathlib.Core.Path.{_≡_}
 use lib.ListN.{length}
@@ -6,66 +8,51 @@ use Rattle.shortest.specs.Spelling.{Filled, fill-begin, fill-some, fill-
 use Rattle.shortest.specs.Writing.{fill-within, fill-store}
 use Rattle.shortest.proofs.fill.Statement.{statement}
 use Rattle.shortest.proofs.fill.Tie as tie
-use Rattle.shortest.proofs.fill.Reads as reads
-use Rattle.shortest.proofs.fill.Lts as lts
-use Rattle.shortest.proofs.from_of.Reads as from-of-reads
-use Rattle.shortest.proofs.pair_of.Reads as pair-of-reads
 
 abbrev Inv-loop : tie.InvT-loop
-Inv-loop places queue message₀ start count place₀ at₀ message place at = Filled (pairGraph places) queue start count message₀ place at message × (length message ≡ length message₀)
+Inv-loop places queue message₀ start count index₀ at₀ message index at
+    =
+    Filled (pairGraph places) queue start count message₀ index at message × (length message ≡ length message₀)
 
 abbrev μ-loop : tie.MeasureT-loop
-μ-loop places queue message₀ start count place₀ at₀ message place at = place
+μ-loop places queue message₀ start count index₀ at₀ message index at = index
 
--- src/lib.rt:379:5
 loop-holds : tie.Need-loop-holds Inv-loop μ-loop
 loop-holds c = (search fill-begin, search needs)
 
--- src/lib.rt:380:21
 mul-entry : tie.Need-mul-entry Inv-loop μ-loop
 mul-entry c = search needs
 
--- src/lib.rt:380:21
 shared-slice-read-entry : tie.Need-shared-slice-read-entry Inv-loop μ-loop
 shared-slice-read-entry c = search needs
 
--- src/lib.rt:381:13
 pair-of-requires : tie.Need-pair-of-requires Inv-loop μ-loop
 pair-of-requires c κs = search needs
 
--- src/lib.rt:383:9
 sub-at : tie.Need-sub-at Inv-loop μ-loop
 sub-at c = search fill-some
 
--- src/lib.rt:384:23
 shared-slice-read-message : tie.Need-shared-slice-read-message Inv-loop μ-loop
 shared-slice-read-message c = search needs
 
--- src/lib.rt:384:9
 slice-write-message : tie.Need-slice-write-message Inv-loop μ-loop
 slice-write-message c = search fill-within
 
--- src/lib.rt:385:17
 from-of-requires : tie.Need-from-of-requires Inv-loop μ-loop
 from-of-requires c κs = search needs
 
--- src/lib.rt:385:17
-sub-place : tie.Need-sub-place Inv-loop μ-loop
-sub-place c = search fill-from
+sub-index : tie.Need-sub-index Inv-loop μ-loop
+sub-index c = search fill-from
 
--- src/lib.rt:379:5
 loop-less : tie.Need-loop-less Inv-loop μ-loop
 loop-less c = search fill-falls
 
--- src/lib.rt:379:5
 loop-again : tie.Need-loop-again Inv-loop μ-loop
 loop-again c = (search fill-store, search needs)
 
--- src/lib.rt:373:1
 same-length : tie.Need-same-length Inv-loop μ-loop
 same-length c = search needs
 
--- src/lib.rt:373:1
 returns : tie.Need-returns Inv-loop μ-loop
 returns c = search fill-end
 
@@ -83,7 +70,7 @@ fill-spec =
     shared-slice-read-message
     slice-write-message
     from-of-requires
-    sub-place
+    sub-index
     loop-less
     loop-again
     same-length

@@ -1,59 +1,46 @@
+-- `shortest` starts with the source alone and no mark, and answers as the exploration ends.
 use borrow.Author.Needs.{needs}
 use Rattle.shortest.specs.Contracts.{found}
 use Rattle.shortest.specs.Writing.{started, was-reached, answer-nothing}
 use Rattle.shortest.proofs.shortest.Statement.{statement}
 use Rattle.shortest.proofs.shortest.Tie as tie
-use Rattle.shortest.proofs.shortest.Reads as reads
-use Rattle.shortest.proofs.shortest.Lts as lts
-use Rattle.shortest.proofs.explore.Reads as explore-reads
-use Rattle.shortest.proofs.seed.Reads as seed-reads
-use Rattle.shortest.proofs.write.Reads as write-reads
 
--- src/lib.rt:417:5
 seed-requires : tie.Need-seed-requires
 seed-requires c κs = search needs
 
--- src/lib.rt:418:11
 explore-requires : tie.Need-explore-requires
 explore-requires c κs = (search needs, search needs, search needs, search started)
 
--- src/lib.rt:419:27
 enum-known-a : tie.Need-enum-known-a
 enum-known-a c = search needs
 
--- src/lib.rt:419:50
 write-requires : tie.Need-write-requires
-write-requires c κs = let x = c .before .before .before in (search needs, was-reached (x .before .before .before .before .before .before .explore .ensures) (x .a .given .1), search needs, search needs)
+write-requires c κs =
+    let x = c .before .before .before in
+    let e = x .before .before .before .before .before .before in
+    (search needs, was-reached (e .explore .ensures) (x .a .given .1), search needs, search needs)
 
--- src/lib.rt:420:35
 enum-told : tie.Need-enum-told
 enum-told c = search needs
 
--- src/lib.rt:408:1
 same-length : tie.Need-same-length
 same-length c = search needs
 
--- src/lib.rt:408:1
 same-length-2 : tie.Need-same-length-2
 same-length-2 c = search needs
 
--- src/lib.rt:408:1
 same-length-3 : tie.Need-same-length-3
 same-length-3 c = search needs
 
--- src/lib.rt:408:1
 returns : tie.Need-returns
 returns c = search found
 
--- src/lib.rt:408:1
 same-length-4 : tie.Need-same-length-4
 same-length-4 c = search needs
 
--- src/lib.rt:408:1
 same-length-5 : tie.Need-same-length-5
 same-length-5 c = search needs
 
--- src/lib.rt:408:1
 returns-2 : tie.Need-returns-2
 returns-2 c = search answer-nothing
 

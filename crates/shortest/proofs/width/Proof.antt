@@ -1,48 +1,37 @@
+-- `width` counts the slots by its three cases: the source, a symbol that leads on, a symbol that does not.
 use borrow.Author.Needs.{needs}
 use Prim.Native.Nat.{_+_}
 use native.Mathlib.Omega.{arith}
 use Rattle.shortest.specs.Leaves.{width-words, width-leads, width-none}
 use Rattle.shortest.proofs.width.Statement.{statement}
 use Rattle.shortest.proofs.width.Tie as tie
-use Rattle.shortest.proofs.width.Reads as reads
-use Rattle.shortest.proofs.width.Lts as lts
-use Rattle.places.proofs.slots.Reads as slots-reads
-use Rattle.places.proofs.word_count.Reads as word-count-reads
-use Rattle.shortest.proofs.inner.Reads as inner-reads
 
--- src/lib.rt:147:16
 word-count-requires : tie.Need-word-count-requires
 word-count-requires c κs = search needs
 
--- src/lib.rt:147:9
 returns : tie.Need-returns
-returns c = let s = c .before .before .before .before in width-words (s .pre .0) (s .args .pair .low) (s .args .pair .high) (s .args .symbol) (omega arith) (c .before .if1 .taken)
+returns c =
+    let s = c .before .before .before .before in
+    width-words (s .pre .0) (s .args .pair .low) (s .args .pair .high) (s .args .symbol) (omega arith) (c .before .if1 .taken)
 
--- src/lib.rt:149:9
 inner-requires : tie.Need-inner-requires
 inner-requires c κs = search needs
 
--- src/lib.rt:150:15
 add-if2 : tie.Need-add-if2
 add-if2 c = search needs
 
--- src/lib.rt:150:8
 shared-slice-read-if2 : tie.Need-shared-slice-read-if2
 shared-slice-read-if2 c = search needs
 
--- src/lib.rt:150:8
 cast-if2 : tie.Need-cast-if2
 cast-if2 c = omega (arith, c .shared-slice-known2 .given (c .before .inner .result + 1))
 
--- src/lib.rt:151:9
 slots-requires : tie.Need-slots-requires
 slots-requires c κs = search needs
 
--- src/lib.rt:151:9
 returns-2 : tie.Need-returns-2
 returns-2 c = search width-leads
 
--- src/lib.rt:142:1
 returns-3 : tie.Need-returns-3
 returns-3 c = search width-none
 

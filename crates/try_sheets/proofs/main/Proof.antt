@@ -3,10 +3,6 @@ use borrow.Author.Needs.{needs}
 use Prim.Native.Nat.{_≤_, _-_}
 use Rattle.try_sheets.proofs.main.Statement.{statement}
 use Rattle.try_sheets.proofs.main.Tie as tie
-use Rattle.io.proofs.buffer.Reads as buffer-reads
-use Rattle.os.proofs.arg.Reads as arg-reads
-use Rattle.os.proofs.arg_count.Reads as arg-count-reads
-use Rattle.try_sheets.proofs.try_file.Reads as try-file-reads
 
 abbrev Inv-loop : tie.InvT-loop
 Inv-loop count i₀ i = 1 ≤ i

@@ -3,7 +3,6 @@ use borrow.Author.Needs.{needs}
 use Prim.Native.Nat.{_≤_, _-_}
 use Rattle.try_sheets.proofs.write_row.Statement.{statement}
 use Rattle.try_sheets.proofs.write_row.Tie as tie
-use Rattle.try_sheets.proofs.write_digit.Reads as write-digit-reads
 
 abbrev Inv-loop : tie.InvT-loop
 Inv-loop n row y₀ y = y ≤ 32

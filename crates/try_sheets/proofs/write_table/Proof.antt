@@ -3,9 +3,6 @@ use borrow.Author.Needs.{needs}
 use Prim.Native.Nat.{_≤_, _-_}
 use Rattle.try_sheets.proofs.write_table.Statement.{statement}
 use Rattle.try_sheets.proofs.write_table.Tie as tie
-use Rattle.io.proofs.write_all.Reads as write-all-reads
-use Rattle.try_sheets.proofs.write_row.Reads as write-row-reads
-use Rattle.try_sheets.proofs.write_word.Reads as write-word-reads
 
 abbrev Inv-loop : tie.InvT-loop
 Inv-loop table n x₀ t5 t6 x = x ≤ 32

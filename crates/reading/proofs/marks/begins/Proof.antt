@@ -5,36 +5,19 @@ use Rattle.reading.specs.Marking.{begins-where}
 use Rattle.reading.proofs.marks.begins.Statement.{statement}
 use Rattle.reading.proofs.marks.begins.Tie as tie
 
-stands-requires : tie.Need-stands-requires
-stands-requires c κs = search needs
-
-add-after : tie.Need-add-after
-add-after c = search needs
-
-mul-after : tie.Need-mul-after
-mul-after c = search needs
-
-shared-slice-read-after : tie.Need-shared-slice-read-after
-shared-slice-read-after c = search needs
-
-mul-after-2 : tie.Need-mul-after-2
-mul-after-2 c = search needs
-
-shared-slice-read-after-2 : tie.Need-shared-slice-read-after-2
-shared-slice-read-after-2 c = search needs
-
-sub-after : tie.Need-sub-after
-sub-after c = search needs
-
-add-after-2 : tie.Need-add-after-2
-add-after-2 c = search needs
-
 continues-requires : tie.Need-continues-requires
-continues-requires c κs = let s = c .before .before .before .stands .ensures .yes (c .before .before .if1 .taken) in search needs
+continues-requires c κs =
+    let after-stands = c .before .before .before in
+    let s = after-stands .stands .ensures .yes (c .before .before .if1 .taken) in
+    search needs
 
 returns : tie.Need-returns
-returns c = let p = c .before .before .before .before .before .before .before .before .before .before .pre in
-    begins-where _ (p .0) (p .2) (p .4) (c .before .before .before .before .stands .ensures .yes (c .before .before .before .if1 .taken)) (c .continues .ensures)
+returns c =
+    let at-if1 = c .before .before .before in
+    let after-stands = at-if1 .before in
+    let start = after-stands .before .before .before .before .before .before in
+    let p = start .pre in
+    begins-where _ (p .0) (p .2) (p .4) (after-stands .stands .ensures .yes (at-if1 .if1 .taken)) (c .continues .ensures)
 
 returns-2 : tie.Need-returns-2
 returns-2 c = exactly-false λ b. c .before .stands .ensures .no (c .if1 .left) (b .here .1)
@@ -43,14 +26,14 @@ pub begins-spec : {M : Type 1} → statement M
 begins-spec =
     tie.close
     (tie.spec
-    stands-requires
-    add-after
-    mul-after
-    shared-slice-read-after
-    mul-after-2
-    shared-slice-read-after-2
-    sub-after
-    add-after-2
+    (λ c κs. search needs)
+    (λ c. search needs)
+    (λ c. search needs)
+    (λ c. search needs)
+    (λ c. search needs)
+    (λ c. search needs)
+    (λ c. search needs)
+    (λ c. search needs)
     continues-requires
     returns
     returns-2)

@@ -5,18 +5,6 @@ use Rattle.reading.specs.Choices.{usable}
 use Rattle.reading.proofs.marks.usable.Statement.{statement}
 use Rattle.reading.proofs.marks.usable.Tie as tie
 
-mul-get : tie.Need-mul-get
-mul-get c = search needs
-
-add-get : tie.Need-add-get
-add-get c = search needs
-
-get-requires : tie.Need-get-requires
-get-requires c κs = search needs
-
-follows-requires : tie.Need-follows-requires
-follows-requires c κs = search needs
-
 returns : tie.Need-returns
 unfolding usable
 returns c = rw (sym (c .before .before .get .ensures) ∙ c .before .if1 .taken, c .follows .ensures)
@@ -26,4 +14,12 @@ unfolding usable
 returns-2 c = rw (sym (c .before .get .ensures) ∙ c .if1 .left)
 
 pub usable-spec : {M : Type 1} → statement M
-usable-spec = tie.close (tie.spec mul-get add-get get-requires follows-requires returns returns-2)
+usable-spec =
+    tie.close
+    (tie.spec
+    (λ c. search needs)
+    (λ c. search needs)
+    (λ c κs. search needs)
+    (λ c κs. search needs)
+    returns
+    returns-2)

@@ -8,45 +8,49 @@ use Rattle.reading.specs.Answers.{branched, answer-none, answer-one, ans
 use Rattle.reading.proofs.walks.first_readings.Statement.{statement}
 use Rattle.reading.proofs.walks.first_readings.Tie as tie
 
-continues-requires : tie.Need-continues-requires
-continues-requires c κs = search needs
-
 least-reading-requires : tie.Need-least-reading-requires
-least-reading-requires c κs = let p = c .before .before .before .before .before .before .before .before .pre in
+least-reading-requires c κs =
+    let start = c .before .before .before .before .before .before .before .before in
+    let p = start .pre in
     (p .0, continues-can (sure-tells (p .0 .sure) 0) (c .before .before .continues .ensures .yes (c .before .if1 .taken)), omega arith, omega arith, omega arith, p .1)
 
-same-length : tie.Need-same-length
-same-length c = search needs
-
 returns : tie.Need-returns
-returns c = answer-one (c .before .before .before .before .least-reading .ensures) (c .if2 .taken)
+returns c =
+    let after-least-reading = c .before .before .before .before in
+    answer-one (after-least-reading .least-reading .ensures) (c .if2 .taken)
 
 second-reading-requires : tie.Need-second-reading-requires
-second-reading-requires c κs = let p = c .before .before .before .before .before .before .before .before .before .before .before .before .before .before .before .pre in let e = c .before .before .before .before .before .before .least-reading .ensures in let d = branched e (c .before .before .if2 .left) in
+second-reading-requires c κs =
+    let after-least-reading = c .before .before .before .before .before .before in
+    let start = after-least-reading .before .before .before .before .before .before .before .before .before in
+    let p = start .pre in
+    let e = after-least-reading .least-reading .ensures in
+    let d = branched e (c .before .before .if2 .left) in
     (p .0, d, begins-taken (p .0) (d .known) (d .begins), omega arith, omega arith)
 
-same-length-2 : tie.Need-same-length-2
-same-length-2 c = search needs
-
-same-length-3 : tie.Need-same-length-3
-same-length-3 c = search needs
-
 returns-2 : tie.Need-returns-2
-returns-2 c = let e = c .before .before .before .before .before .before .before .before .before .least-reading .ensures in answer-two e (branched e (c .before .before .before .before .before .if2 .left) .known) (c .before .before .second-reading .ensures)
+returns-2 c =
+    let at-if2 = c .before .before .before .before .before in
+    let after-least-reading = at-if2 .before .before .before .before in
+    let e = after-least-reading .least-reading .ensures in
+    answer-two e (branched e (at-if2 .if2 .left) .known) (c .before .before .second-reading .ensures)
 
 returns-3 : tie.Need-returns-3
-returns-3 c = let p = c .before .before .before .before .before .before .before .pre in answer-none λ r. c .before .continues .ensures .no (c .if1 .left) (can-continues (sure-tells (p .0 .sure) 0) r)
+returns-3 c =
+    let start = c .before .before .before .before .before .before .before in
+    let p = start .pre in
+    answer-none λ r. c .before .continues .ensures .no (c .if1 .left) (can-continues (sure-tells (p .0 .sure) 0) r)
 
 pub first-readings-spec : {M : Type 1} → statement M
 first-readings-spec =
     tie.close
     (tie.spec
-    continues-requires
+    (λ c κs. search needs)
     least-reading-requires
-    same-length
+    (λ c. search needs)
     returns
     second-reading-requires
-    same-length-2
-    same-length-3
+    (λ c. search needs)
+    (λ c. search needs)
     returns-2
     returns-3)

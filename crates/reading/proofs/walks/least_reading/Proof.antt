@@ -10,65 +10,92 @@ use Rattle.reading.proofs.walks.least_reading.Statement.{statement}
 use Rattle.reading.proofs.walks.least_reading.Tie as tie
 
 abbrev Inv-loop : tie.InvT-loop
-Inv-loop base follow n end work out₀ from pos last w₀ out w = Walking (shown base follow work n end) n pos last from out₀ out w × (length out ≡ length out₀)
+Inv-loop base follow n end work out₀ from pos last w₀ out w =
+    Walking (shown base follow work n end) n pos last from out₀ out w × (length out ≡ length out₀)
 
 abbrev μ-loop : tie.MeasureT-loop
 μ-loop base follow n end work out₀ from pos last w₀ out w = end - w .pos
 
 loop-holds : tie.Need-loop-holds Inv-loop μ-loop
-loop-holds c = let p = c .before .before .before .before .pre in (walking-start _ _ _ (p .1) (p .2) (p .3) (p .4), refl)
-
-seek-requires : tie.Need-seek-requires Inv-loop μ-loop
-seek-requires c κs = search needs
-
-add-seek : tie.Need-add-seek Inv-loop μ-loop
-add-seek c = let p = c .before .before .before .before .before .before .before .before .pre in let l = c .before .before .before .loop in let t = sought-taken (p .0) (c .before .if1 .taken) (l .inv .0 .can) (c .seek .ensures) in omega arith
+loop-holds c =
+    let start = c .before .before .before .before in
+    let p = start .pre in
+    (walking-start _ _ _ (p .1) (p .2) (p .3) (p .4), refl)
 
 seek-requires-2 : tie.Need-seek-requires-2 Inv-loop μ-loop
-seek-requires-2 c κs = let p = c .before .before .before .before .before .before .before .before .pre in let l = c .before .before .before .loop in let t = sought-taken (p .0) (c .before .if1 .taken) (l .inv .0 .can) (c .seek .ensures) in search needs
-
-add-i : tie.Need-add-i Inv-loop μ-loop
-add-i c = search needs
-
-cast-out : tie.Need-cast-out Inv-loop μ-loop
-cast-out c = let p = c .before .before .before .before .before .before .before .before .before .before .pre in let l = c .before .before .before .before .before .loop in let t = sought-taken (p .0) (c .before .before .before .if1 .taken) (l .inv .0 .can) (c .before .before .seek .ensures) in search needs
-
-slice-write-out : tie.Need-slice-write-out Inv-loop μ-loop
-slice-write-out c = search needs
-
-add-advance : tie.Need-add-advance Inv-loop μ-loop
-add-advance c = let p = c .before .before .before .before .before .before .before .before .before .before .pre in let l = c .before .before .before .before .before .loop in let t = sought-taken (p .0) (c .before .before .before .if1 .taken) (l .inv .0 .can) (c .before .before .seek .ensures) in omega arith
-
-mul-advance : tie.Need-mul-advance Inv-loop μ-loop
-mul-advance c = let p = c .before .before .before .before .before .before .before .before .before .before .pre in let l = c .before .before .before .before .before .loop in let t = sought-taken (p .0) (c .before .before .before .if1 .taken) (l .inv .0 .can) (c .before .before .seek .ensures) in omega arith
+seek-requires-2 c κs =
+    let head = c .before .before .before in
+    let start = head .before .before .before .before .before in
+    let p = start .pre in
+    let l = head .loop in
+    let t = sought-taken (p .0) (c .before .if1 .taken) (l .inv .0 .can) (c .seek .ensures) in
+    search needs
 
 shared-slice-read-advance : tie.Need-shared-slice-read-advance Inv-loop μ-loop
-shared-slice-read-advance c = let p = c .before .before .before .before .before .before .before .before .before .before .before .pre in let l = c .before .before .before .before .before .before .loop in let t = sought-taken (p .0) (c .before .before .before .before .if1 .taken) (l .inv .0 .can) (c .before .before .before .seek .ensures) in omega arith
-
-mul-advance-2 : tie.Need-mul-advance-2 Inv-loop μ-loop
-mul-advance-2 c = let p = c .before .before .before .before .before .before .before .before .before .before .before .pre in let l = c .before .before .before .before .before .before .loop in let t = sought-taken (p .0) (c .before .before .before .before .if1 .taken) (l .inv .0 .can) (c .before .before .before .seek .ensures) in omega arith
-
-shared-slice-read-advance-2 : tie.Need-shared-slice-read-advance-2 Inv-loop μ-loop
-shared-slice-read-advance-2 c = let p = c .before .before .before .before .before .before .before .before .before .before .before .before .pre in let l = c .before .before .before .before .before .before .before .loop in let t = sought-taken (p .0) (c .before .before .before .before .before .if1 .taken) (l .inv .0 .can) (c .before .before .before .before .seek .ensures) in omega arith
+shared-slice-read-advance c =
+    let after-seek = c .before .before .before in
+    let at-if1 = after-seek .before in
+    let head = at-if1 .before .before in
+    let start = head .before .before .before .before .before in
+    let p = start .pre in
+    let l = head .loop in
+    let t = sought-taken (p .0) (at-if1 .if1 .taken) (l .inv .0 .can) (after-seek .seek .ensures) in
+    omega arith
 
 sub-advance : tie.Need-sub-advance Inv-loop μ-loop
-sub-advance c = let p = c .before .before .before .before .before .before .before .before .before .before .before .before .pre in let l = c .before .before .before .before .before .before .before .loop in let t = sought-taken (p .0) (c .before .before .before .before .before .if1 .taken) (l .inv .0 .can) (c .before .before .before .before .seek .ensures) in omega arith
+sub-advance c =
+    let after-seek = c .before .before .before .before in
+    let at-if1 = after-seek .before in
+    let head = at-if1 .before .before in
+    let start = head .before .before .before .before .before in
+    let p = start .pre in
+    let l = head .loop in
+    let t = sought-taken (p .0) (at-if1 .if1 .taken) (l .inv .0 .can) (after-seek .seek .ensures) in
+    omega arith
 
 advance-requires : tie.Need-advance-requires Inv-loop μ-loop
-advance-requires c κs = let p = c .before .before .before .before .before .before .before .before .before .before .before .before .pre in let l = c .before .before .before .before .before .before .before .loop in let t = sought-taken (p .0) (c .before .before .before .before .before .if1 .taken) (l .inv .0 .can) (c .before .before .before .before .seek .ensures) in search needs
+advance-requires c κs =
+    let after-seek = c .before .before .before .before in
+    let at-if1 = after-seek .before in
+    let head = at-if1 .before .before in
+    let start = head .before .before .before .before .before in
+    let p = start .pre in
+    let l = head .loop in
+    let t = sought-taken (p .0) (at-if1 .if1 .taken) (l .inv .0 .can) (after-seek .seek .ensures) in
+    search needs
 
 loop-less : tie.Need-loop-less Inv-loop μ-loop
-loop-less c = let p = c .before .before .before .before .before .before .before .before .before .before .before .before .before .pre in let l = c .before .before .before .before .before .before .before .before .loop in let t = sought-taken (p .0) (c .before .before .before .before .before .before .if1 .taken) (l .inv .0 .can) (c .before .before .before .before .before .seek .ensures) in rw (c .advance .ensures) (omega arith)
+loop-less c =
+    let after-seek = c .before .before .before .before .before in
+    let at-if1 = after-seek .before in
+    let head = at-if1 .before .before in
+    let start = head .before .before .before .before .before in
+    let p = start .pre in
+    let l = head .loop in
+    let t = sought-taken (p .0) (at-if1 .if1 .taken) (l .inv .0 .can) (after-seek .seek .ensures) in
+    rw (c .advance .ensures) (omega arith)
 
 loop-again : tie.Need-loop-again Inv-loop μ-loop
-loop-again c = let p = c .before .before .before .before .before .before .before .before .before .before .before .before .before .pre in let l = c .before .before .before .before .before .before .before .before .loop in let t = sought-taken (p .0) (c .before .before .before .before .before .before .if1 .taken) (l .inv .0 .can) (c .before .before .before .before .before .seek .ensures) in
-    (rw (c .advance .ensures) (walking-on (p .0) (l .inv .0) (c .before .before .before .before .before .before .if1 .taken) (p .5) (c .before .before .before .before .before .seek .ensures) (c .before .before .before .before .seek2 .ensures)), simp length-set (l .inv .1))
+loop-again c =
+    let after-seek2 = c .before .before .before .before in
+    let after-seek = after-seek2 .before in
+    let at-if1 = after-seek .before in
+    let head = at-if1 .before .before in
+    let start = head .before .before .before .before .before in
+    let p = start .pre in
+    let l = head .loop in
+    let t = sought-taken (p .0) (at-if1 .if1 .taken) (l .inv .0 .can) (after-seek .seek .ensures) in
+    (rw (c .advance .ensures) (walking-on (p .0) (l .inv .0) (at-if1 .if1 .taken) (p .5) (after-seek .seek .ensures) (after-seek2 .seek2 .ensures)), simp length-set (l .inv .1))
 
 same-length : tie.Need-same-length Inv-loop μ-loop
 same-length c = c .before .before .loop .inv .1
 
 returns : tie.Need-returns Inv-loop μ-loop
-returns c = let p = c .before .before .before .before .before .before .before .pre in let l = c .before .before .loop in walking-end (p .0 .sure .bounded) (l .inv .0) (c .if1 .left)
+returns c =
+    let start = c .before .before .before .before .before .before .before in
+    let p = start .pre in
+    let l = c .before .before .loop in
+    walking-end (p .0 .sure .bounded) (l .inv .0) (c .if1 .left)
 
 pub least-reading-spec : {M : Type 1} → statement M
 least-reading-spec =
@@ -77,17 +104,17 @@ least-reading-spec =
     Inv-loop
     μ-loop
     loop-holds
-    seek-requires
-    add-seek
+    (λ c κs. search needs)
+    (λ c. search needs)
     seek-requires-2
-    add-i
-    cast-out
-    slice-write-out
-    add-advance
-    mul-advance
+    (λ c. search needs)
+    (λ c. search needs)
+    (λ c. search needs)
+    (λ c. search needs)
+    (λ c. search needs)
     shared-slice-read-advance
-    mul-advance-2
-    shared-slice-read-advance-2
+    (λ c. search needs)
+    (λ c. search needs)
     sub-advance
     advance-requires
     loop-less

@@ -4,8 +4,6 @@ use Rattle.code.specs.Definitions.Sheets.{blankCode, codeOf}
 use borrow.Author.Needs.{needs}
 use Rattle.sheet.proofs.build.blank_code.Statement.{statement}
 use Rattle.sheet.proofs.build.blank_code.Tie as tie
-use Rattle.sheet.proofs.build.blank_row.Reads as blank-row-reads
-use Rattle.sheet.proofs.build.blank_word.Reads as blank-word-reads
 
 blank-word-requires : tie.Need-blank-word-requires
 blank-word-requires c κs = search needs

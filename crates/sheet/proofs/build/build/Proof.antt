@@ -6,10 +6,6 @@ use Rattle.code.specs.Laws.Clean.{recordFields}
 use Rattle.sheet.specs.Building.{Built, built-none, word-next, row-next, built-more, built-all}
 use Rattle.sheet.proofs.build.build.Statement.{statement}
 use Rattle.sheet.proofs.build.build.Tie as tie
-use Rattle.sheet.proofs.build.blank_code.Reads as blank-code-reads
-use Rattle.sheet.proofs.build.read_row.Reads as read-row-reads
-use Rattle.sheet.proofs.build.read_word.Reads as read-word-reads
-use Rattle.sheet.proofs.bytes.field_end.Reads as field-end-reads
 
 abbrev Inv-loop : tie.InvT-loop
 Inv-loop s n code₀ at₀ k₀ code at k = Built s (recordFields s) code at k

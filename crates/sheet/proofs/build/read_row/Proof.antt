@@ -11,8 +11,6 @@ use Rattle.code.specs.Laws.Filling.{fill-next}
 use Rattle.sheet.specs.Building.{rowByte, row-symbol, row-filled}
 use Rattle.sheet.proofs.build.read_row.Statement.{statement}
 use Rattle.sheet.proofs.build.read_row.Tie as tie
-use Rattle.sheet.proofs.build.blank_row.Reads as blank-row-reads
-use Rattle.sheet.proofs.bytes.value_of.Reads as value-of-reads
 
 abbrev Inv-loop : tie.InvT-loop
 Inv-loop s at n row₀ y₀ row y = (y ≤ n) × (length (row .entries) ≡ 32) × (row .entries ≡ table (rowByte s at n) y ++ drop y (replicate 32 0))

@@ -12,8 +12,6 @@ use Rattle.sheet.specs.Fields.{leading}
 use Rattle.sheet.specs.Building.{symbolOf, word-digit, word-symbol, word-read}
 use Rattle.sheet.proofs.build.read_word.Statement.{statement}
 use Rattle.sheet.proofs.build.read_word.Tie as tie
-use Rattle.sheet.proofs.build.blank_word.Reads as blank-word-reads
-use Rattle.sheet.proofs.bytes.value_of.Reads as value-of-reads
 
 abbrev Inv-loop : tie.InvT-loop
 Inv-loop s at e n word₀ k₀ word k = (k ≤ n) × (length (word .symbols) ≡ 16) × (word .symbols ≡ table (symbolOf (leading (drop at s))) k ++ drop k (replicate 16 0)) × (word .len ≡ n)

@@ -4,7 +4,6 @@ use mathlib.Core.Path.{sym, _∙_}
 use borrow.Author.Needs.{needs}
 use Rattle.sheet.proofs.bytes.bad_byte.Statement.{statement}
 use Rattle.sheet.proofs.bytes.bad_byte.Tie as tie
-use Rattle.sheet.proofs.bytes.is_digit.Reads as is-digit-reads
 
 returns : tie.Need-returns
 returns c = rw (c .if1 .taken)

@@ -8,9 +8,6 @@ use Rattle.code.specs.Definitions.Sheets.{badBytes}
 use Rattle.sheet.specs.Fields.{bad-on, bad-end}
 use Rattle.sheet.proofs.bytes.bad_bytes.Statement.{statement}
 use Rattle.sheet.proofs.bytes.bad_bytes.Tie as tie
-use Rattle.sheet.proofs.bytes.bad_byte.Reads as bad-byte-reads
-use Rattle.sheet.proofs.bytes.now_cr.Reads as now-cr-reads
-use Rattle.sheet.proofs.bytes.or.Reads as or-reads
 
 abbrev Inv-loop : tie.InvT-loop
 Inv-loop s bad₀ cr₀ i₀ bad cr i = (i ≤ length s) × (bad || badBytes cr (drop i s) ≡ badBytes false s)

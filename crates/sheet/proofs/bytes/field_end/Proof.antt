@@ -7,7 +7,6 @@ use lib.ListN.{length, drop}
 use Rattle.sheet.specs.Fields.{leading, leading-on, leading-stop, leading-end}
 use Rattle.sheet.proofs.bytes.field_end.Statement.{statement}
 use Rattle.sheet.proofs.bytes.field_end.Tie as tie
-use Rattle.sheet.proofs.bytes.is_digit.Reads as is-digit-reads
 
 abbrev Inv-loop : tie.InvT-loop
 Inv-loop s at i₀ i = (i ≤ length s) × (i + length (leading (drop i s)) ≡ at + length (leading (drop at s)))

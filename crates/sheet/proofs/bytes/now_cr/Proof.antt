@@ -1,5 +1,4 @@
 -- After a CR the next byte does not stand after one; else it does exactly if this one is a CR.
-use borrow.Author.Needs.{needs}
 use Rattle.sheet.proofs.bytes.now_cr.Statement.{statement}
 use Rattle.sheet.proofs.bytes.now_cr.Tie as tie
 

@@ -1,10 +1,8 @@
 -- The first record sets the width; a later one is held to it.
-use mathlib.Core.Path.{_∙_}
 use Rattle.sheet.specs.Passing.{end-first, end-later}
 use borrow.Author.Needs.{needs}
 use Rattle.sheet.proofs.survey.end_record.Statement.{statement}
 use Rattle.sheet.proofs.survey.end_record.Tie as tie
-use Rattle.sheet.proofs.bytes.or.Reads as or-reads
 
 add-next : tie.Need-add-next
 add-next c = search needs

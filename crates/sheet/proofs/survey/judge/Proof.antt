@@ -4,7 +4,6 @@ use borrow.Author.Tests.{lt-ltb, le-ltb}
 use borrow.Author.Needs.{needs}
 use Rattle.sheet.proofs.survey.judge.Statement.{statement}
 use Rattle.sheet.proofs.survey.judge.Tie as tie
-use Rattle.sheet.proofs.bytes.or.Reads as or-reads
 
 returns : tie.Need-returns
 returns c = rw (lt-ltb 32 _ (c .if1 .taken))

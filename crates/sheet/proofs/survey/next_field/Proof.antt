@@ -4,10 +4,6 @@ use Rattle.sheet.specs.Passing.{span-records, step-comma, step-line, ste
 use borrow.Author.Needs.{needs}
 use Rattle.sheet.proofs.survey.next_field.Statement.{statement}
 use Rattle.sheet.proofs.survey.next_field.Tie as tie
-use Rattle.sheet.proofs.bytes.field_end.Reads as field-end-reads
-use Rattle.sheet.proofs.survey.byte_at.Reads as byte-at-reads
-use Rattle.sheet.proofs.survey.end_record.Reads as end-record-reads
-use Rattle.sheet.proofs.survey.take_span.Reads as take-span-reads
 
 field-end-requires : tie.Need-field-end-requires
 field-end-requires c κs = search needs

@@ -9,7 +9,6 @@ use Rattle.sheet.specs.Survey.{start, surveyRecords}
 use Rattle.sheet.specs.Passing.{restOf, Bounded, passing-starts, passing-ends}
 use Rattle.sheet.proofs.survey.survey_all.Statement.{statement}
 use Rattle.sheet.proofs.survey.survey_all.Tie as tie
-use Rattle.sheet.proofs.survey.next_field.Reads as next-field-reads
 
 abbrev Inv-loop : tie.InvT-loop
 Inv-loop s c₀ c = (surveyRecords (c .survey) (restOf s (c .at)) ≡ surveyRecords start (recordFields s)) × (c .at ≤ length s → Clean (drop (c .at) s)) × Bounded c × (c .at ≤ length s + 2)

@@ -3,9 +3,6 @@ use Rattle.sheet.specs.Passing.{span-word, span-entry}
 use borrow.Author.Needs.{needs}
 use Rattle.sheet.proofs.survey.take_span.Statement.{statement}
 use Rattle.sheet.proofs.survey.take_span.Tie as tie
-use Rattle.sheet.proofs.bytes.or.Reads as or-reads
-use Rattle.sheet.proofs.survey.entry_bad.Reads as entry-bad-reads
-use Rattle.sheet.proofs.survey.word_bad.Reads as word-bad-reads
 
 add-next : tie.Need-add-next
 add-next c = search needs

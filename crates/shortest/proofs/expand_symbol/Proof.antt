@@ -1,0 +1,79 @@
+-- `expand_symbol` deals with the members of a group for one symbol. The invariant: the members before `member` are done. The measure is what is left of the
+-- group.
+use borrow.Author.Needs.{needs}
+use mathlib.Core.Path.{_≡_}
+use Prim.Native.Nat.{_≤_, _-_}
+use lib.ListN.{length}
+use Rattle.shortest.specs.Contracts.{Stands}
+use Rattle.shortest.specs.Parts.{was-tail, goal-again, ready, symbol-end}
+use Rattle.shortest.proofs.expand_symbol.Statement.{statement}
+use Rattle.shortest.proofs.expand_symbol.Tie as tie
+
+abbrev Inv-loop : tie.InvT-loop
+Inv-loop places marks₀ queue₀ group symbol tail member₀ tail₀ marks queue member tail'
+    =
+    Stands places marks queue tail' (group .start) (group .end) symbol member 0 × (16384 ≤ length queue)
+    × (length marks ≡ length marks₀)
+    × (length queue ≡ length queue₀)
+
+abbrev μ-loop : tie.MeasureT-loop
+μ-loop places marks₀ queue₀ group symbol tail member₀ tail₀ marks queue member tail' = group .end - member
+
+loop-holds : tie.Need-loop-holds Inv-loop μ-loop
+loop-holds c = (search needs, search needs, search needs, search needs)
+
+expand-member-requires : tie.Need-expand-member-requires Inv-loop μ-loop
+expand-member-requires c κs = (search needs, search needs, search needs, search ready)
+
+enum-known-x : tie.Need-enum-known-x Inv-loop μ-loop
+enum-known-x c = search needs
+
+same-length : tie.Need-same-length Inv-loop μ-loop
+same-length c = cc
+
+same-length-2 : tie.Need-same-length-2 Inv-loop μ-loop
+same-length-2 c = cc
+
+returns : tie.Need-returns Inv-loop μ-loop
+returns c = search goal-again
+
+enum-known-e : tie.Need-enum-known-e Inv-loop μ-loop
+enum-known-e c = search needs
+
+add-member : tie.Need-add-member Inv-loop μ-loop
+add-member c = search needs
+
+loop-less : tie.Need-loop-less Inv-loop μ-loop
+loop-less c = search needs
+
+loop-again : tie.Need-loop-again Inv-loop μ-loop
+loop-again c = (search was-tail, search needs, (cc), (cc))
+
+same-length-3 : tie.Need-same-length-3 Inv-loop μ-loop
+same-length-3 c = cc
+
+same-length-4 : tie.Need-same-length-4 Inv-loop μ-loop
+same-length-4 c = cc
+
+returns-2 : tie.Need-returns-2 Inv-loop μ-loop
+returns-2 c = search symbol-end
+
+pub expand-symbol-spec : {M : Type 1} → statement M
+expand-symbol-spec =
+    tie.close
+    (tie.spec
+    Inv-loop
+    μ-loop
+    loop-holds
+    expand-member-requires
+    enum-known-x
+    same-length
+    same-length-2
+    returns
+    enum-known-e
+    add-member
+    loop-less
+    loop-again
+    same-length-3
+    same-length-4
+    returns-2)
