@@ -14,29 +14,30 @@ use Rattle.code.specs.declared.Taken.{Taken}
 use Rattle.code.specs.declared.Refusal.{Refusal}
 use Rattle.code.specs.declared.SheetAnswer.the-variants.{Accepted, Refused}
 use Rattle.code.specs.declared.Encoding.{Encoding}
+use Rattle.code.specs.declared.Reading.{Reading}
 use Rattle.code.specs.Definitions.Answers.{refusalNumber}
-use Rattle.code.specs.Definitions.Operations.{written, Encodes}
+use Rattle.code.specs.Definitions.Operations.{written, Encodes, ReadsMessage}
 use Rattle.code.specs.Definitions.Sheets.{limits, taken}
 use Rattle.table.specs.Exactly.{Exactly}
 use Rattle.table.specs.Given.{well}
 use Rattle.table.specs.WellFormed.{WellFormed}
 use Rattle.capi.specs.Image.{imageLength, imageOf, codeIn}
-use Rattle.capi.specs.Answers.{encodingNumber, encodingEntries}
-use Rattle.capi.specs.Calls.{shortNumber, TakesIn, Short, EncodeCall, short, answered}
+use Rattle.capi.specs.Answers.{answerLength, encodingNumber, encodingEntries, readingNumber, readingEntries}
+use Rattle.capi.specs.Calls.{shortNumber, TakesIn, Short, EncodeCall, ReadCall}
 
 -- The image is long enough, so the answer decides.
-pub short-answer : (image answer entries : ℕ) → imageLength ≤ image → Exactly (ltb answer entries) (Short image answer entries)
-short-answer image answer entries h = record {
-  yes = λ t. inr (ltb-true answer entries t);
-  no = λ t s. ⊎-elim (λ i. omega arith) (λ i. omega (arith, ltb-false answer entries t)) s;
+pub short-answer : (image answer : ℕ) → imageLength ≤ image → Exactly (ltb answer answerLength) (Short image answer)
+short-answer image answer h = record {
+  yes = λ t. inr (ltb-true answer answerLength t);
+  no = λ t s. ⊎-elim (λ i. omega arith) (λ i. omega (arith, ltb-false answer answerLength t)) s;
 }
 
-module _ {t : Bool} {image answer entries : ℕ} (tested : Exactly t (Short image answer entries)) (enough : t ≡ false) where
+module _ {t : Bool} {image answer : ℕ} (tested : Exactly t (Short image answer)) (enough : t ≡ false) where
   pub image-room : imageLength ≤ image
   image-room = let h = lt-of-not-le {n = suc image} {m = imageLength} (λ i. tested .no enough (inl i)) in omega arith
 
-  pub answer-room : entries ≤ answer
-  answer-room = let h = lt-of-not-le {n = suc answer} {m = entries} (λ i. tested .no enough (inr i)) in omega arith
+  pub answer-room : answerLength ≤ answer
+  answer-room = let h = lt-of-not-le {n = suc answer} {m = answerLength} (λ i. tested .no enough (inr i)) in omega arith
 
 -- Taking in a sheet
 
@@ -56,10 +57,20 @@ module _ (s b : List ℕ) (t : Taken) (gives : t ≡ taken limits s) where
 
 -- Encoding
 
-module _ {t s m a : List ℕ} {f : Bool} (tested : Exactly f (Short (length t) (length a) 1)) where
+module _ {t s m a : List ℕ} {f : Bool} (tested : Exactly f (Short (length t) (length a))) where
   pub encode-short : {n : ℕ} → f ≡ true → n ≡ shortNumber → EncodeCall t s m a m a n
-  encode-short e h = short (tested .yes e) h refl refl
+  encode-short e h = EncodeCall.short (tested .yes e) h refl refl
 
   pub encode-answered : {m′ a′ : List ℕ} {n : ℕ} {e : Encoding} {c : Code} → f ≡ false → c ≡ codeIn t → Encodes limits c s m m′ e
       → (n ≡ encodingNumber e) × (a′ ≡ written (encodingEntries e) a) → EncodeCall t s m a m′ a′ n
-  encode-answered e u r w = answered (tested .no e) (rw u at r) (w .0) (w .1)
+  encode-answered e u r w = EncodeCall.answered (tested .no e) (rw u at r) (w .0) (w .1)
+
+-- Reading
+
+module _ {t m f g w a : List ℕ} {b : Bool} (tested : Exactly b (Short (length t) (length a))) where
+  pub read-short : {n : ℕ} → b ≡ true → n ≡ shortNumber → ReadCall t m f g w a f g w a n
+  read-short e h = ReadCall.short (tested .yes e) h refl refl refl refl
+
+  pub read-answered : {f′ g′ w′ a′ : List ℕ} {n : ℕ} {e : Reading} {c : Code} → b ≡ false → c ≡ codeIn t → ReadsMessage limits c m f g w f′ g′ w′ e
+      → (n ≡ readingNumber e) × (a′ ≡ written (readingEntries e) a) → ReadCall t m f g w a f′ g′ w′ a′ n
+  read-answered e u r h = ReadCall.answered (tested .no e) (rw u at r) (h .0) (h .1)

@@ -4,9 +4,10 @@
 pub mod answers;
 pub mod image;
 
-use answers::Entries;
+use answers::Answer;
 use answers::number;
 use answers::put_encoding;
+use answers::put_reading;
 use code::Refusal;
 use code::SheetAnswer;
 use image::Image;
@@ -14,16 +15,16 @@ use image::pack;
 use image::unpack;
 ghost use lib.ListN.{length};
 ghost use Rattle.table.specs.Exactly.{Exactly};
-ghost use Rattle.capi.specs.Calls.{Short, TakesIn, EncodeCall};
+ghost use Rattle.capi.specs.Calls.{Short, TakesIn, EncodeCall, ReadCall};
 
 // Whether an image or an answer, by their lengths, is too short.
-fn is_short(image: usize, answer: usize, entries: usize) -> bool
-    ensures { λ r. ⌜ Exactly r (Short image answer entries) ⌝ }
+fn is_short(image: usize, answer: usize) -> bool
+    ensures { λ r. ⌜ Exactly r (Short image answer) ⌝ }
 {
     if image < Image::LENGTH {
         return true;
     }
-    answer < entries
+    answer < Answer::LENGTH
 }
 
 // Takes in a sheet. 0: accepted, and the table's image stands at the start of `table`. Else the refusal's number, and `table` is as it was.
@@ -58,10 +59,32 @@ pub extern "C" fn furlazon_encode(
     ensures { λ r. ⌜ EncodeCall (now (table .entry)) (now (words .entry)) (now (message .entry)) (now (answer .entry))
         (now (message .exit)) (now (answer .exit)) r ⌝ }
 {
-    if is_short(table.len(), answer.len(), Entries::ENCODING) {
+    if is_short(table.len(), answer.len()) {
         return number(Refusal::ShortBuffer);
     }
     let code = unpack(table);
     let e = encoding::encode(code, words, message);
     put_encoding(e, answer)
+}
+
+// Reads a message. 0: the only reading or the first two stand at the start of `first` and `second`; `answer` has 1 or 2, and their lengths. Else the
+// refusal's number. All but 13 for a short `table` or `answer` leave the buffers as reading does.
+#[no_mangle]
+pub extern "C" fn furlazon_read(
+    table: &[u8],
+    message: &[u8],
+    first: &mut [u8],
+    second: &mut [u8],
+    work: &mut [u64],
+    answer: &mut [u64],
+) -> u64
+    ensures { λ r. ⌜ ReadCall (now (table .entry)) (now (message .entry)) (now (first .entry)) (now (second .entry)) (now (work .entry))
+        (now (answer .entry)) (now (first .exit)) (now (second .exit)) (now (work .exit)) (now (answer .exit)) r ⌝ }
+{
+    if is_short(table.len(), answer.len()) {
+        return number(Refusal::ShortBuffer);
+    }
+    let code = unpack(table);
+    let e = reading::read(code, message, first, second, work);
+    put_reading(e, answer)
 }

@@ -18,10 +18,10 @@ number-requires : tie.Need-number-requires
 number-requires c κs = search needs
 
 returns : tie.Need-returns
-returns c = encode-short (c .before .before .is-short .ensures) (c .before .if1 .taken) (c .number .ensures)
+returns c = search encode-short
 
 unpack-requires : tie.Need-unpack-requires
-unpack-requires c κs = image-room (c .before .is-short .ensures) (c .if1 .left)
+unpack-requires c κs = search image-room
 
 encode-requires : tie.Need-encode-requires
 encode-requires c κs = search needs

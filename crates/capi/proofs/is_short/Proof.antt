@@ -9,7 +9,7 @@ returns : tie.Need-returns
 returns c = exactly-true (inl (c .if1 .taken))
 
 returns-2 : tie.Need-returns-2
-returns-2 c = short-answer _ _ _ (c .if1 .left)
+returns-2 c = short-answer _ _ (c .if1 .left)
 
 pub is-short-spec : {M : Type 1} → statement M
 is-short-spec = tie.close (tie.spec returns returns-2)

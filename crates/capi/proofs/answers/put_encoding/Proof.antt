@@ -1,19 +1,18 @@
--- The stores are what the definition has for the case that the match found.
+-- The entries are what the definition has for the case that the match found.
 use mathlib.Core.Path.{refl}
-use mathlib.Core.List.{[], _∷_}
-use Rattle.capi.specs.Stores.{sets-written}
 use borrow.Author.Needs.{needs}
 use Rattle.capi.proofs.answers.put_encoding.Statement.{statement}
 use Rattle.capi.proofs.answers.put_encoding.Tie as tie
 use Rattle.capi.proofs.answers.put_encoding.Reads as reads
 use Rattle.capi.proofs.answers.put_encoding.Lts as lts
 use Rattle.capi.proofs.answers.number.Reads as number-reads
+use Rattle.capi.proofs.answers.put_entries.Reads as put-entries-reads
 
 enum-known-e : tie.Need-enum-known-e
 enum-known-e c = search needs
 
-slice-write-answer : tie.Need-slice-write-answer
-slice-write-answer c = search needs
+put-entries-requires : tie.Need-put-entries-requires
+put-entries-requires c κs = search needs
 
 enum-known-e-2 : tie.Need-enum-known-e-2
 enum-known-e-2 c = search needs
@@ -25,7 +24,7 @@ same-length : tie.Need-same-length
 same-length c = search needs
 
 returns : tie.Need-returns
-returns c = let a = c .before .before .before .before in rw (c .before .e .given .1) (refl, sets-written (_ ∷ []) (a .args .answer .now) (a .pre))
+returns c = rw (c .before .before .before .before .before .e .given .1) (refl, c .before .before .put-entries .ensures)
 
 returns-2 : tie.Need-returns-2
 returns-2 c = search needs
@@ -35,7 +34,7 @@ put-encoding-spec =
     tie.close
     (tie.spec
     enum-known-e
-    slice-write-answer
+    put-entries-requires
     enum-known-e-2
     number-requires
     same-length
