@@ -7,7 +7,16 @@ use Rattle.code.specs.declared.Row.{Row}
 use Rattle.code.specs.declared.Code.{Code}
 use Rattle.code.specs.Definitions.Lists.{table}
 
--- 32 words of 16 symbols and a length, 32 rows of 32 entries, and the count
+-- 32 words of 16 symbols and a length, 32 rows of 32 entries, and the count: the bytes of a word, where the rows begin, where the count stands, and all bytes
+abbrev pub wordWidth : ℕ
+wordWidth = 17
+
+abbrev pub rowsPlace : ℕ
+rowsPlace = 544
+
+abbrev pub countPlace : ℕ
+countPlace = 1568
+
 abbrev pub imageLength : ℕ
 imageLength = 1569
 
@@ -39,10 +48,10 @@ rowIn b at = record { entries = table (byteFrom b at) 32 }
 
 -- word k, and row k
 abbrev pub wordNumber : List ℕ → ℕ → Word
-wordNumber b k = wordIn b (k * 17)
+wordNumber b k = wordIn b (k * wordWidth)
 
 abbrev pub rowNumber : List ℕ → ℕ → Row
-rowNumber b k = rowIn b (544 + k * 32)
+rowNumber b k = rowIn b (rowsPlace + k * 32)
 
 unfoldable pub codeIn : List ℕ → Code
-codeIn b = record { words = table (wordNumber b) 32; rows = table (rowNumber b) 32; count = getD b 1568 0 }
+codeIn b = record { words = table (wordNumber b) 32; rows = table (rowNumber b) 32; count = getD b countPlace 0 }

@@ -7,3 +7,4 @@ pub mod RoundTrip
 pub mod Answers
 pub mod Calls
 pub mod Ways
+pub mod Held

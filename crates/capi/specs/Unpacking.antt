@@ -1,5 +1,5 @@
 -- A code read from bytes: each array is filled from its front until it is the table of its elements.
-use mathlib.Core.Path.{_≡_, refl, _∙_}
+use mathlib.Core.Path.{_≡_, _∙_}
 use mathlib.Core.List.{List, _++_, append-nil}
 use Prim.Native.Nat.{ℕ, _+_, _≤_, _<_}
 use native.Mathlib.Omega.{arith}
@@ -9,7 +9,7 @@ use Rattle.code.specs.declared.Row.{Row}
 use Rattle.code.specs.declared.Code.{Code}
 use Rattle.code.specs.Definitions.Lists.{table}
 use Rattle.code.specs.Laws.Filling.{fill-next}
-use Rattle.capi.specs.Image.{wordNumber, rowNumber, codeIn}
+use Rattle.capi.specs.Image.{countPlace, wordNumber, rowNumber, codeIn}
 
 -- Filled to its end, an array is the table.
 pub filled : {A : Type 0} (f : ℕ → A) (d : List A) (i n : ℕ) → i ≡ n → length d ≤ n → table f i ++ drop i d ≡ table f n
@@ -28,7 +28,7 @@ pub record Unpacked (b : List ℕ) (c : Code) (k : ℕ) : Type 0 where
   pub rows-long : length (c .rows) ≡ 32
   pub words : c .words ≡ table (wordNumber b) k ++ drop k (replicate 32 zeroWord)
   pub rows : c .rows ≡ table (rowNumber b) k ++ drop k (replicate 32 zeroRow)
-  pub count : c .count ≡ getD b 1568 0
+  pub count : c .count ≡ getD b countPlace 0
 
 pub unpacked-next : (b : List ℕ) (c : Code) (k : ℕ) (w : Word) (r : Row) → Unpacked b c k → k < 32 → w ≡ wordNumber b k → r ≡ rowNumber b k
     → Unpacked b (record { words = set (c .words) k w; rows = set (c .rows) k r; count = c .count }) (k + 1)

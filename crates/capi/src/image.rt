@@ -11,7 +11,7 @@ ghost use lib.Seq.{sets};
 ghost use Rattle.code.specs.Definitions.Operations.{written};
 ghost use Rattle.code.specs.Definitions.Sheets.{limits};
 ghost use Rattle.table.specs.WellFormed.{WellFormed};
-ghost use Rattle.capi.specs.Image.{imageLength, wordBytes, rowsBytes, wordsBytes, imageOf, wordIn, rowIn, codeIn};
+ghost use Rattle.capi.specs.Image.{wordWidth, rowsPlace, imageLength, wordBytes, rowsBytes, wordsBytes, imageOf, wordIn, rowIn, codeIn};
 
 pub struct Image {}
 
@@ -40,7 +40,7 @@ fn put(bytes: &[u8], table: &mut [u8], at: usize)
 
 // Stores a word from `at` on.
 fn put_word(w: Word, table: &mut [u8], at: usize)
-    requires { ⌜ (w .len ≤ 255) × (at + 17 ≤ length (now table)) ⌝ }
+    requires { ⌜ (w .len ≤ 255) × (at + wordWidth ≤ length (now table)) ⌝ }
     ensures { λ _. ⌜ now (table .exit) ≡ sets (now (table .entry)) at (wordBytes w) ⌝ }
 {
     let symbols = w.symbols;
@@ -64,7 +64,7 @@ fn put_words(code: Code, table: &mut [u8])
 // Stores the rows behind the words.
 fn put_rows(code: Code, table: &mut [u8])
     requires { ⌜ WellFormed limits code × (imageLength ≤ length (now table)) ⌝ }
-    ensures { λ _. ⌜ now (table .exit) ≡ sets (now (table .entry)) 544 (rowsBytes (code .rows)) ⌝ }
+    ensures { λ _. ⌜ now (table .exit) ≡ sets (now (table .entry)) rowsPlace (rowsBytes (code .rows)) ⌝ }
 {
     let mut k: usize = 0;
     while k < Code::WORDS {
@@ -87,7 +87,7 @@ pub fn pack(code: Code, table: &mut [u8])
 
 // The word that stands from `at` on.
 fn word_in(table: &[u8], at: usize) -> Word
-    requires { ⌜ at + 17 ≤ length (now table) ⌝ }
+    requires { ⌜ at + wordWidth ≤ length (now table) ⌝ }
     ensures { λ r. ⌜ r ≡ wordIn (now (table .entry)) at ⌝ }
 {
     let mut word = Word {

@@ -3,13 +3,6 @@ use Rattle.capi.specs.Ways.{image-room, answer-room, encode-short, encod
 use borrow.Author.Needs.{needs}
 use Rattle.capi.proofs.furlazon_encode.Statement.{statement}
 use Rattle.capi.proofs.furlazon_encode.Tie as tie
-use Rattle.capi.proofs.furlazon_encode.Reads as reads
-use Rattle.capi.proofs.furlazon_encode.Lts as lts
-use Rattle.capi.proofs.answers.number.Reads as number-reads
-use Rattle.capi.proofs.answers.put_encoding.Reads as put-encoding-reads
-use Rattle.capi.proofs.image.unpack.Reads as unpack-reads
-use Rattle.capi.proofs.is_short.Reads as is-short-reads
-use Rattle.encoding.proofs.encode.Reads as encode-reads
 
 is-short-requires : tie.Need-is-short-requires
 is-short-requires c κs = search needs

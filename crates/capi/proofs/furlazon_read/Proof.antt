@@ -3,13 +3,6 @@ use Rattle.capi.specs.Ways.{image-room, answer-room, read-short, read-an
 use borrow.Author.Needs.{needs}
 use Rattle.capi.proofs.furlazon_read.Statement.{statement}
 use Rattle.capi.proofs.furlazon_read.Tie as tie
-use Rattle.capi.proofs.furlazon_read.Reads as reads
-use Rattle.capi.proofs.furlazon_read.Lts as lts
-use Rattle.capi.proofs.answers.number.Reads as number-reads
-use Rattle.capi.proofs.answers.put_reading.Reads as put-reading-reads
-use Rattle.capi.proofs.image.unpack.Reads as unpack-reads
-use Rattle.capi.proofs.is_short.Reads as is-short-reads
-use Rattle.reading.proofs.read.Reads as read-reads
 
 is-short-requires : tie.Need-is-short-requires
 is-short-requires c κs = search needs

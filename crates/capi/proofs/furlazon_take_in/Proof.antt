@@ -3,11 +3,6 @@ use Rattle.capi.specs.Ways.{sheet-short, accepted-well, sheet-accepted, 
 use borrow.Author.Needs.{needs}
 use Rattle.capi.proofs.furlazon_take_in.Statement.{statement}
 use Rattle.capi.proofs.furlazon_take_in.Tie as tie
-use Rattle.capi.proofs.furlazon_take_in.Reads as reads
-use Rattle.capi.proofs.furlazon_take_in.Lts as lts
-use Rattle.capi.proofs.answers.number.Reads as number-reads
-use Rattle.capi.proofs.image.pack.Reads as pack-reads
-use Rattle.sheet.proofs.take_in.Reads as take-in-reads
 
 number-requires : tie.Need-number-requires
 number-requires c κs = search needs

@@ -6,8 +6,6 @@ use Rattle.capi.specs.Stores.{sets-written}
 use borrow.Author.Needs.{needs}
 use Rattle.capi.proofs.answers.put_entries.Statement.{statement}
 use Rattle.capi.proofs.answers.put_entries.Tie as tie
-use Rattle.capi.proofs.answers.put_entries.Reads as reads
-use Rattle.capi.proofs.answers.put_entries.Lts as lts
 
 slice-write-answer : tie.Need-slice-write-answer
 slice-write-answer c = search needs

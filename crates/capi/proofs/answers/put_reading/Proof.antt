@@ -3,10 +3,6 @@ use mathlib.Core.Path.{refl}
 use borrow.Author.Needs.{needs}
 use Rattle.capi.proofs.answers.put_reading.Statement.{statement}
 use Rattle.capi.proofs.answers.put_reading.Tie as tie
-use Rattle.capi.proofs.answers.put_reading.Reads as reads
-use Rattle.capi.proofs.answers.put_reading.Lts as lts
-use Rattle.capi.proofs.answers.number.Reads as number-reads
-use Rattle.capi.proofs.answers.put_entries.Reads as put-entries-reads
 
 enum-known-e : tie.Need-enum-known-e
 enum-known-e c = search needs

@@ -3,10 +3,6 @@ use Rattle.capi.specs.Packing.{packed, packed-length}
 use borrow.Author.Needs.{needs}
 use Rattle.capi.proofs.image.pack.Statement.{statement}
 use Rattle.capi.proofs.image.pack.Tie as tie
-use Rattle.capi.proofs.image.pack.Reads as reads
-use Rattle.capi.proofs.image.pack.Lts as lts
-use Rattle.capi.proofs.image.put_rows.Reads as put-rows-reads
-use Rattle.capi.proofs.image.put_words.Reads as put-words-reads
 
 put-words-requires : tie.Need-put-words-requires
 put-words-requires c κs = search needs

@@ -6,16 +6,13 @@ use native.Mathlib.Omega.{arith}
 use lib.ListN.{length, take}
 use lib.Seq.{sets}
 use borrow.Author.Needs.{needs}
-use Rattle.capi.specs.Image.{rowsBytes}
+use Rattle.capi.specs.Image.{rowsPlace, rowsBytes}
 use Rattle.capi.specs.Packing.{rows-next, all-rows}
 use Rattle.capi.proofs.image.put_rows.Statement.{statement}
 use Rattle.capi.proofs.image.put_rows.Tie as tie
-use Rattle.capi.proofs.image.put_rows.Reads as reads
-use Rattle.capi.proofs.image.put_rows.Lts as lts
-use Rattle.capi.proofs.image.put.Reads as put-reads
 
 abbrev Inv-loop : tie.InvT-loop
-Inv-loop table₀ code k₀ table k = (k ≤ 32) × (length table ≡ length table₀) × (table ≡ sets table₀ 544 (rowsBytes (take k (code .rows))))
+Inv-loop table₀ code k₀ table k = (k ≤ 32) × (length table ≡ length table₀) × (table ≡ sets table₀ rowsPlace (rowsBytes (take k (code .rows))))
 
 abbrev μ-loop : tie.MeasureT-loop
 μ-loop table₀ code k₀ table k = 32 - k

@@ -1,17 +1,11 @@
 -- The length is stored behind the symbols, so both are one run of stores.
-use mathlib.Core.Path.{_≡_, sym, ap, _∙_}
-use mathlib.Core.List.{List, [], _∷_}
-use Prim.Native.Nat.{ℕ, _+_}
+use mathlib.Core.Path.{_≡_}
 use native.Mathlib.Omega.{arith}
-use lib.ListN.{length, set}
-use lib.Seq.{sets}
+use lib.ListN.{length}
 use borrow.Author.Needs.{needs}
 use Rattle.capi.specs.Packing.{word-stored}
 use Rattle.capi.proofs.image.put_word.Statement.{statement}
 use Rattle.capi.proofs.image.put_word.Tie as tie
-use Rattle.capi.proofs.image.put_word.Reads as reads
-use Rattle.capi.proofs.image.put_word.Lts as lts
-use Rattle.capi.proofs.image.put.Reads as put-reads
 
 slice-aggregate-put : tie.Need-slice-aggregate-put
 slice-aggregate-put c = search needs

@@ -10,9 +10,6 @@ use Rattle.capi.specs.Image.{wordsBytes}
 use Rattle.capi.specs.Packing.{words-next, all-words}
 use Rattle.capi.proofs.image.put_words.Statement.{statement}
 use Rattle.capi.proofs.image.put_words.Tie as tie
-use Rattle.capi.proofs.image.put_words.Reads as reads
-use Rattle.capi.proofs.image.put_words.Lts as lts
-use Rattle.capi.proofs.image.put_word.Reads as put-word-reads
 
 abbrev Inv-loop : tie.InvT-loop
 Inv-loop table₀ code k₀ table k = (k ≤ 32) × (length table ≡ length table₀) × (table ≡ sets table₀ 0 (wordsBytes (take k (code .words))))

@@ -11,8 +11,6 @@ use Rattle.capi.specs.Image.{byteFrom}
 use Rattle.capi.specs.Unpacking.{filled}
 use Rattle.capi.proofs.image.row_in.Statement.{statement}
 use Rattle.capi.proofs.image.row_in.Tie as tie
-use Rattle.capi.proofs.image.row_in.Reads as reads
-use Rattle.capi.proofs.image.row_in.Lts as lts
 
 abbrev Inv-loop : tie.InvT-loop
 Inv-loop table at row₀ y₀ row y =

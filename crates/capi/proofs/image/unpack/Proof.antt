@@ -4,13 +4,10 @@ use Prim.Native.Nat.{_-_}
 use native.Mathlib.Omega.{arith}
 use borrow.Author.Needs.{needs}
 use Rattle.code.specs.Definitions.Lists.{table as filling}
+use Rattle.capi.specs.Image.{countPlace}
 use Rattle.capi.specs.Unpacking.{Unpacked, unpacked-next, unpacked-all}
 use Rattle.capi.proofs.image.unpack.Statement.{statement}
 use Rattle.capi.proofs.image.unpack.Tie as tie
-use Rattle.capi.proofs.image.unpack.Reads as reads
-use Rattle.capi.proofs.image.unpack.Lts as lts
-use Rattle.capi.proofs.image.row_in.Reads as row-in-reads
-use Rattle.capi.proofs.image.word_in.Reads as word-in-reads
 
 abbrev Inv-loop : tie.InvT-loop
 Inv-loop table code₀ k₀ code k = Unpacked table code k
@@ -22,7 +19,7 @@ shared-slice-read-t13 : tie.Need-shared-slice-read-t13 Inv-loop μ-loop
 shared-slice-read-t13 c = search needs
 
 cast-t14 : tie.Need-cast-t14 Inv-loop μ-loop
-cast-t14 c = omega (arith, c .shared-slice-known2 .given 1568)
+cast-t14 c = omega (arith, c .shared-slice-known2 .given countPlace)
 
 loop-holds : tie.Need-loop-holds Inv-loop μ-loop
 unfolding filling

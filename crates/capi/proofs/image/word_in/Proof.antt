@@ -11,8 +11,6 @@ use Rattle.capi.specs.Image.{byteFrom}
 use Rattle.capi.specs.Unpacking.{filled}
 use Rattle.capi.proofs.image.word_in.Statement.{statement}
 use Rattle.capi.proofs.image.word_in.Tie as tie
-use Rattle.capi.proofs.image.word_in.Reads as reads
-use Rattle.capi.proofs.image.word_in.Lts as lts
 
 abbrev Inv-loop : tie.InvT-loop
 Inv-loop table at word₀ k₀ word k =
