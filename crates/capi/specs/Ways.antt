@@ -15,15 +15,16 @@ use Rattle.code.specs.declared.Refusal.{Refusal}
 use Rattle.code.specs.declared.SheetAnswer.the-variants.{Accepted, Refused}
 use Rattle.code.specs.declared.Encoding.{Encoding}
 use Rattle.code.specs.declared.Reading.{Reading}
+use Rattle.code.specs.declared.Judgement.{Judgement}
 use Rattle.code.specs.Definitions.Answers.{refusalNumber}
-use Rattle.code.specs.Definitions.Operations.{written, Encodes, ReadsMessage}
+use Rattle.code.specs.Definitions.Operations.{written, Encodes, ReadsMessage, Judges}
 use Rattle.code.specs.Definitions.Sheets.{limits, taken}
 use Rattle.table.specs.Exactly.{Exactly}
 use Rattle.table.specs.Given.{well}
 use Rattle.table.specs.WellFormed.{WellFormed}
 use Rattle.capi.specs.Image.{imageLength, imageOf, codeIn}
-use Rattle.capi.specs.Answers.{answerLength, encodingNumber, encodingEntries, readingNumber, readingEntries}
-use Rattle.capi.specs.Calls.{shortNumber, TakesIn, Short, EncodeCall, ReadCall}
+use Rattle.capi.specs.Answers.{answerLength, encodingNumber, encodingEntries, readingNumber, readingEntries, judgementNumber, judgementEntries}
+use Rattle.capi.specs.Calls.{shortNumber, TakesIn, Short, EncodeCall, ReadCall, VerdictCall}
 
 -- The image is long enough, so the answer decides.
 pub short-answer : (image answer : ℕ) → imageLength ≤ image → Exactly (ltb answer answerLength) (Short image answer)
@@ -74,3 +75,13 @@ module _ {t m f g w a : List ℕ} {b : Bool} (tested : Exactly b (Short (length 
   pub read-answered : {f′ g′ w′ a′ : List ℕ} {n : ℕ} {e : Reading} {c : Code} → b ≡ false → c ≡ codeIn t → ReadsMessage limits c m f g w f′ g′ w′ e
       → (n ≡ readingNumber e) × (a′ ≡ written (readingEntries e) a) → ReadCall t m f g w a f′ g′ w′ a′ n
   read-answered e u r h = ReadCall.answered (tested .no e) (rw u at r) (h .0) (h .1)
+
+-- The verdict
+
+module _ {t m f g w a : List ℕ} {b : Bool} (tested : Exactly b (Short (length t) (length a))) where
+  pub verdict-short : {n : ℕ} → b ≡ true → n ≡ shortNumber → VerdictCall t m f g w a m f g w a n
+  verdict-short e h = VerdictCall.short (tested .yes e) h refl refl refl refl refl
+
+  pub verdict-answered : {m′ f′ g′ w′ a′ : List ℕ} {n : ℕ} {e : Judgement} {c : Code} → b ≡ false → c ≡ codeIn t → Judges limits c m f g w m′ f′ g′ w′ e
+      → (n ≡ judgementNumber e) × (a′ ≡ written (judgementEntries e) a) → VerdictCall t m f g w a m′ f′ g′ w′ a′ n
+  verdict-answered e u r h = VerdictCall.answered (tested .no e) (rw u at r) (h .0) (h .1)

@@ -1,15 +1,17 @@
 // The answers as numbers: each function writes the four entries of a result, and gives the number to return.
 
 use code::Encoding;
+use code::Judgement;
 use code::Reading;
 use code::Refusal;
+use code::Verdict;
 ghost use mathlib.Core.Path.{_≡_};
 ghost use mathlib.Core.List.{[], _∷_};
 ghost use Prim.Native.Nat.{_≤_};
 ghost use lib.ListN.{length};
 ghost use Rattle.code.specs.Definitions.Answers.{refusalNumber};
 ghost use Rattle.code.specs.Definitions.Operations.{written};
-ghost use Rattle.capi.specs.Answers.{answerLength, encodingNumber, encodingEntries, readingNumber, readingEntries};
+ghost use Rattle.capi.specs.Answers.{answerLength, encodingNumber, encodingEntries, readingNumber, readingEntries, verdictEntries, judgementNumber, judgementEntries};
 
 pub struct Answer {}
 
@@ -61,5 +63,29 @@ pub fn put_reading(e: Reading, answer: &mut [u64]) -> u64
             0
         }
         Reading::Refused(r) => number(r),
+    }
+}
+
+fn put_verdict(v: Verdict, answer: &mut [u64])
+    requires { ⌜ answerLength ≤ length (now answer) ⌝ }
+    ensures { λ _. ⌜ now (answer .exit) ≡ written (verdictEntries v) (now (answer .entry)) ⌝ }
+{
+    match v {
+        Verdict::Ambiguous(m, s, u) => put_entries(answer, 1, m.0 as u64, s.0 as u64, u.0 as u64),
+        Verdict::Finite(d) => put_entries(answer, 2, d.0 as u64, 0, 0),
+        Verdict::Unbounded => put_entries(answer, 3, 0, 0, 0),
+    }
+}
+
+pub fn put_judgement(e: Judgement, answer: &mut [u64]) -> u64
+    requires { ⌜ answerLength ≤ length (now answer) ⌝ }
+    ensures { λ r. ⌜ (r ≡ judgementNumber e) × (now (answer .exit) ≡ written (judgementEntries e) (now (answer .entry))) ⌝ }
+{
+    match e {
+        Judgement::Judged(v) => {
+            put_verdict(v, answer);
+            0
+        }
+        Judgement::Refused(r) => number(r),
     }
 }
