@@ -7,6 +7,7 @@ pub mod image;
 use answers::Answer;
 use answers::number;
 use answers::put_encoding;
+use answers::put_judgement;
 use answers::put_reading;
 use code::Refusal;
 use code::SheetAnswer;
@@ -15,7 +16,7 @@ use image::pack;
 use image::unpack;
 ghost use lib.ListN.{length};
 ghost use Rattle.table.specs.Exactly.{Exactly};
-ghost use Rattle.capi.specs.Calls.{Short, TakesIn, EncodeCall, ReadCall};
+ghost use Rattle.capi.specs.Calls.{Short, TakesIn, EncodeCall, ReadCall, VerdictCall};
 
 // Whether an image or an answer, by their lengths, is too short.
 fn is_short(image: usize, answer: usize) -> bool
@@ -87,4 +88,26 @@ pub extern "C" fn furlazon_read(
     let code = unpack(table);
     let e = reading::read(code, message, first, second, work);
     put_reading(e, answer)
+}
+
+// Gives the verdict on a table. 0: `answer` has 1, 2 or 3 for ambiguous, decipherable with a delay, or without bound, and the lengths or the delay. For
+// an ambiguous code the message and its first two readings stand at the start of their buffers. Else the refusal's number, and nothing is changed.
+#[no_mangle]
+pub extern "C" fn furlazon_verdict(
+    table: &[u8],
+    message: &mut [u8],
+    first: &mut [u8],
+    second: &mut [u8],
+    work: &mut [u64],
+    answer: &mut [u64],
+) -> u64
+    ensures { λ r. ⌜ VerdictCall (now (table .entry)) (now (message .entry)) (now (first .entry)) (now (second .entry)) (now (work .entry))
+        (now (answer .entry)) (now (message .exit)) (now (first .exit)) (now (second .exit)) (now (work .exit)) (now (answer .exit)) r ⌝ }
+{
+    if is_short(table.len(), answer.len()) {
+        return number(Refusal::ShortBuffer);
+    }
+    let code = unpack(table);
+    let e = decipher::verdict(code, message, first, second, work);
+    put_judgement(e, answer)
 }
