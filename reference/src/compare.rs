@@ -40,9 +40,21 @@ fn one_round(subject: &mut impl Operations, random: &mut Random, met: &mut Met) 
     count(met, refusal, |met| met.accepted += 1);
     let code = table.code().unwrap_or_else(|| generate::code(random));
     let table = if random.one_in(4) { generate::damaged_table(random, &code) } else { Table::of(&code) };
-    encoding(subject, random, met, &code, &table)?;
-    reading(subject, random, met, &code, &table)?;
-    verdict(subject, random, met, &table)
+    on_table(subject, random, met, &code, &table)
+}
+
+/// Compares encoding, reading and the verdict on one table. The code, from
+/// which sequences and messages are made, need not be that of the table.
+pub fn on_table(
+    subject: &mut impl Operations,
+    random: &mut Random,
+    met: &mut Met,
+    code: &Code,
+    table: &Table,
+) -> Result<(), String> {
+    encoding(subject, random, met, code, table)?;
+    reading(subject, random, met, code, table)?;
+    verdict(subject, random, met, table)
 }
 
 fn encoding(

@@ -235,8 +235,8 @@ pub fn buffer(random: &mut Random, needed: usize) -> Vec<u8> {
     vec![mark; length(random, needed)]
 }
 
-fn working(random: &mut Random, needed: usize) -> Vec<u32> {
-    let mark = random.between(0, 255) as u32;
+fn working(random: &mut Random, needed: usize) -> Vec<u64> {
+    let mark = random.between(0, 255) as u64;
     vec![mark; length(random, needed)]
 }
 

@@ -32,7 +32,7 @@ pub struct Buffers {
     pub message: Vec<u8>,
     pub first: Vec<u8>,
     pub second: Vec<u8>,
-    pub working: Vec<u32>,
+    pub working: Vec<u64>,
 }
 
 /// A program that offers the four operations. The reference is one; a linked

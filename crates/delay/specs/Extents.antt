@@ -6,10 +6,10 @@ use native.Mathlib.Omega.{arith}
 use lib.ListN.{length, getD, replicate, length-replicate}
 use Rattle.places.specs.Flat.{Laid, wordCount, pairGraph}
 use Rattle.places.specs.Roots.{Numbered}
-use Rattle.graph.specs.Graph.{Graph, Longest}
+use Rattle.graph.specs.Graph.{Graph, Longest, Endless}
 use Rattle.delay.specs.declared.Extent.{Extent}
-use Rattle.delay.specs.declared.Extent.the-variants.{Finite}
-use Rattle.delay.specs.Answer.{Answer, finite}
+use Rattle.delay.specs.declared.Extent.the-variants.{Finite, Unbounded}
+use Rattle.delay.specs.Answer.{Answer, finite, unbounded, was-finite}
 use Rattle.delay.specs.State.{Idle}
 use Rattle.delay.specs.Roots.{most-none, most-all}
 use Rattle.delay.specs.Visit.{Counting}
@@ -29,6 +29,14 @@ pub record LongestWalk (f : List ℕ) (r : ℕ) : Type 0 where
 -- A finite extent is that of the longest walk; without one there are walks of every length.
 abbrev pub ExtentOf : List ℕ → Extent → Type 0
 ExtentOf f = Answer f (LongestWalk f)
+
+-- What a caller learns from either answer.
+pub extent-finite : {f : List ℕ} {t : Extent} {r : ℕ} → ExtentOf f t → t ≡ Finite r → LongestWalk f r
+extent-finite a q = was-finite a q
+
+pub extent-unbounded : {f : List ℕ} {t : Extent} → ExtentOf f t → t ≡ Unbounded → Endless (pairGraph f)
+extent-unbounded (finite p) q = let z : _≡_ {A = ℕ} 0 1 = cc in absurd (omega arith)
+extent-unbounded (unbounded u) q = u
 
 clear-mark : (n v : ℕ) → _≡_ {A = ℕ} (getD (replicate n 0) v 0) 0
 clear-mark zero v = refl

@@ -23,12 +23,6 @@ loop-holds c = (search counting-none, search needs, search needs, search needs)
 row-requires : tie.Need-row-requires Inv-loop μ-loop
 row-requires c κs = search needs
 
-same-length : tie.Need-same-length Inv-loop μ-loop
-same-length c = cc
-
-same-length-2 : tie.Need-same-length-2 Inv-loop μ-loop
-same-length-2 c = cc
-
 returns : tie.Need-returns Inv-loop μ-loop
 returns c = search was-unbounded
 
@@ -38,12 +32,6 @@ loop-less c = omega arith
 loop-again : tie.Need-loop-again Inv-loop μ-loop
 loop-again c = (search counted, search needs, (cc), (cc))
 
-same-length-3 : tie.Need-same-length-3 Inv-loop μ-loop
-same-length-3 c = cc
-
-same-length-4 : tie.Need-same-length-4 Inv-loop μ-loop
-same-length-4 c = cc
-
 returns-2 : tie.Need-returns-2 Inv-loop μ-loop
 returns-2 c = search counting-all
 
@@ -51,6 +39,5 @@ pub longest-spec : {M : Type 1} → statement M
 longest-spec =
     tie.close
     (tie.spec
-    Inv-loop μ-loop (λ c κs. search needs) loop-holds row-requires (λ c. search needs)
-    (λ c. search needs) same-length same-length-2 returns (λ c. search needs) loop-less loop-again same-length-3
-    same-length-4 returns-2)
+    Inv-loop μ-loop (λ c κs. search needs) loop-holds row-requires (λ c. search needs) (λ c. search needs)
+    (λ c. cc) (λ c. cc) returns (λ c. search needs) loop-less loop-again (λ c. cc) (λ c. cc) returns-2)

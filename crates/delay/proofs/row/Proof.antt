@@ -10,20 +10,14 @@ use Rattle.delay.proofs.row.Statement.{statement}
 use Rattle.delay.proofs.row.Tie as tie
 
 abbrev Inv-loop : tie.InvT-loop
-Inv-loop places marks₀ stack₀ x best words most₀ y₀ marks stack most y =
+Inv-loop places marks₀ stack₀ x before words most₀ y₀ marks stack most y =
     Counting places marks x y most × (x < y) × (16384 ≤ length stack) × (length marks ≡ length marks₀) × (length stack ≡ length stack₀)
 
 abbrev μ-loop : tie.MeasureT-loop
-μ-loop places marks₀ stack₀ x best words most₀ y₀ marks stack most y = words - y
+μ-loop places marks₀ stack₀ x before words most₀ y₀ marks stack most y = words - y
 
 visit-requires : tie.Need-visit-requires Inv-loop μ-loop
 visit-requires c κs = search visiting
-
-same-length : tie.Need-same-length Inv-loop μ-loop
-same-length c = cc
-
-same-length-2 : tie.Need-same-length-2 Inv-loop μ-loop
-same-length-2 c = cc
 
 returns : tie.Need-returns Inv-loop μ-loop
 returns c = search was-unbounded
@@ -34,12 +28,6 @@ loop-less c = omega arith
 loop-again : tie.Need-loop-again Inv-loop μ-loop
 loop-again c = (search counted, search needs, search needs, (cc), (cc))
 
-same-length-3 : tie.Need-same-length-3 Inv-loop μ-loop
-same-length-3 c = cc
-
-same-length-4 : tie.Need-same-length-4 Inv-loop μ-loop
-same-length-4 c = cc
-
 returns-2 : tie.Need-returns-2 Inv-loop μ-loop
 returns-2 c = search row-end
 
@@ -48,5 +36,5 @@ row-spec =
     tie.close
     (tie.spec
     Inv-loop μ-loop (λ c κs. search needs) (λ c. search needs) (λ c. search needs) visit-requires
-    (λ c. search needs) (λ c. search needs) same-length same-length-2 returns (λ c. search needs) loop-less
-    loop-again same-length-3 same-length-4 returns-2)
+    (λ c. search needs) (λ c. search needs) (λ c. cc) (λ c. cc) returns (λ c. search needs) loop-less loop-again
+    (λ c. cc) (λ c. cc) returns-2)

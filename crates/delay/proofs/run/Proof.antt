@@ -26,23 +26,11 @@ loop-less c = search run-less
 loop-again : tie.Need-loop-again Inv-loop μ-loop
 loop-again c = (search run-on, (cc), (cc))
 
-same-length : tie.Need-same-length Inv-loop μ-loop
-same-length c = cc
-
-same-length-2 : tie.Need-same-length-2 Inv-loop μ-loop
-same-length-2 c = cc
-
 returns : tie.Need-returns Inv-loop μ-loop
 returns c = search run-cycle
 
 height-at-requires : tie.Need-height-at-requires Inv-loop μ-loop
 height-at-requires c κs = (search needs, search run-mark)
-
-same-length-3 : tie.Need-same-length-3 Inv-loop μ-loop
-same-length-3 c = cc
-
-same-length-4 : tie.Need-same-length-4 Inv-loop μ-loop
-same-length-4 c = cc
 
 returns-2 : tie.Need-returns-2 Inv-loop μ-loop
 returns-2 c = search run-end
@@ -52,5 +40,5 @@ run-spec =
     tie.close
     (tie.spec
     Inv-loop μ-loop (λ c. search needs) advance-requires (λ c. search needs) loop-less loop-again
-    (λ c. search needs) same-length same-length-2 returns height-at-requires (λ c. search needs) same-length-3
-    same-length-4 returns-2)
+    (λ c. search needs) (λ c. cc) (λ c. cc) returns height-at-requires (λ c. search needs) (λ c. cc) (λ c. cc)
+    returns-2)

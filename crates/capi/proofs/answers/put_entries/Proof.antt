@@ -1,0 +1,37 @@
+-- The four stores are one run of stores at the start.
+use mathlib.Core.List.{[], _∷_}
+use native.Mathlib.Omega.{arith}
+use lib.ListN.{length-set}
+use Rattle.capi.specs.Stores.{sets-written}
+use borrow.Author.Needs.{needs}
+use Rattle.capi.proofs.answers.put_entries.Statement.{statement}
+use Rattle.capi.proofs.answers.put_entries.Tie as tie
+
+slice-write-answer : tie.Need-slice-write-answer
+slice-write-answer c = search needs
+
+slice-write-answer-2 : tie.Need-slice-write-answer-2
+slice-write-answer-2 c = simp length-set (omega arith)
+
+slice-write-answer-3 : tie.Need-slice-write-answer-3
+slice-write-answer-3 c = simp length-set (omega arith)
+
+slice-write-answer-4 : tie.Need-slice-write-answer-4
+slice-write-answer-4 c = search needs
+
+same-length : tie.Need-same-length
+same-length c = search needs
+
+returns : tie.Need-returns
+returns c = sets-written (c .args .a ∷ c .args .b ∷ c .args .c ∷ c .args .d ∷ []) (c .args .answer .now) (c .pre)
+
+pub put-entries-spec : {M : Type 1} → statement M
+put-entries-spec =
+    tie.close
+    (tie.spec
+    slice-write-answer
+    slice-write-answer-2
+    slice-write-answer-3
+    slice-write-answer-4
+    same-length
+    returns)

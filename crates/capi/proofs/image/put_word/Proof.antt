@@ -1,0 +1,43 @@
+-- The length is stored behind the symbols, so both are one run of stores.
+use mathlib.Core.Path.{_≡_}
+use native.Mathlib.Omega.{arith}
+use lib.ListN.{length}
+use borrow.Author.Needs.{needs}
+use Rattle.capi.specs.Packing.{word-stored}
+use Rattle.capi.proofs.image.put_word.Statement.{statement}
+use Rattle.capi.proofs.image.put_word.Tie as tie
+
+slice-aggregate-put : tie.Need-slice-aggregate-put
+slice-aggregate-put c = search needs
+
+put-requires : tie.Need-put-requires
+put-requires c κs = let long : length (c .before .before .before .before .args .w .symbols) ≡ 16 = search needs in omega arith
+
+cast-table : tie.Need-cast-table
+cast-table c = search needs
+
+add-table : tie.Need-add-table
+add-table c = search needs
+
+slice-write-table : tie.Need-slice-write-table
+slice-write-table c = search needs
+
+same-length : tie.Need-same-length
+same-length c = search needs
+
+returns : tie.Need-returns
+returns c =
+    let a = c .before .before .before .before .before .before .before .before .args in
+    word-stored (a .w) (a .table .now) _ (a .at) (search needs) (c .before .before .before .put .ensures)
+
+pub put-word-spec : {M : Type 1} → statement M
+put-word-spec =
+    tie.close
+    (tie.spec
+    slice-aggregate-put
+    put-requires
+    cast-table
+    add-table
+    slice-write-table
+    same-length
+    returns)

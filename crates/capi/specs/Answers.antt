@@ -1,0 +1,57 @@
+-- The answers as numbers. Each call returns 0 for a result and this paper's number for a refusal; a result's kind and lengths are four entries at the start
+-- of a lent buffer, 0 where there is nothing to say.
+use mathlib.Core.List.{List, [], _∷_}
+use Prim.Native.Nat.{ℕ}
+use Rattle.code.specs.declared.SheetAnswer.{SheetAnswer}
+use Rattle.code.specs.declared.SheetAnswer.the-variants.{Accepted, Refused as Not-accepted}
+use Rattle.code.specs.declared.Encoding.{Encoding}
+use Rattle.code.specs.declared.Encoding.the-variants.{Encoded, Refused as Not-encoded}
+use Rattle.code.specs.declared.Reading.{Reading}
+use Rattle.code.specs.declared.Reading.the-variants.{One, Two, Refused as Not-read}
+use Rattle.code.specs.declared.Verdict.{Verdict}
+use Rattle.code.specs.declared.Verdict.the-variants.{Ambiguous, Finite, Unbounded}
+use Rattle.code.specs.declared.Judgement.{Judgement}
+use Rattle.code.specs.declared.Judgement.the-variants.{Judged, Refused as Not-judged}
+use Rattle.code.specs.Definitions.Answers.{refusalNumber}
+
+abbrev pub sheetNumber : SheetAnswer → ℕ
+sheetNumber Accepted = 0
+sheetNumber (Not-accepted r) = refusalNumber r
+
+-- entries of an answer
+abbrev pub answerLength : ℕ
+answerLength = 4
+
+abbrev pub encodingNumber : Encoding → ℕ
+encodingNumber (Encoded n) = 0
+encodingNumber (Not-encoded r) = refusalNumber r
+
+-- the length of the message
+abbrev pub encodingEntries : Encoding → List ℕ
+encodingEntries (Encoded n) = n .0 ∷ 0 ∷ 0 ∷ 0 ∷ []
+encodingEntries (Not-encoded r) = []
+
+abbrev pub readingNumber : Reading → ℕ
+readingNumber (One n) = 0
+readingNumber (Two n k) = 0
+readingNumber (Not-read r) = refusalNumber r
+
+-- 1 for one reading or 2 for several, and the lengths of the first and of the second
+abbrev pub readingEntries : Reading → List ℕ
+readingEntries (One n) = 1 ∷ n .0 ∷ 0 ∷ 0 ∷ []
+readingEntries (Two n k) = 2 ∷ n .0 ∷ k .0 ∷ 0 ∷ []
+readingEntries (Not-read r) = []
+
+abbrev pub judgementNumber : Judgement → ℕ
+judgementNumber (Judged v) = 0
+judgementNumber (Not-judged r) = refusalNumber r
+
+-- 1 for ambiguous, with the lengths of the message and of its two readings; 2 for decipherable with this delay; 3 for decipherable without bound
+abbrev pub verdictEntries : Verdict → List ℕ
+verdictEntries (Ambiguous m s u) = 1 ∷ m .0 ∷ s .0 ∷ u .0 ∷ []
+verdictEntries (Finite d) = 2 ∷ d .0 ∷ 0 ∷ 0 ∷ []
+verdictEntries Unbounded = 3 ∷ 0 ∷ 0 ∷ 0 ∷ []
+
+abbrev pub judgementEntries : Judgement → List ℕ
+judgementEntries (Judged v) = verdictEntries v
+judgementEntries (Not-judged r) = []

@@ -1,0 +1,56 @@
+-- What each exported function promises, for every input: the number it returns, and what each lent buffer then holds. A table's image and an answer that are
+-- too short are found first, and get 13; all else is the operation's own answer.
+use mathlib.Core.Path.{_≡_}
+use mathlib.Core.List.{List}
+use mathlib.Core.Logic.{_⊎_}
+use Prim.Native.Nat.{ℕ, _<_}
+use lib.Dec.{ltb}
+use lib.ListN.{length}
+use Rattle.code.specs.declared.Code.{Code}
+use Rattle.code.specs.declared.Refusal.the-variants.{ShortBuffer}
+use Rattle.code.specs.declared.SheetAnswer.{SheetAnswer}
+use Rattle.code.specs.declared.SheetAnswer.the-variants.{Accepted, Refused}
+use Rattle.code.specs.declared.Encoding.{Encoding}
+use Rattle.code.specs.declared.Reading.{Reading}
+use Rattle.code.specs.declared.Judgement.{Judgement}
+use Rattle.code.specs.Definitions.Answers.{refusalNumber}
+use Rattle.code.specs.Definitions.Lists.{if_then_else_}
+use Rattle.code.specs.Definitions.Operations.{written, Encodes, ReadsMessage, Judges}
+use Rattle.code.specs.Definitions.Sheets.{limits, taken}
+use Rattle.capi.specs.Image.{imageLength, imageOf, codeIn}
+use Rattle.capi.specs.Answers.{answerLength, sheetNumber, encodingNumber, encodingEntries, readingNumber, readingEntries, judgementNumber, judgementEntries}
+
+abbrev pub shortNumber : ℕ
+shortNumber = refusalNumber ShortBuffer
+
+-- An accepted sheet's table is written as its image; a refusal changes nothing.
+abbrev pub afterSheet : SheetAnswer → Code → List ℕ → List ℕ
+afterSheet Accepted c b = written (imageOf c) b
+afterSheet (Refused r) c b = b
+
+-- Taking in the sheet s, with the buffer b for the table.
+pub record TakesIn (s b b′ : List ℕ) (r : ℕ) : Type 0 where
+  pub number : r ≡ (if ltb (length b) imageLength then shortNumber else sheetNumber (taken limits s .answer))
+  pub table : b′ ≡ (if ltb (length b) imageLength then b else afterSheet (taken limits s .answer) (taken limits s .code) b)
+
+-- Fewer bytes than an image has, or fewer entries than an answer.
+abbrev pub Short : (image answer : ℕ) → Type 0
+Short image answer = (image < imageLength) ⊎ (answer < answerLength)
+
+-- Encoding the sequence s by the table in t into the buffer m, with the buffer a for the answer.
+pub data EncodeCall (t s m a m′ a′ : List ℕ) (r : ℕ) : Type 0 where
+  short : Short (length t) (length a) → r ≡ shortNumber → m′ ≡ m → a′ ≡ a → EncodeCall t s m a m′ a′ r
+  answered : {e : Encoding} → (Short (length t) (length a) → ⊥) → Encodes limits (codeIn t) s m m′ e → r ≡ encodingNumber e → a′ ≡ written (encodingEntries e) a
+      → EncodeCall t s m a m′ a′ r
+
+-- Reading the message m by the table in t into the buffers f and g, with the working buffer w and the buffer a for the answer.
+pub data ReadCall (t m f g w a f′ g′ w′ a′ : List ℕ) (r : ℕ) : Type 0 where
+  short : Short (length t) (length a) → r ≡ shortNumber → f′ ≡ f → g′ ≡ g → w′ ≡ w → a′ ≡ a → ReadCall t m f g w a f′ g′ w′ a′ r
+  answered : {e : Reading} → (Short (length t) (length a) → ⊥) → ReadsMessage limits (codeIn t) m f g w f′ g′ w′ e → r ≡ readingNumber e
+      → a′ ≡ written (readingEntries e) a → ReadCall t m f g w a f′ g′ w′ a′ r
+
+-- The verdict on the table in t, with the message buffer m, the reading buffers f and g, the working buffer w and the buffer a for the answer.
+pub data VerdictCall (t m f g w a m′ f′ g′ w′ a′ : List ℕ) (r : ℕ) : Type 0 where
+  short : Short (length t) (length a) → r ≡ shortNumber → m′ ≡ m → f′ ≡ f → g′ ≡ g → w′ ≡ w → a′ ≡ a → VerdictCall t m f g w a m′ f′ g′ w′ a′ r
+  answered : {e : Judgement} → (Short (length t) (length a) → ⊥) → Judges limits (codeIn t) m f g w m′ f′ g′ w′ e → r ≡ judgementNumber e
+      → a′ ≡ written (judgementEntries e) a → VerdictCall t m f g w a m′ f′ g′ w′ a′ r

@@ -1,0 +1,52 @@
+-- From call to call: the table that taking in a sheet leaves in a buffer is the one that the other functions find there.
+use mathlib.Core.Path.{_≡_, refl}
+use Prim.Native.Nat.{ℕ, _≤_, _<_}
+use mathlib.Core.List.{List}
+use native.Mathlib.Omega.{arith}
+use native.Mathlib.Decide.{decLt}
+use lib.ListN.{length, drop}
+use borrow.Author.Tests.{lt-ltb, le-ltb}
+use Rattle.code.specs.declared.Refusal.{Refusal}
+use Rattle.code.specs.declared.Refusal.the-variants.{SheetLength, SheetBytes, RecordCount, WordLength, CodeLength, FieldCount, RowEntry, NotFromSheet, UnknownWord, ForbiddenPair, MessageLength, MessageSymbol, ShortBuffer, NoReading}
+use Rattle.code.specs.declared.SheetAnswer.{SheetAnswer}
+use Rattle.code.specs.declared.SheetAnswer.the-variants.{Accepted, Refused}
+use Rattle.code.specs.Definitions.Answers.{refusalNumber}
+use Rattle.code.specs.Definitions.Sheets.{limits, taken}
+use Rattle.capi.specs.Image.{imageLength, imageOf, codeIn}
+use Rattle.capi.specs.Answers.{sheetNumber}
+use Rattle.capi.specs.Calls.{TakesIn}
+use Rattle.capi.specs.RoundTrip.{image-holds}
+use Rattle.capi.specs.Ways.{accepted-well}
+
+some-number : (r : Refusal) → 1 ≤ refusalNumber r
+some-number SheetLength = omega arith
+some-number SheetBytes = omega arith
+some-number RecordCount = omega arith
+some-number WordLength = omega arith
+some-number CodeLength = omega arith
+some-number FieldCount = omega arith
+some-number RowEntry = omega arith
+some-number NotFromSheet = omega arith
+some-number UnknownWord = omega arith
+some-number ForbiddenPair = omega arith
+some-number MessageLength = omega arith
+some-number MessageSymbol = omega arith
+some-number ShortBuffer = omega arith
+some-number NoReading = omega arith
+
+accepted : (a : SheetAnswer) → 0 ≡ sheetNumber a → a ≡ Accepted
+accepted Accepted e = refl
+accepted (Refused r) e = absurd (omega (arith, some-number r))
+
+module _ (s b b′ : List ℕ) (call : TakesIn s b b′ 0) where
+  by-length : Dec (length b < imageLength) → (taken limits s .answer ≡ Accepted) × (codeIn b′ ≡ taken limits s .code)
+  by-length (yes h) = let n = rw (lt-ltb (length b) imageLength h) at (call .number) in absurd (omega arith)
+  by-length (no h) =
+      let long = le-ltb (length b) imageLength (omega arith) in
+      let a = accepted (taken limits s .answer) (rw long at (call .number)) in
+      let image = rw (long, a) at (call .table) in
+      (a, rw image (image-holds (accepted-well s b (taken limits s) refl a) (drop (length (imageOf (taken limits s .code))) b)))
+
+  -- After a 0, the sheet was accepted, and the buffer holds its code.
+  pub sheet-held : (taken limits s .answer ≡ Accepted) × (codeIn b′ ≡ taken limits s .code)
+  sheet-held = by-length (decLt (length b) imageLength)

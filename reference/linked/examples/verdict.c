@@ -1,0 +1,52 @@
+/* The verdict on a sheet that stands on standard input, as `furlazon_verdict` answers it. */
+#include "furlazon.h"
+
+#include <inttypes.h>
+#include <stdio.h>
+
+static uint8_t sheet[4097];
+static uint8_t table[FURLAZON_TABLE_BYTES];
+static uint8_t message[FURLAZON_VERDICT_ENTRIES];
+static uint8_t first[FURLAZON_VERDICT_ENTRIES];
+static uint8_t second[FURLAZON_VERDICT_ENTRIES];
+static uint64_t work[FURLAZON_VERDICT_WORK];
+static uint64_t answer[FURLAZON_ANSWER_ENTRIES];
+
+static void print_words(const uint8_t *words, uint64_t count) {
+    for (uint64_t i = 0; i < count; i++) {
+        printf("%s%u", i == 0 ? "" : ",", (unsigned)words[i]);
+    }
+    printf("\r\n");
+}
+
+static void print_verdict(void) {
+    if (answer[0] == FURLAZON_DELAY) {
+        printf("decipherable,%" PRIu64 "\r\n", answer[1]);
+    } else if (answer[0] == FURLAZON_WITHOUT_BOUND) {
+        printf("decipherable,unbounded\r\n");
+    } else {
+        printf("ambiguous,");
+        for (uint64_t i = 0; i < answer[1]; i++) {
+            printf("%X", (unsigned)message[i]);
+        }
+        printf("\r\n");
+        print_words(first, answer[2]);
+        print_words(second, answer[3]);
+    }
+}
+
+int main(void) {
+    /* One byte past the limit is enough to see that a sheet is too long. */
+    size_t length = fread(sheet, 1, sizeof sheet, stdin);
+    uint64_t refused = furlazon_take_in(sheet, length, table, sizeof table);
+    if (refused == 0) {
+        refused = furlazon_verdict(table, sizeof table, message, sizeof message, first, sizeof first, second, sizeof second,
+                                   work, FURLAZON_VERDICT_WORK, answer, FURLAZON_ANSWER_ENTRIES);
+    }
+    if (refused != 0) {
+        printf("refused,%" PRIu64 "\r\n", refused);
+        return 0;
+    }
+    print_verdict();
+    return 0;
+}

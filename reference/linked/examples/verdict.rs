@@ -1,0 +1,24 @@
+//! The verdict on code U, from a sheet in memory, with the only reading of a
+//! message and the message again from the reading.
+
+use furlazon::{ANSWER_ENTRIES, TABLE_BYTES};
+use reference::operations::{VERDICT_ENTRIES, VERDICT_WORKING};
+
+fn main() {
+    let sheet = b"0,1,1,0,0\r\n10,1,1,1,1\r\n01,1,1,0,0\r\n101,1,1,1,1\r\n";
+    let mut table = [0; TABLE_BYTES];
+    assert_eq!(furlazon::take_in(sheet, &mut table), 0);
+
+    let mut answer = [0; ANSWER_ENTRIES];
+    let [mut message, mut first, mut second] = [(); 3].map(|()| vec![0; VERDICT_ENTRIES]);
+    let mut work = vec![0; VERDICT_WORKING];
+    let refused = furlazon::verdict(&table, &mut message, &mut first, &mut second, &mut work, &mut answer);
+    println!("verdict: refusal {refused}, answer {answer:?}");
+
+    let refused = furlazon::read(&table, &[0, 1, 1, 0, 1], &mut first, &mut second, &mut work, &mut answer);
+    let reading = first[..answer[1] as usize].to_vec();
+    println!("reading of 01101: refusal {refused}, answer {answer:?}, words {reading:?}");
+
+    let refused = furlazon::encode(&table, &reading, &mut message, &mut answer);
+    println!("its message: refusal {refused}, symbols {:?}", &message[..answer[0] as usize]);
+}

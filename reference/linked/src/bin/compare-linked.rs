@@ -1,0 +1,129 @@
+//! Holds the proved library against the reference on generated inputs:
+//! `compare-linked [START [ROUNDS]]`. Any difference ends the run with a
+//! failure.
+
+use furlazon::linked::Linked;
+use furlazon::{image, ANSWER_ENTRIES, TABLE_BYTES};
+use reference::code::{Code, Refusal};
+use reference::compare::{compare, on_table, Met};
+use reference::operations::{VERDICT_ENTRIES, VERDICT_WORKING};
+use reference::random::Random;
+use reference::table::Table;
+use reference::{encode, generate};
+use std::process::exit;
+use std::time::Instant;
+
+fn main() {
+    let numbers: Vec<Option<u64>> = std::env::args().skip(1).map(|text| text.parse().ok()).collect();
+    let (start, rounds) = match numbers[..] {
+        [] => (1, 50_000),
+        [Some(start)] => (start, 50_000),
+        [Some(start), Some(rounds)] => (start, rounds as usize),
+        _ => {
+            eprintln!("usage: compare-linked [START [ROUNDS]]");
+            exit(2);
+        }
+    };
+    println!("start {start}, {rounds} rounds");
+    let clock = Instant::now();
+    let met = compare(&mut Linked, start, rounds).unwrap_or_else(|difference| fail(&difference));
+    println!("sheets, sequences, messages and tables: {}", told(&met));
+    let met = images(start, rounds).unwrap_or_else(|difference| fail(&difference));
+    println!("damaged images: {}", told(&met));
+    short_buffers(start, rounds).unwrap_or_else(|difference| fail(&difference));
+    println!("short images and answers: refused with 13, nothing changed");
+    // A round has a sheet and three inputs for its table, three for a damaged image, and three for a short buffer.
+    println!("all the same: {} inputs in {} s", 10 * rounds, clock.elapsed().as_secs());
+}
+
+fn fail<T>(difference: &str) -> T {
+    println!("{difference}");
+    exit(1)
+}
+
+/// What was met, in words.
+fn told(met: &Met) -> String {
+    let Met { accepted, encoded, one_reading, two_readings, ambiguous, delayed, unbounded, refused } = met;
+    let refused: Vec<String> = (1..15).map(|number| format!("{number}: {}", refused[number])).collect();
+    format!(
+        "{accepted} sheets accepted, {encoded} encoded, {one_reading} with one reading, {two_readings} with more, \
+         {ambiguous} ambiguous, {delayed} with a delay, {unbounded} without bound; refused {}",
+        refused.join(", ")
+    )
+}
+
+/// Images with some bytes changed at random: mostly tables that no sheet gives.
+fn images(start: u64, rounds: usize) -> Result<Met, String> {
+    let mut random = Random(start);
+    let mut met = Met::default();
+    for round in 0..rounds {
+        let code = generate::code(&mut random);
+        let mut image = image::pack(&Table::of(&code));
+        for _ in 0..random.between(1, 3) {
+            let at = random.below(TABLE_BYTES);
+            image[at] = *random.pick(&[0, 1, 1, 2, 15, 16, 17, 32, 255]);
+        }
+        on_table(&mut Linked, &mut random, &mut met, &code, &image::unpack(&image))
+            .map_err(|difference| format!("start {start}, image {round}: {difference}"))?;
+    }
+    Ok(met)
+}
+
+/// An image or an answer that is too short is refused with 13, and nothing changes.
+fn short_buffers(start: u64, rounds: usize) -> Result<(), String> {
+    let mut random = Random(start);
+    let mut work = Lent::new();
+    for round in 0..rounds {
+        let code = generate::code(&mut random);
+        let short_image = random.one_in(2);
+        let image_length = if short_image { random.below(TABLE_BYTES) } else { TABLE_BYTES };
+        let answer_length = if short_image { random.below(6) } else { random.below(ANSWER_ENTRIES) };
+        let image = &image::pack(&Table::of(&code))[..image_length];
+        if !work.all_refused(&mut random, &code, image, answer_length) {
+            return Err(format!("start {start}, round {round}: image of {image_length}, answer of {answer_length}"));
+        }
+    }
+    Ok(())
+}
+
+/// Lent buffers that are long enough, all filled with a mark.
+struct Lent {
+    bytes: [Vec<u8>; 3],
+    work: Vec<u64>,
+    answer: Vec<u64>,
+}
+
+const MARK: u8 = 0x5A;
+
+impl Lent {
+    fn new() -> Lent {
+        Lent {
+            bytes: [(); 3].map(|()| vec![MARK; VERDICT_ENTRIES]),
+            work: vec![u64::from(MARK); VERDICT_WORKING],
+            answer: vec![u64::from(MARK); ANSWER_ENTRIES + 2],
+        }
+    }
+
+    /// Calls each function with a short image or a short answer.
+    fn all_refused(&mut self, random: &mut Random, code: &Code, image: &[u8], answer: usize) -> bool {
+        let sequence = generate::permitted_sequence(random, code, 10);
+        let joined = encode::joined(code, &sequence);
+        let sheet = generate::sheet(random);
+        let [message, first, second] = &mut self.bytes;
+        let (work, answer) = (&mut self.work, &mut self.answer[..answer]);
+        let mut numbers = vec![
+            furlazon::encode(image, &sequence, message, answer),
+            furlazon::read(image, &joined, first, second, work, answer),
+            furlazon::verdict(image, message, first, second, work, answer),
+        ];
+        if image.len() < TABLE_BYTES {
+            numbers.push(furlazon::take_in(&sheet, &mut message[..image.len()]));
+        }
+        numbers.iter().all(|&number| number == u64::from(Refusal::BufferTooShort.number())) && self.unchanged()
+    }
+
+    fn unchanged(&self) -> bool {
+        let entries = self.work.iter().chain(&self.answer);
+        self.bytes.iter().flatten().all(|&byte| byte == MARK) && entries.into_iter().all(|&entry| entry == u64::from(MARK))
+    }
+}

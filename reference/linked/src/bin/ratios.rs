@@ -1,0 +1,210 @@
+//! Times the proved library against plain Rust on the same inputs and prints
+//! the ratios: `ratios [SHEETS [SECONDS]]`. Every call is timed by itself, the
+//! two sides in turn; lent buffers are cleared before each call, outside the
+//! time. The median of a side is printed, and the quotient of the two.
+
+use furlazon::{image, plain, ANSWER_ENTRIES, TABLE_BYTES};
+use reference::code::Code;
+use reference::encode::joined;
+use reference::generate::permitted_sequence;
+use reference::operations::{Buffers, Operations, Reference, VERDICT_ENTRIES, VERDICT_WORKING};
+use reference::random::Random;
+use reference::sheet;
+use reference::table::Table;
+use std::hint::black_box;
+use std::path::{Path, PathBuf};
+use std::time::{Duration, Instant};
+use std::{env, fs};
+
+fn main() {
+    let mut arguments = env::args().skip(1);
+    let sheets = PathBuf::from(arguments.next().unwrap_or_else(|| "sheets".to_string()));
+    let seconds = arguments.next().and_then(|text| text.parse().ok()).unwrap_or(0.5);
+    let bench = Bench { span: Duration::from_secs_f64(seconds) };
+    println!("| Operation | Input | Proved, µs | Plain, µs | Ratio |");
+    println!("|---|---|---|---|---|");
+    for name in ["turkish-six", "largest-unbounded"] {
+        bench.take_in(name, &read_sheet(&sheets, name));
+    }
+    for name in ["turkish-six", "largest-unbounded"] {
+        let code = read_code(&sheets, name);
+        for symbols in [20, Code::MAX_MESSAGE_SYMBOLS] {
+            bench.encode(name, &code, symbols);
+        }
+    }
+    for name in ["turkish-six", "largest-unbounded"] {
+        let code = read_code(&sheets, name);
+        for symbols in [20, Code::MAX_MESSAGE_SYMBOLS] {
+            bench.read(name, &code, symbols);
+        }
+    }
+    let verdicts = [
+        ("ambiguous", "code-t"),
+        ("ambiguous", "turkish-twelve"),
+        ("ambiguous", "largest-ambiguous"),
+        ("delay", "code-u"),
+        ("delay", "turkish-six"),
+        ("delay", "largest-delay"),
+        ("without bound", "unbounded"),
+        ("without bound", "largest-unbounded"),
+    ];
+    for (kind, name) in verdicts {
+        bench.verdict(kind, name, &read_code(&sheets, name));
+    }
+}
+
+fn read_sheet(sheets: &Path, name: &str) -> Vec<u8> {
+    let path = sheets.join(name).with_extension("csv");
+    fs::read(&path).unwrap_or_else(|error| panic!("{}: {error}", path.display()))
+}
+
+fn read_code(sheets: &Path, name: &str) -> Code {
+    sheet::take_in(&read_sheet(sheets, name)).expect("an accepted sheet")
+}
+
+/// A permitted sequence whose message has this many symbols.
+fn sequence_of(code: &Code, symbols: usize) -> Vec<u8> {
+    let mut random = Random(1);
+    loop {
+        let mut sequence = permitted_sequence(&mut random, code, symbols);
+        let mut length = joined(code, &sequence).len();
+        while length > symbols {
+            let word = sequence.pop().expect("a sequence with symbols");
+            length -= code.words[word as usize].len();
+        }
+        if length == symbols {
+            return sequence;
+        }
+    }
+}
+
+fn cleared() -> Buffers {
+    Buffers {
+        message: vec![0; VERDICT_ENTRIES],
+        first: vec![0; Code::MAX_MESSAGE_SYMBOLS],
+        second: vec![0; Code::MAX_MESSAGE_SYMBOLS],
+        working: vec![0; VERDICT_WORKING + 1],
+    }
+}
+
+fn clear(buffers: &mut Buffers) {
+    for buffer in [&mut buffers.message, &mut buffers.first, &mut buffers.second] {
+        buffer.fill(0);
+    }
+    buffers.working.fill(0);
+}
+
+/// Buffers of a reading, no longer than it needs.
+fn cut(buffers: &mut Buffers, symbols: usize) {
+    buffers.first.truncate(symbols);
+    buffers.second.truncate(symbols);
+    buffers.working.truncate(symbols + 1);
+}
+
+struct Bench {
+    span: Duration,
+}
+
+impl Bench {
+    fn take_in(&self, name: &str, sheet: &[u8]) {
+        let mut table = [0; TABLE_BYTES];
+        let proved = |timer: &mut Timer| {
+            table.fill(0);
+            timer.time(|| furlazon::take_in(black_box(sheet), &mut table));
+        };
+        let plain = |timer: &mut Timer| timer.time(|| Reference.take_in(black_box(sheet)));
+        self.row("take in", &format!("`{name}`, {} bytes", sheet.len()), proved, plain);
+    }
+
+    fn encode(&self, name: &str, code: &Code, symbols: usize) {
+        let sequence = sequence_of(code, symbols);
+        let table = Table::of(code);
+        let packed = image::pack(&table);
+        let (mut message, mut other) = (vec![0; symbols], vec![0; symbols]);
+        let mut answer = [0; ANSWER_ENTRIES];
+        let proved = |timer: &mut Timer| {
+            message.fill(0);
+            timer.time(|| furlazon::encode(black_box(&packed), black_box(&sequence), &mut message, &mut answer));
+        };
+        let plain = |timer: &mut Timer| {
+            other.fill(0);
+            timer.time(|| Reference.encode(black_box(&table), black_box(&sequence), &mut other));
+        };
+        self.row("encode", &format!("`{name}`, {} words", sequence.len()), proved, plain);
+    }
+
+    fn read(&self, name: &str, code: &Code, symbols: usize) {
+        let message = joined(code, &sequence_of(code, symbols));
+        let table = Table::of(code);
+        let packed = image::pack(&table);
+        let (mut buffers, mut other) = (cleared(), cleared());
+        cut(&mut buffers, message.len());
+        cut(&mut other, message.len());
+        let mut answer = [0; ANSWER_ENTRIES];
+        let proved = |timer: &mut Timer| {
+            clear(&mut buffers);
+            let Buffers { first, second, working, .. } = &mut buffers;
+            timer.time(|| furlazon::read(black_box(&packed), black_box(&message), first, second, working, &mut answer));
+        };
+        let plain = |timer: &mut Timer| {
+            clear(&mut other);
+            timer.time(|| Reference.read(black_box(&table), black_box(&message), &mut other));
+        };
+        self.row("read", &format!("`{name}`, {} symbols", message.len()), proved, plain);
+    }
+
+    fn verdict(&self, kind: &str, name: &str, code: &Code) {
+        let table = Table::of(code);
+        let packed = image::pack(&table);
+        let (mut buffers, mut other) = (cleared(), cleared());
+        buffers.working.truncate(VERDICT_WORKING);
+        other.working.truncate(VERDICT_WORKING);
+        let mut answer = [0; ANSWER_ENTRIES];
+        let mut proved = |timer: &mut Timer| {
+            clear(&mut buffers);
+            let Buffers { message, first, second, working } = &mut buffers;
+            timer.time(|| furlazon::verdict(black_box(&packed), message, first, second, working, &mut answer));
+        };
+        let simple = |timer: &mut Timer| {
+            timer.time(|| plain::verdict(&black_box(&table).code().expect("the table of a sheet")));
+        };
+        self.row(&format!("verdict, {kind}"), &format!("`{name}`, hash set"), &mut proved, simple);
+        let reference = |timer: &mut Timer| {
+            clear(&mut other);
+            timer.time(|| Reference.verdict(black_box(&table), &mut other));
+        };
+        self.row(&format!("verdict, {kind}"), &format!("`{name}`, reference"), &mut proved, reference);
+    }
+
+    /// Times both sides in turn and prints a row.
+    fn row(&self, operation: &str, input: &str, mut proved: impl FnMut(&mut Timer), mut plain: impl FnMut(&mut Timer)) {
+        let (mut ours, mut theirs) = (Timer::default(), Timer::default());
+        let start = Instant::now();
+        while start.elapsed() < self.span || ours.times.len() < 25 {
+            proved(&mut ours);
+            plain(&mut theirs);
+        }
+        let (ours, theirs) = (ours.median(), theirs.median());
+        println!("| {operation} | {input} | {ours:.2} | {theirs:.2} | {:.2} |", ours / theirs);
+    }
+}
+
+/// The times of single calls.
+#[derive(Default)]
+struct Timer {
+    times: Vec<Duration>,
+}
+
+impl Timer {
+    fn time<T>(&mut self, call: impl FnOnce() -> T) {
+        let start = Instant::now();
+        black_box(call());
+        self.times.push(start.elapsed());
+    }
+
+    /// The median in microseconds.
+    fn median(mut self) -> f64 {
+        self.times.sort();
+        self.times[self.times.len() / 2].as_secs_f64() * 1e6
+    }
+}

@@ -1,0 +1,91 @@
+//! The proved library behind the trait of the reference, so that both can be
+//! held against each other.
+
+use crate::{image, ANSWER_ENTRIES, TABLE_BYTES};
+use reference::code::Refusal;
+use reference::operations::{Buffers, Operations, ReadingLengths, VerdictLengths};
+use reference::table::Table;
+
+pub struct Linked;
+
+const REFUSALS: [Refusal; 14] = [
+    Refusal::SheetSize,
+    Refusal::SheetByte,
+    Refusal::TooManyRecords,
+    Refusal::WordLength,
+    Refusal::TooManySymbols,
+    Refusal::FieldCount,
+    Refusal::RowEntry,
+    Refusal::NotFromSheet,
+    Refusal::WordNumber,
+    Refusal::PairNotPermitted,
+    Refusal::MessageTooLong,
+    Refusal::MessageSymbol,
+    Refusal::BufferTooShort,
+    Refusal::NoReading,
+];
+
+/// The refusal with this number; none for 0.
+pub fn refusal(number: u64) -> Option<Refusal> {
+    match number {
+        0 => None,
+        _ => Some(*REFUSALS.get(number as usize - 1).expect("the number of a refusal")),
+    }
+}
+
+/// What a lent entry holds before a call, so that a change shows.
+const MARK: u64 = 0x5A5A_5A5A_5A5A_5A5A;
+
+/// Runs a call with an answer buffer longer than needed. A refusal must leave
+/// it as it was, a result must leave the entries past the answer as they were.
+fn answer(call: impl FnOnce(&mut [u64]) -> u64) -> Result<[usize; ANSWER_ENTRIES], Refusal> {
+    let mut entries = [MARK; ANSWER_ENTRIES + 2];
+    let refused = refusal(call(&mut entries));
+    let unchanged = if refused.is_some() { 0 } else { ANSWER_ENTRIES };
+    assert!(entries[unchanged..].iter().all(|&entry| entry == MARK), "entries changed: {entries:?}, {refused:?}");
+    match refused {
+        Some(refusal) => Err(refusal),
+        None => Ok(std::array::from_fn(|at| entries[at] as usize)),
+    }
+}
+
+impl Operations for Linked {
+    fn take_in(&mut self, sheet: &[u8]) -> (Option<Refusal>, Table) {
+        let mut table = [MARK as u8; TABLE_BYTES];
+        let refused = refusal(crate::take_in(sheet, &mut table));
+        // A refusal leaves the buffer as it was; the table of the trait is then the blank one.
+        if refused.is_some() && table == [MARK as u8; TABLE_BYTES] {
+            return (refused, Table::BLANK);
+        }
+        (refused, image::unpack(&table))
+    }
+
+    fn encode(&mut self, table: &Table, sequence: &[u8], message: &mut [u8]) -> Result<usize, Refusal> {
+        let table = image::pack(table);
+        match answer(|entries| crate::encode(&table, sequence, message, entries))? {
+            [length, 0, 0, 0] => Ok(length),
+            other => panic!("not the answer to an encoding: {other:?}"),
+        }
+    }
+
+    fn read(&mut self, table: &Table, message: &[u8], buffers: &mut Buffers) -> Result<ReadingLengths, Refusal> {
+        let table = image::pack(table);
+        let Buffers { first, second, working, .. } = buffers;
+        match answer(|entries| crate::read(&table, message, first, second, working, entries))? {
+            [1, length, 0, 0] => Ok(ReadingLengths::One(length)),
+            [2, first, second, 0] => Ok(ReadingLengths::Two(first, second)),
+            other => panic!("not the answer to a reading: {other:?}"),
+        }
+    }
+
+    fn verdict(&mut self, table: &Table, buffers: &mut Buffers) -> Result<VerdictLengths, Refusal> {
+        let table = image::pack(table);
+        let Buffers { message, first, second, working } = buffers;
+        match answer(|entries| crate::verdict(&table, message, first, second, working, entries))? {
+            [1, message, first, second] => Ok(VerdictLengths::Ambiguous { message, first, second }),
+            [2, delay, 0, 0] => Ok(VerdictLengths::Delay(delay)),
+            [3, 0, 0, 0] => Ok(VerdictLengths::Unbounded),
+            other => panic!("not a verdict: {other:?}"),
+        }
+    }
+}

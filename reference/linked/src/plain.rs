@@ -1,0 +1,143 @@
+//! The verdict as one would write it at first: pairs of places in the standard
+//! hash set and a queue. A baseline for times.
+
+use reference::code::Code;
+use reference::read::{first_two, Readings};
+use reference::verdict::Verdict;
+use std::collections::{HashMap, HashSet, VecDeque};
+
+type Pair = (u8, u8);
+
+/// For each place the symbols that lead on, each with the place it leads to; and whether the place is a word's end.
+struct Places {
+    first: Vec<u8>,
+    leads: Vec<Vec<(u8, u8)>>,
+    is_end: Vec<bool>,
+}
+
+impl Places {
+    fn new(code: &Code) -> Places {
+        let mut places = Places { first: Vec::new(), leads: Vec::new(), is_end: Vec::new() };
+        let mut next = 0;
+        for word in &code.words {
+            places.first.push(next);
+            next += word.len() as u8;
+        }
+        for (y, word) in code.words.iter().enumerate() {
+            for read in 1..word.len() {
+                places.leads.push(vec![(word[read], places.first[y] + read as u8)]);
+                places.is_end.push(false);
+            }
+            let followers = (0..code.words.len()).filter(|&x| code.may_follow(x, y));
+            places.leads.push(followers.map(|x| (code.words[x][0], places.first[x])).collect());
+            places.is_end.push(true);
+        }
+        places
+    }
+
+    /// The pairs to which a symbol leads a pair on.
+    fn after(&self, (p, q): Pair, symbol: u8) -> Vec<Pair> {
+        let led = |place: u8| self.leads[place as usize].iter().filter(|lead| lead.0 == symbol).map(|lead| lead.1);
+        led(p).flat_map(|p| led(q).map(move |q| (p.min(q), p.max(q)))).collect()
+    }
+
+    fn both_end(&self, (p, q): Pair) -> bool {
+        self.is_end[p as usize] && self.is_end[q as usize]
+    }
+}
+
+/// Pairs first met by the same message, with the message's last symbol and the group before.
+struct Group {
+    from: Option<usize>,
+    symbol: u8,
+    pairs: Vec<Pair>,
+}
+
+pub fn verdict(code: &Code) -> Verdict {
+    if code.words.len() == 1 {
+        return Verdict::Delay(0);
+    }
+    let places = Places::new(code);
+    let firsts = first_pairs(code, &places);
+    if let Some(message) = shortest(&places, &firsts) {
+        let Some(Readings::Two(first, second)) = first_two(code, &message) else { unreachable!("two readings") };
+        return Verdict::Ambiguous { message, first, second };
+    }
+    let mut heights = HashMap::new();
+    let mut longest = 0;
+    for pair in firsts.into_iter().flatten() {
+        match height(&places, pair, &mut heights) {
+            Some(height) => longest = longest.max(height + 1),
+            None => return Verdict::Unbounded,
+        }
+    }
+    Verdict::Delay(longest + 1)
+}
+
+/// The first pairs, by their symbol.
+fn first_pairs(code: &Code, places: &Places) -> Vec<Vec<Pair>> {
+    let mut pairs = vec![Vec::new(); 16];
+    for x in 0..code.words.len() {
+        for y in x + 1..code.words.len() {
+            if code.words[x][0] == code.words[y][0] {
+                pairs[code.words[x][0] as usize].push((places.first[x], places.first[y]));
+            }
+        }
+    }
+    pairs
+}
+
+/// The shortest ambiguous message, the earliest among equals.
+fn shortest(places: &Places, firsts: &[Vec<Pair>]) -> Option<Vec<u8>> {
+    let mut met: HashSet<Pair> = HashSet::new();
+    let mut groups: Vec<Group> = Vec::new();
+    let mut queue: VecDeque<Option<usize>> = VecDeque::from([None]);
+    while let Some(from) = queue.pop_front() {
+        for symbol in 0..16 {
+            let led: Vec<Pair> = match from {
+                None => firsts[symbol as usize].clone(),
+                Some(at) => groups[at].pairs.iter().flat_map(|&pair| places.after(pair, symbol)).collect(),
+            };
+            let pairs: Vec<Pair> = led.into_iter().filter(|&pair| met.insert(pair)).collect();
+            if pairs.is_empty() {
+                continue;
+            }
+            let ambiguous = pairs.iter().any(|&pair| places.both_end(pair));
+            groups.push(Group { from, symbol, pairs });
+            if ambiguous {
+                return Some(message(&groups));
+            }
+            queue.push_back(Some(groups.len() - 1));
+        }
+    }
+    None
+}
+
+/// The message of the last group.
+fn message(groups: &[Group]) -> Vec<u8> {
+    let mut symbols = Vec::new();
+    let mut at = groups.len().checked_sub(1);
+    while let Some(number) = at {
+        symbols.push(groups[number].symbol);
+        at = groups[number].from;
+    }
+    symbols.reverse();
+    symbols
+}
+
+/// The steps of the longest path from a pair; none where it runs into a circle.
+/// A pair whose height is being found stands in the table without one.
+fn height(places: &Places, pair: Pair, heights: &mut HashMap<Pair, Option<usize>>) -> Option<usize> {
+    if let Some(&known) = heights.get(&pair) {
+        return known;
+    }
+    heights.insert(pair, None);
+    let mut most = 0;
+    for symbol in 0..16 {
+        for next in places.after(pair, symbol) {
+            most = most.max(height(places, next, heights)? + 1);
+        }
+    }
+    heights.insert(pair, Some(most));
+    Some(most)
+}
