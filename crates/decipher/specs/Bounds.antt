@@ -1,0 +1,72 @@
+-- The verdict on a decipherable code, from the longest walk over its pairs.
+use mathlib.Core.Path.{_≡_, refl}
+use mathlib.Core.Bool.{Bool, true, false}
+use mathlib.Core.List.{List}
+use Prim.Native.Nat.{ℕ, _+_, _≤_}
+use native.Mathlib.Numerals.{add-one}
+use native.Mathlib.Omega.{arith}
+use borrow.Author.Tests.{eqb-true, eqb-false}
+use lib.Dec.{eqb}
+use lib.ListN.{length, replicate}
+use Rattle.code.specs.declared.SymbolCount.{SymbolCount}
+use Rattle.code.specs.declared.Verdict.{Verdict}
+use Rattle.code.specs.declared.Verdict.the-variants.{Finite, Unbounded}
+use Rattle.code.specs.Definitions.Answers.{VerdictMeans}
+use Rattle.code.specs.Definitions.Delays.{Delay}
+use Rattle.code.specs.Definitions.Lists.{if_then_else_}
+use Rattle.code.specs.Definitions.Operations.{zeroed}
+use Rattle.code.specs.Definitions.Tables.{Table, size}
+use Rattle.code.specs.Laws.Delays.{one-word-delay}
+use Rattle.delay.specs.declared.Extent.{Extent}
+use Rattle.delay.specs.declared.Extent.the-variants.{Finite as Most, Unbounded as Without-most}
+use Rattle.delay.specs.Answer.{was-finite}
+use Rattle.delay.specs.Answer as Answer
+use Rattle.delay.specs.Extents.{ExtentOf}
+use Rattle.graph.specs.Goals.{NoGoal}
+use Rattle.graph.specs.Graph.{Longest, Endless}
+use Rattle.pairs.specs.Searches.{shows}
+use Rattle.places.specs.Flat.{wordCount, pairGraph}
+use Rattle.places.specs.Whole.{LaidOut}
+use Rattle.theory.specs.Searches.{search-decipherable, search-delay, search-without-bound}
+
+-- 01: "if the longest path has r steps from the start, the step to a first pair included, the delay is r + 1. A code of one word has delay 0"
+abbrev pub delayOf : (words r : ℕ) → ℕ
+delayOf n r = if eqb n 1 then 0 else r + 1
+
+-- What the walks over the pairs of f say.
+pub data WalksSay (f : List ℕ) : Verdict → Type 0 where
+  finite : {d : SymbolCount} {r : ℕ} → Longest (pairGraph f) r → d .0 ≡ delayOf (wordCount f) r → WalksSay f (Finite d)
+  unbounded : Endless (pairGraph f) → WalksSay f Unbounded
+
+-- The verdict is what they say, and the working buffer is zero.
+pub record Bounded (f w w′ : List ℕ) (v : Verdict) : Type 0 where
+  pub says : WalksSay f v
+  pub work : w′ ≡ zeroed w
+
+pub extent-low : {f : List ℕ} {e : Extent} {r : ℕ} → ExtentOf f e → e ≡ Most r → r ≤ 8256
+extent-low x p = was-finite x p .low
+
+module _ {f w w′ : List ℕ} {n : ℕ} (long : n ≡ length w) (clear : w′ ≡ replicate n 0) where
+  pub bounded-finite : {e : Extent} {r k : ℕ} {d : SymbolCount} → ExtentOf f e → e ≡ Most r → k ≡ wordCount f → d .0 ≡ delayOf k r → Bounded f w w′ (Finite d)
+  bounded-finite {r = r} x p q h = record { says = finite {r = r} (was-finite x p .longest) (rw q at h); work = rw long at clear }
+
+  pub bounded-not : {e : Extent} → ExtentOf f e → e ≡ Without-most → Bounded f w w′ Unbounded
+  bounded-not (Answer.finite p) q = let z : _≡_ {A = ℕ} 0 1 = cc in absurd (omega arith)
+  bounded-not (Answer.unbounded u) q = record { says = unbounded u; work = rw long at clear }
+
+module _ {t : Table} {f : List ℕ} (laid : LaidOut t f) (none : NoGoal (pairGraph f)) where
+  by-count : (r : ℕ) (b : Bool) → eqb (wordCount f) 1 ≡ b → Longest (pairGraph f) r → Delay t (if b then 0 else r + 1)
+  by-count r true e l = one-word-delay (omega (arith, laid .lays .count, eqb-true (wordCount f) 1 e))
+  by-count r false e l = rw add-one (search-delay (shows laid) (laid .fits .some) none two l)
+    where
+      several : wordCount f ≡ 1 → ⊥
+      several = eqb-false (wordCount f) 1 e
+
+      two : 2 ≤ size t
+      two = omega (arith, laid .lays .count, laid .fits .one, several)
+
+  -- Where no walk leads to two ends, what the walks say is the verdict, whatever the message and its readings are.
+  pub says-means : {v : Verdict} (x s u : List ℕ) → WalksSay f v → VerdictMeans t x s u v
+  says-means x s u (finite {r = r} l e) =
+      (search-decipherable (shows laid) (laid .fits .some) none, rw e (by-count r (eqb (wordCount f) 1) refl l))
+  says-means x s u (unbounded e) = (search-decipherable (shows laid) (laid .fits .some) none, search-without-bound (shows laid) (laid .fits .some) e)

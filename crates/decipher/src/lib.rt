@@ -1,0 +1,141 @@
+// The verdict on a code: ambiguous, decipherable with its delay, or decipherable without bound.
+
+use code::Code;
+use code::Judgement;
+use code::Reading;
+use code::Refusal;
+use code::SymbolCount;
+use code::Verdict;
+use delay::Extent;
+use shortest::Search;
+ghost use mathlib.Core.Path.{_≡_};
+ghost use Prim.Native.Nat.{_≤_};
+ghost use lib.ListN.{length};
+ghost use Rattle.code.specs.Definitions.Operations.{Judges};
+ghost use Rattle.code.specs.Definitions.Readings.{TwoReadings};
+ghost use Rattle.code.specs.Definitions.Sheets.{limits};
+ghost use Rattle.code.specs.Definitions.Tables.{tableOf};
+ghost use Rattle.places.specs.Flat.{Laid};
+ghost use Rattle.places.specs.Roots.{Numbered};
+ghost use Rattle.table.specs.Exactly.{Exactly};
+ghost use Rattle.table.specs.WellFormed.{WellFormed};
+ghost use Rattle.decipher.specs.Buffers.{Short, Room};
+ghost use Rattle.decipher.specs.Bounds.{delayOf, Bounded};
+ghost use Rattle.decipher.specs.Twice.{ReadTwice};
+ghost use Rattle.decipher.specs.Decided.{Decided};
+
+// Pairs of places of a code.
+pub struct Pairs {}
+
+impl Pairs {
+    // Unordered pairs. No ambiguous message that is the shortest has more symbols.
+    pub const UNORDERED: usize = Code::SYMBOLS * (Code::SYMBOLS + 1) / 2;
+    // Pairs in order: each has a mark.
+    pub const MARKS: usize = Code::SYMBOLS * Code::SYMBOLS;
+}
+
+// Whether a buffer is too short for a verdict, by the lengths of the four.
+fn is_short(message: usize, first: usize, second: usize, work: usize) -> bool
+    ensures { λ r. ⌜ Exactly r (Short message first second work) ⌝ }
+{
+    if message < Pairs::UNORDERED {
+        return true;
+    }
+    if first < Pairs::UNORDERED {
+        return true;
+    }
+    if second < Pairs::UNORDERED {
+        return true;
+    }
+    work < Pairs::MARKS
+}
+
+// The verdict by a message that has several readings; the first two of them stand in their buffers.
+fn ambiguous(
+    code: Code,
+    message: &[u8],
+    first: &mut [u8],
+    second: &mut [u8],
+    work: &mut [u64],
+) -> Verdict
+    requires { ⌜ WellFormed limits code × TwoReadings (tableOf code) (now message) × (length (now message) ≤ 8256)
+        × (8256 ≤ length (now first)) × (8256 ≤ length (now second)) × (16384 ≤ length (now work)) ⌝ }
+    ensures { λ r. ⌜ ReadTwice (tableOf code) (now (message .entry)) (now (first .entry)) (now (second .entry)) (now (work .entry))
+        (now (first .exit)) (now (second .exit)) (now (work .exit)) r ⌝ }
+{
+    let n = message.len();
+    let Reading::Two(a, b) = reading::find_readings(code, message, first, second, work) else {
+        // never: such a message has a second reading
+        return Verdict::Unbounded;
+    };
+    Verdict::Ambiguous(SymbolCount(n), a, b)
+}
+
+// The delay of a decipherable code of `words` words, where the longest walk over its pairs reads `longest` symbols.
+fn delay_of(words: usize, longest: usize) -> SymbolCount
+    requires { ⌜ longest ≤ 8256 ⌝ }
+    ensures { λ r. ⌜ r .0 ≡ delayOf words longest ⌝ }
+{
+    if words == 1 {
+        return SymbolCount(0);
+    }
+    SymbolCount(longest + 1)
+}
+
+// The verdict on a decipherable code: its delay, or that it is without bound.
+fn decipherable(places: &[u8], work: &mut [u64]) -> Verdict
+    requires { ⌜ Laid (now places) × Numbered (now places) × (16384 ≤ length (now work)) ⌝ }
+    ensures { λ r. ⌜ Bounded (now (places .entry)) (now (work .entry)) (now (work .exit)) r ⌝ }
+{
+    let mut marks = [0u16; Pairs::MARKS];
+    let extent = delay::longest(places, &mut marks, work);
+    bits::clear(work);
+    match extent {
+        Extent::Finite(longest) => {
+            let delay = delay_of(places::word_count(places), longest);
+            Verdict::Finite(delay)
+        }
+        Extent::Unbounded => Verdict::Unbounded,
+    }
+}
+
+// The verdict on a code that an accepted sheet gives, in buffers that are long enough.
+fn decide(
+    code: Code,
+    message: &mut [u8],
+    first: &mut [u8],
+    second: &mut [u8],
+    work: &mut [u64],
+) -> Verdict
+    requires { ⌜ WellFormed limits code × Room (length (now message)) (length (now first)) (length (now second)) (length (now work)) ⌝ }
+    ensures { λ r. ⌜ Decided code (now (message .entry)) (now (first .entry)) (now (second .entry)) (now (work .entry))
+        (now (message .exit)) (now (first .exit)) (now (second .exit)) (now (work .exit)) r ⌝ }
+{
+    let mut marks = [0u16; Pairs::MARKS];
+    let places = places::lay_out(code);
+    match shortest::shortest(&places, &mut marks, work, message) {
+        Search::Found(n) => ambiguous(code, &message[..n], first, second, work),
+        Search::Nothing => decipherable(&places, work),
+    }
+}
+
+// Gives the verdict on a code, or the lowest refusal that holds, 8 or 13. For an ambiguous code the message and its first two readings
+// stand at the start of their buffers; otherwise these are as they were. After a verdict the working buffer is zero.
+pub fn verdict(
+    code: Code,
+    message: &mut [u8],
+    first: &mut [u8],
+    second: &mut [u8],
+    work: &mut [u64],
+) -> Judgement
+    ensures { λ r. ⌜ Judges limits code (now (message .entry)) (now (first .entry)) (now (second .entry)) (now (work .entry))
+        (now (message .exit)) (now (first .exit)) (now (second .exit)) (now (work .exit)) r ⌝ }
+{
+    if !table::well_formed(code) {
+        return Judgement::Refused(Refusal::NotFromSheet);
+    }
+    if is_short(message.len(), first.len(), second.len(), work.len()) {
+        return Judgement::Refused(Refusal::ShortBuffer);
+    }
+    Judgement::Judged(decide(code, message, first, second, work))
+}
