@@ -1,16 +1,12 @@
 -- How long a printed result is at most: a byte for each symbol, four for each word number, and 35 besides.
-use mathlib.Core.Path.{_≡_, refl, sym, ap, _∙_}
+use mathlib.Core.Path.{_≡_}
 use mathlib.Core.List.{List, [], _∷_, _++_, map}
-use Prim.Native.Nat.{ℕ, zero, suc, _+_, _*_, _^_, _≤_, _<_}
+use Prim.Native.Nat.{ℕ, suc, _+_, _*_, _^_, _≤_, _<_}
 use native.Mathlib.Omega.{arith}
-use lib.ListN.{length, getD, length-append, length-map}
-use Rattle.code.specs.declared.Refusal.{Refusal}
-use Rattle.code.specs.declared.Refusal.the-variants.{SheetLength, SheetBytes, RecordCount, WordLength, CodeLength, FieldCount, RowEntry, NotFromSheet, UnknownWord, ForbiddenPair, MessageLength, MessageSymbol, ShortBuffer, NoReading}
+use lib.ListN.{length, getD, length-append}
 use Rattle.code.specs.Definitions.Lists.{sum}
-use Rattle.code.specs.Definitions.Answers.{refusalNumber}
-use Rattle.table.specs.Digits.{digitOf}
 use Rattle.table.specs.Join.{join, length-join}
-use Rattle.printing.specs.Printed.{places, decimal, recordOf, ambiguous, decipherable, refused}
+use Rattle.printing.specs.Printed.{decimal, recordOf}
 use Rattle.printing.specs.Decimals.{places-most, length-decimal}
 
 -- the length of a record of two fields
@@ -32,5 +28,5 @@ unfolding sum
 numbers-sum [] b = omega arith
 numbers-sum (n ∷ s) b = omega (arith, decimal-byte n (b 0), numbers-sum s (λ k. b (suc k)))
 
-pub length-reading : (s : List ℕ) → ((k : ℕ) → getD s k 0 < 256) → length (recordOf (map decimal s)) ≤ 4 * length s + 2
-length-reading s b = omega (arith, length-append (join (44 ∷ []) (map decimal s)) (13 ∷ 10 ∷ []), length-join (44 ∷ []) (map decimal s), numbers-sum s b)
+pub length-numbers : (s : List ℕ) → ((k : ℕ) → getD s k 0 < 256) → length (join (44 ∷ []) (map decimal s)) ≤ 4 * length s
+length-numbers s b = omega (arith, length-join (44 ∷ []) (map decimal s), numbers-sum s b)

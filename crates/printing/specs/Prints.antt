@@ -5,7 +5,6 @@ use Prim.Native.Nat.{ℕ, _+_, _*_, _≤_, _<_}
 use native.Mathlib.Omega.{arith}
 use native.Mathlib.Decide.{decLt}
 use lib.ListN.{length, take, getD, List·getD-eq-default}
-use Rattle.code.specs.declared.Verdict.{Verdict}
 use Rattle.code.specs.declared.Verdict.the-variants.{Ambiguous as Two-ways, Finite, Unbounded}
 use Rattle.code.specs.declared.Judgement.{Judgement}
 use Rattle.code.specs.declared.Judgement.the-variants.{Judged, Refused as Not-judged}

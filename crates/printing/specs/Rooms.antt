@@ -2,10 +2,10 @@
 use mathlib.Core.Path.{_≡_, ap}
 use mathlib.Core.Bool.{Bool, false}
 use mathlib.Core.List.{List}
-use Prim.Native.Nat.{ℕ, _+_, _-_, _*_, _/_, _≤_, _<_}
+use Prim.Native.Nat.{ℕ, _-_, _/_, _≤_}
 use native.Mathlib.Omega.{arith}
 use lib.Dec.{leb}
-use lib.ListN.{length, take, getD}
+use lib.ListN.{length, take}
 use Rattle.code.specs.declared.Judgement.{Judgement}
 use Rattle.table.specs.Exactly.{Exactly, exactly-false, exactly-iff, exactly-le}
 use Rattle.printing.specs.declared.Lengths.{Lengths}

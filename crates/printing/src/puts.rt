@@ -2,8 +2,8 @@
 
 ghost use mathlib.Core.Path.{_≡_};
 ghost use mathlib.Core.List.{[], _∷_, map};
-ghost use Prim.Native.Nat.{ℕ, _+_, _≤_, _<_};
-ghost use lib.ListN.{length, getD};
+ghost use Prim.Native.Nat.{_+_, _*_, _≤_, _<_};
+ghost use lib.ListN.{length};
 ghost use Rattle.table.specs.Digits.{digitOf};
 ghost use Rattle.table.specs.Join.{join};
 ghost use Rattle.printing.specs.Printed.{decimal, recordOf};
@@ -84,10 +84,10 @@ fn put_numbers(out: &mut [u8], at: usize, reading: &[u8]) -> usize
     next
 }
 
-// The record of a reading.
+// The record of a reading: four bytes a word at most, and CR LF.
 pub fn put_reading(out: &mut [u8], at: usize, reading: &[u8]) -> usize
-    requires { ⌜ at + length (recordOf (map decimal (now reading))) ≤ length (now out) ⌝ }
-    ensures { λ r. ⌜ Puts at (recordOf (map decimal (now (reading .entry)))) (now (out .entry)) (now (out .exit)) r ⌝ }
+    requires { ⌜ at + 4 * length (now reading) + 2 ≤ length (now out) ⌝ }
+    ensures { λ r. ⌜ Puts at (recordOf (map decimal (now (reading .entry)))) (now (out .entry)) (now (out .exit)) r × (r ≤ at + 4 * length (now (reading .entry)) + 2) ⌝ }
 {
     let end = put_numbers(out, at, reading);
     put(out, end, b"\r\n")

@@ -4,10 +4,6 @@ use Rattle.printing.specs.Prints.{all, none}
 use borrow.Author.Needs.{needs}
 use Rattle.printing.proofs.print_result.Statement.{statement}
 use Rattle.printing.proofs.print_result.Tie as tie
-use Rattle.printing.proofs.print_result.Reads as reads
-use Rattle.printing.proofs.print_result.Lts as lts
-use Rattle.printing.proofs.printable.Reads as printable-reads
-use Rattle.printing.proofs.put_result.Reads as put-result-reads
 
 printable-requires : tie.Need-printable-requires
 printable-requires c κs = search needs

@@ -7,11 +7,6 @@ use Rattle.printing.specs.Rooms.{same-lengths, no-symbols, room-left}
 use borrow.Author.Needs.{needs}
 use Rattle.printing.proofs.printable.Statement.{statement}
 use Rattle.printing.proofs.printable.Tie as tie
-use Rattle.printing.proofs.printable.Reads as reads
-use Rattle.printing.proofs.printable.Lts as lts
-use Rattle.printing.proofs.Lengths.fit.Reads as fit-reads
-use Rattle.printing.proofs.all_symbols.Reads as all-symbols-reads
-use Rattle.printing.proofs.shown.Reads as shown-reads
 
 shown-requires : tie.Need-shown-requires
 shown-requires c κs = search needs

@@ -1,16 +1,8 @@
 -- The word, the digits and CR LF.
-use native.Mathlib.Omega.{arith}
-use lib.ListN.{length-map}
-use Rattle.table.specs.Digits.{digitOf}
-use Rattle.table.specs.Join.{join}
-use Rattle.printing.specs.Puts.{puts-then, puts-length}
+use Rattle.printing.specs.Results.{line-room, message-put}
 use borrow.Author.Needs.{needs}
 use Rattle.printing.proofs.put_message.Statement.{statement}
 use Rattle.printing.proofs.put_message.Tie as tie
-use Rattle.printing.proofs.put_message.Reads as reads
-use Rattle.printing.proofs.put_message.Lts as lts
-use Rattle.printing.proofs.puts.put.Reads as put-reads
-use Rattle.printing.proofs.puts.put_digits.Reads as put-digits-reads
 
 slice-aggregate-put : tie.Need-slice-aggregate-put
 slice-aggregate-put c = search needs
@@ -25,15 +17,13 @@ slice-aggregate-put-2 : tie.Need-slice-aggregate-put-2
 slice-aggregate-put-2 c = search needs
 
 put-requires-2 : tie.Need-put-requires-2
-put-requires-2 c κs = let m = c .before .before .before .before .before .before .before .before .before .before .before .before .before .args .message .now in
-    omega (arith, c .before .before .before .before .put-digits .ensures .end, puts-length (c .before .before .before .before .put-digits .ensures), c .before .before .before .before .before .before .before .before .put .ensures .end, puts-length (c .before .before .before .before .before .before .before .before .put .ensures), length-map m digitOf)
+put-requires-2 c κs = let m = c .before .before .before .before .before .before .before .before .before .before .before .before .before .args .message .now in search (line-room m)
 
 same-length : tie.Need-same-length
 same-length c = search needs
 
 returns : tie.Need-returns
-unfolding join
-returns c = puts-then (puts-then (c .before .before .before .before .before .before .before .before .before .before .before .put .ensures) (c .before .before .before .before .before .before .before .put-digits .ensures)) (c .before .before .put2 .ensures)
+returns c = search message-put
 
 pub put-message-spec : {M : Type 1} → statement M
 put-message-spec =

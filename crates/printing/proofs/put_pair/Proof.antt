@@ -3,10 +3,6 @@ use Rattle.printing.specs.Results.{number-room, end-room, pair-put}
 use borrow.Author.Needs.{needs}
 use Rattle.printing.proofs.put_pair.Statement.{statement}
 use Rattle.printing.proofs.put_pair.Tie as tie
-use Rattle.printing.proofs.put_pair.Reads as reads
-use Rattle.printing.proofs.put_pair.Lts as lts
-use Rattle.printing.proofs.puts.put.Reads as put-reads
-use Rattle.printing.proofs.puts.put_decimal.Reads as put-decimal-reads
 
 put-requires : tie.Need-put-requires
 put-requires c κs = search needs

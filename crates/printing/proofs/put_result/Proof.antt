@@ -3,11 +3,6 @@ use Rattle.table.specs.Join.{join}
 use borrow.Author.Needs.{needs}
 use Rattle.printing.proofs.put_result.Statement.{statement}
 use Rattle.printing.proofs.put_result.Tie as tie
-use Rattle.printing.proofs.put_result.Reads as reads
-use Rattle.printing.proofs.put_result.Lts as lts
-use Rattle.code.proofs.Refusal.number.Reads as number-reads
-use Rattle.printing.proofs.put_pair.Reads as put-pair-reads
-use Rattle.printing.proofs.put_verdict.Reads as put-verdict-reads
 
 enum-known-judgement : tie.Need-enum-known-judgement
 enum-known-judgement c = search needs

@@ -5,11 +5,6 @@ use Rattle.printing.specs.Puts.{starts}
 use borrow.Author.Needs.{needs}
 use Rattle.printing.proofs.put_verdict.Statement.{statement}
 use Rattle.printing.proofs.put_verdict.Tie as tie
-use Rattle.printing.proofs.put_verdict.Reads as reads
-use Rattle.printing.proofs.put_verdict.Lts as lts
-use Rattle.printing.proofs.put_ambiguous.Reads as put-ambiguous-reads
-use Rattle.printing.proofs.put_pair.Reads as put-pair-reads
-use Rattle.printing.proofs.puts.put.Reads as put-reads
 
 enum-known-verdict : tie.Need-enum-known-verdict
 enum-known-verdict c = search needs

@@ -4,10 +4,6 @@ use Rattle.printing.specs.Decimals.{fewest-digits}
 use borrow.Author.Needs.{needs}
 use Rattle.printing.proofs.puts.put_decimal.Statement.{statement}
 use Rattle.printing.proofs.puts.put_decimal.Tie as tie
-use Rattle.printing.proofs.puts.put_decimal.Reads as reads
-use Rattle.printing.proofs.puts.put_decimal.Lts as lts
-use Rattle.io.proofs.decimal.Reads as decimal-reads
-use Rattle.printing.proofs.puts.put.Reads as put-reads
 
 decimal-requires : tie.Need-decimal-requires
 decimal-requires c κs = search needs

@@ -10,9 +10,6 @@ use Rattle.table.specs.Digits.{digitOf}
 use Rattle.printing.specs.Puts.{sets-next, sets-all}
 use Rattle.printing.proofs.puts.put_digits.Statement.{statement}
 use Rattle.printing.proofs.puts.put_digits.Tie as tie
-use Rattle.printing.proofs.puts.put_digits.Lts as lts
-use Rattle.printing.proofs.puts.put_digits.Reads as reads
-use Rattle.printing.proofs.puts.digit.Reads as digit-reads
 
 abbrev Inv-loop : tie.InvT-loop
 Inv-loop out₀ at message i₀ out i = (i ≤ length message) × (length out ≡ length out₀) × (out ≡ sets out₀ at (take i (map digitOf message)))

@@ -5,10 +5,6 @@ use Rattle.printing.specs.Puts.{puts-then, puts-length}
 use borrow.Author.Needs.{needs}
 use Rattle.printing.proofs.puts.put_number.Statement.{statement}
 use Rattle.printing.proofs.puts.put_number.Tie as tie
-use Rattle.printing.proofs.puts.put_number.Reads as reads
-use Rattle.printing.proofs.puts.put_number.Lts as lts
-use Rattle.printing.proofs.puts.put.Reads as put-reads
-use Rattle.printing.proofs.puts.put_decimal.Reads as put-decimal-reads
 
 put-decimal-requires : tie.Need-put-decimal-requires
 put-decimal-requires c κs = rw (eq-eqb _ _ (c .before .if1 .taken)) at (c .before .before .before .pre)

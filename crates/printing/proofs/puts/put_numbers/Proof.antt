@@ -8,9 +8,6 @@ use Rattle.printing.specs.Puts.{Puts}
 use Rattle.printing.specs.Fields.{numbers, none-put, number-fits, number-put, all-put}
 use Rattle.printing.proofs.puts.put_numbers.Statement.{statement}
 use Rattle.printing.proofs.puts.put_numbers.Tie as tie
-use Rattle.printing.proofs.puts.put_numbers.Reads as reads
-use Rattle.printing.proofs.puts.put_numbers.Lts as lts
-use Rattle.printing.proofs.puts.put_number.Reads as put-number-reads
 
 abbrev Inv-loop : tie.InvT-loop
 Inv-loop out₀ at reading next₀ i₀ out next i = (i ≤ length reading) × (length out ≡ length out₀) × Puts at (numbers reading i) out₀ out next
