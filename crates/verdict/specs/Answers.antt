@@ -2,7 +2,8 @@
 use mathlib.Core.Path.{_≡_}
 use mathlib.Core.List.{List}
 use Prim.Native.Nat.{ℕ}
-use lib.ListN.{length}
+use lib.ListN.{length, take}
+use Rattle.code.specs.declared.Refusal.the-variants.{SheetLength}
 use Rattle.code.specs.declared.SheetAnswer.the-variants.{Accepted, Refused}
 use Rattle.code.specs.declared.Judgement.{Judgement}
 use Rattle.code.specs.declared.Judgement.the-variants.{Judged, Refused as Not-judged}
@@ -28,6 +29,11 @@ pub record Answers (sheet o o′ : List ℕ) (r : ℕ) : Type 0 where
   pub right : RightFor sheet message first second judgement
   pub count : r ≡ length (printed judgement message first second)
   pub out : o′ ≡ written (printed judgement message first second) o
+
+-- The same for the first n bytes of an input buffer. 01: "sheet of 0 bytes or over 4,096": what fills the buffer is refused 1.
+pub record AnswersInput (input : List ℕ) (n : ℕ) (o o′ : List ℕ) (r : ℕ) : Type 0 where
+  pub answers : Answers (take n input) o o′ r
+  pub full : n ≡ length input → answers .judgement ≡ Not-judged SheetLength
 
 -- A judgement that is right for a sheet, with the message and the readings that it shows at the start of the buffers m, f and g.
 pub record Shows (sheet m f g : List ℕ) (j : Judgement) : Type 0 where

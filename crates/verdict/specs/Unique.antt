@@ -20,7 +20,7 @@ use Rattle.code.specs.Laws.Verdicts.{verdict-unique}
 use Rattle.printing.specs.Printed.{printed}
 use Rattle.verdict.specs.Answers.{RightFor, Answers}
 
-not-both : {a : SheetAnswer} {r : Refusal} → a ≡ Accepted → a ≡ Refused r → ⊥
+pub not-both : {a : SheetAnswer} {r : Refusal} → a ≡ Accepted → a ≡ Refused r → ⊥
 not-both p q = let z : _≡_ {A = ℕ} 0 1 = cc in omega arith
 
 module _ (x s u x′ s′ u′ : List ℕ) where

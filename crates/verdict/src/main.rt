@@ -7,10 +7,11 @@ use decipher::Pairs;
 use libc::STDIN_FILENO;
 use libc::STDOUT_FILENO;
 use printing::Lengths;
-ghost use Prim.Native.Nat.{_≤_};
+ghost use Prim.Native.Nat.{_<_};
 ghost use mathlib.Core.Path.{_≡_};
 ghost use lib.ListN.{length};
-ghost use Rattle.verdict.specs.Answers.{Shows, Answers};
+ghost use Rattle.io.specs.Counts.{Counts};
+ghost use Rattle.verdict.specs.Answers.{Shows, Answers, AnswersInput};
 
 pub struct Output {}
 
@@ -49,11 +50,18 @@ fn answer(sheet: &[u8], out: &mut [u8]) -> usize
     printing::print_result(judgement, &message, &first, &second, out)
 }
 
+// The answer to the first n bytes of an input. The buffer is longer than a sheet may be, so an input that fills it is refused.
+fn answer_input(input: &[u8], n: usize, out: &mut [u8]) -> usize
+    requires { ⌜ Counts n (now input) × (4096 < length (now input)) × (length (now out) ≡ 74339) ⌝ }
+    ensures { λ r. ⌜ AnswersInput (now (input .entry)) n (now (out .entry)) (now (out .exit)) r ⌝ }
+{
+    answer(&input[..n], out)
+}
+
 fn main() {
-    // one byte more than a sheet may have, so that a longer input shows itself
-    let mut sheet = [0u8; Sheet::BYTES + 1];
-    let n = io::read_full(STDIN_FILENO, &mut sheet);
+    let mut input = [0u8; Sheet::BYTES + 1];
+    let n = io::read_full(STDIN_FILENO, &mut input);
     let mut out = [0u8; Output::BYTES];
-    let k = answer(&sheet[..n], &mut out);
+    let k = answer_input(&input, n, &mut out);
     io::write_all(STDOUT_FILENO, &out[..k]);
 }
