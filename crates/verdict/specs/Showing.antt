@@ -12,6 +12,7 @@ use Rattle.code.specs.declared.SymbolCount.{SymbolCount}
 use Rattle.code.specs.declared.WordCount.{WordCount}
 use Rattle.code.specs.declared.Refusal.{Refusal}
 use Rattle.code.specs.declared.SheetAnswer.the-variants.{Accepted, Refused}
+use Rattle.code.specs.declared.Taken.{Taken}
 use Rattle.code.specs.declared.Verdict.{Verdict}
 use Rattle.code.specs.declared.Verdict.the-variants.{Ambiguous as Two-ways, Finite, Unbounded}
 use Rattle.code.specs.declared.Judgement.{Judgement}
@@ -39,9 +40,9 @@ plain j nothing m f g = record {
 }
 
 -- A refusal of the sheet
-pub shows-refused : (sheet m f g : List ℕ) (r : Refusal) → taken limits sheet .answer ≡ Refused r → Shows sheet m f g (Not-judged r)
-shows-refused sheet m f g r e =
-    record { message = []; first = []; second = []; right = e; printable = plain (Not-judged r) refl m f g; same = refl }
+pub shows-refused : {t : Taken} {sheet : List ℕ} (m f g : List ℕ) {r : Refusal} → t ≡ taken limits sheet → t .answer ≡ Refused r → Shows sheet m f g (Not-judged r)
+shows-refused m f g {r} came answer =
+    record { message = []; first = []; second = []; right = rw came at answer; printable = plain (Not-judged r) refl m f g; same = refl }
 
 -- the start of a buffer that was written to
 start-of : (x m b : List ℕ) (n : ℕ) → b ≡ written x m → length x ≡ n → take n b ≡ x
@@ -99,11 +100,15 @@ module _ (sheet : List ℕ) (accepted : taken limits sheet .answer ≡ Accepted)
       ⊎-elim (λ p. p .0 from-sheet)
       (λ p. ⊎-elim (λ q. ⊎-elim (λ h. omega arith) (⊎-elim (λ h. omega arith) (⊎-elim (λ h. omega arith) (λ h. omega arith))) (q .0)) (λ q. q .1) (p .1)) lowest
 
-  -- After a verdict, with buffers that are long enough
-  pub shows-judged : (m f g w m′ f′ g′ w′ : List ℕ) → length m ≡ 8256 → length f ≡ 8256 → length g ≡ 8256 → length w ≡ 16384 → length m′ ≡ 8256 → length f′ ≡ 8256
+  judged-shows : {m f g w m′ f′ g′ w′ : List ℕ} → length m ≡ 8256 → length f ≡ 8256 → length g ≡ 8256 → length w ≡ 16384 → length m′ ≡ 8256 → length f′ ≡ 8256
       → length g′ ≡ 8256 → {j : Judgement} → Judges limits code m f g w m′ f′ g′ w′ j → Shows sheet m′ f′ g′ j
-  shows-judged m f g w m′ f′ g′ w′ a b c d a′ b′ c′ (refused lowest e₁ e₂ e₃ e₄) = absurd (no-refusal m f g w a b c d lowest)
-  shows-judged m f g w m′ f′ g′ w′ a b c d a′ b′ c′ (judged {v} x s u holds means shown e) = shows-verdict m f g m′ f′ g′ x s u a′ b′ c′ v means shown
+  judged-shows {m} {f} {g} {w} a b c d a′ b′ c′ (refused lowest e₁ e₂ e₃ e₄) = absurd (no-refusal m f g w a b c d lowest)
+  judged-shows {m} {f} {g} {w} {m′} {f′} {g′} a b c d a′ b′ c′ (judged {v} x s u holds means shown e) = shows-verdict m f g m′ f′ g′ x s u a′ b′ c′ v means shown
+
+-- After a verdict, with buffers that are long enough
+pub shows-judged : {t : Taken} {sheet m f g w m′ f′ g′ w′ : List ℕ} {j : Judgement} → t ≡ taken limits sheet → t .answer ≡ Accepted → length m ≡ 8256 → length f ≡ 8256
+    → length g ≡ 8256 → length w ≡ 16384 → length m′ ≡ 8256 → length f′ ≡ 8256 → length g′ ≡ 8256 → Judges limits (t .code) m f g w m′ f′ g′ w′ j → Shows sheet m′ f′ g′ j
+shows-judged {sheet = sheet} came answer a b c d a′ b′ c′ judges = judged-shows sheet (rw came at answer) a b c d a′ b′ c′ (rw came at judges)
 
 -- What a judgement shows is printed.
 pub answers : (sheet m f g o o′ : List ℕ) (j : Judgement) → Shows sheet m f g j → length o ≡ 74339 → {r : ℕ} → Prints j m f g o o′ r → Answers sheet o o′ r

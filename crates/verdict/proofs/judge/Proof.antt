@@ -1,7 +1,6 @@
 -- The sheet is refused, or the verdict on its table is shown.
-use mathlib.Core.Path.{refl, sym, ap, _∙_}
+use mathlib.Core.Path.{refl}
 use native.Mathlib.Omega.{arith}
-use Rattle.code.specs.declared.Taken.{Taken}
 use Rattle.verdict.specs.Showing.{shows-refused, shows-judged}
 use borrow.Author.Needs.{needs}
 use Rattle.verdict.proofs.judge.Statement.{statement}
@@ -23,7 +22,7 @@ verdict-requires : tie.Need-verdict-requires
 verdict-requires c κs = search needs
 
 returns : tie.Need-returns
-returns c = shows-refused _ _ _ _ _ (ap (λ (t : Taken). t .answer) (sym (c .before .before .before .take-in .ensures)) ∙ c .before .answer .given .1)
+returns c = search shows-refused
 
 same-length : tie.Need-same-length
 same-length c = search needs
@@ -35,10 +34,9 @@ same-length-3 : tie.Need-same-length-3
 same-length-3 c = search needs
 
 returns-2 : tie.Need-returns-2
-returns-2 c = let t = c .before .before .before .before .before .before .before .before .before .before .before .before .before .before .take-in in
-    let p = c .before .before .before .before .before .before .before .before .before .before .before .before .before .before .before .before .before .before .before .pre in
-    shows-judged _ (ap (λ (t : Taken). t .answer) (sym (t .ensures)) ∙ c .before .before .before .before .before .before .before .before .before .before .before .before .enum-told .given .1) _ _ _ _ _ _ _ _ (p .0) (p .1) (p .2) refl (omega arith) (omega arith) (omega arith)
-    (rw (t .ensures) at (c .before .before .before .before .before .before .before .verdict .ensures))
+returns-2 c = let p = c .before .before .before .before .before .before .before .before .before .before .before .before .before .before .before .before .before .before .before .pre in
+    shows-judged (c .before .before .before .before .before .before .before .before .before .before .before .before .before .before .take-in .ensures) (c .before .before .before .before .before .before .before .before .before .before .before .before .enum-told .given .1) (p .0) (p .1) (p .2) refl (omega arith) (omega arith) (omega arith)
+    (c .before .before .before .before .before .before .before .verdict .ensures)
 
 pub judge-spec : {M : Type 1} → statement M
 judge-spec =
