@@ -1,0 +1,90 @@
+-- 01's example, from its sheet to its output: code T.
+use mathlib.Core.Path.{_≡_, refl}
+use mathlib.Core.Bool.{true}
+use mathlib.Core.List.{List, [], _∷_, _++_}
+use Prim.Native.Nat.{ℕ, _-_}
+use lib.ListN.{length, replicate}
+use Rattle.code.specs.declared.Word.{Word}
+use Rattle.code.specs.declared.Row.{Row}
+use Rattle.code.specs.declared.Code.{Code}
+use Rattle.code.specs.declared.SheetAnswer.the-variants.{Accepted}
+use Rattle.code.specs.declared.Verdict.the-variants.{Ambiguous as Two-ways}
+use Rattle.code.specs.declared.Judgement.{Judgement}
+use Rattle.code.specs.declared.Judgement.the-variants.{Judged}
+use Rattle.code.specs.Definitions.Lists.{any, table, sum}
+use Rattle.code.specs.Definitions.Operations.{written}
+use Rattle.code.specs.Definitions.Sheets.{limits, body, records, fields, grid, badBytes, codeOf, takenGrid, taken, FromSheet}
+use Rattle.code.specs.Definitions.Tables.{tableOf}
+use Rattle.code.specs.Laws.Sequences.{NonEmpty}
+use Rattle.table.specs.Given.{well}
+use Rattle.table.specs.Digits.{digitOf}
+use Rattle.table.specs.Join.{join}
+use Rattle.places.specs.Codes.{code-fits}
+use Rattle.cases.specs.Enumeration.{readings}
+use Rattle.cases.specs.Messages.{leastIs, ambiguous-means}
+use Rattle.cases.specs.Readings.{firstTwoOf, first-two-means}
+use Rattle.printing.specs.Printed.{places}
+use Rattle.verdict.specs.Answers.{RightFor, Answers}
+use Rattle.verdict.specs.Unique.{answer-right}
+
+-- the four records `0,1,1,1,1`, `10,1,1,1,1`, `01,1,1,1,1` and `101,1,1,1,1`, each ended by CR LF
+abbrev pub sheetT : List ℕ
+sheetT =
+    48 ∷ 44 ∷ 49 ∷ 44 ∷ 49 ∷ 44 ∷ 49 ∷ 44 ∷ 49 ∷ 13 ∷ 10
+    ∷ 49 ∷ 48 ∷ 44 ∷ 49 ∷ 44 ∷ 49 ∷ 44 ∷ 49 ∷ 44 ∷ 49 ∷ 13 ∷ 10
+    ∷ 48 ∷ 49 ∷ 44 ∷ 49 ∷ 44 ∷ 49 ∷ 44 ∷ 49 ∷ 44 ∷ 49 ∷ 13 ∷ 10
+    ∷ 49 ∷ 48 ∷ 49 ∷ 44 ∷ 49 ∷ 44 ∷ 49 ∷ 44 ∷ 49 ∷ 44 ∷ 49 ∷ 13 ∷ 10
+    ∷ []
+
+abbrev word : List ℕ → Word
+word s = record { symbols = s ++ replicate (16 - length s) 0; len = length s }
+
+abbrev row : Row
+row = record { entries = 1 ∷ 1 ∷ 1 ∷ 1 ∷ replicate 28 0 }
+
+abbrev pub codeT : Code
+codeT = record {
+  words = word (0 ∷ []) ∷ word (1 ∷ 0 ∷ []) ∷ word (0 ∷ 1 ∷ []) ∷ word (1 ∷ 0 ∷ 1 ∷ []) ∷ replicate 28 (word []);
+  rows = row ∷ row ∷ row ∷ row ∷ replicate 28 (record { entries = replicate 32 0 });
+  count = 4;
+}
+
+taken-t : taken limits sheetT ≡ record { answer = Accepted; code = codeT }
+unfolding taken takenGrid grid body records fields badBytes codeOf any table sum
+taken-t = refl
+
+from-sheet-t : FromSheet limits codeT
+from-sheet-t = record { sheet = sheetT; gives = taken-t }
+
+non-empty : NonEmpty (tableOf codeT)
+non-empty x h = code-fits codeT (well from-sheet-t) .some x h
+
+least : leastIs (tableOf codeT) (0 ∷ 1 ∷ 0 ∷ []) ≡ true
+unfolding leastIs
+least = refl
+
+first-two : firstTwoOf (readings (tableOf codeT) (0 ∷ 1 ∷ 0 ∷ [])) (0 ∷ 1 ∷ []) (2 ∷ 0 ∷ []) ≡ true
+unfolding firstTwoOf readings
+first-two = refl
+
+abbrev pub judgementT : Judgement
+judgementT = Judged (Two-ways (record { 0 = 3 }) (record { 0 = 2 }) (record { 0 = 2 }))
+
+-- 01: "Code T of 000 (0, 10, 01, 101; all 1): ambiguous, message 010, readings 0,1 and 2,0"
+pub right-t : RightFor sheetT (0 ∷ 1 ∷ 0 ∷ []) (0 ∷ 1 ∷ []) (2 ∷ 0 ∷ []) judgementT
+right-t =
+    rw taken-t
+    (refl, (ambiguous-means (tableOf codeT) non-empty least (first-two-means non-empty (0 ∷ 1 ∷ 0 ∷ []) (0 ∷ 1 ∷ []) (2 ∷ 0 ∷ []) first-two), refl, refl, refl))
+
+-- "From them it prints, whole": `ambiguous,010`, `0,1` and `2,0`
+abbrev pub outputT : List ℕ
+outputT =
+    97 ∷ 109 ∷ 98 ∷ 105 ∷ 103 ∷ 117 ∷ 111 ∷ 117 ∷ 115 ∷ 44 ∷ 48 ∷ 49 ∷ 48 ∷ 13 ∷ 10
+    ∷ 48 ∷ 44 ∷ 49 ∷ 13 ∷ 10
+    ∷ 50 ∷ 44 ∷ 48 ∷ 13 ∷ 10
+    ∷ []
+
+-- Whatever the output buffer held, it starts with these 25 bytes after the answer to code T.
+pub prints-t : {o o′ : List ℕ} {r : ℕ} → Answers sheetT o o′ r → (r ≡ 25) × (o′ ≡ written outputT o)
+unfolding join digitOf places
+prints-t a = answer-right a (0 ∷ 1 ∷ 0 ∷ []) (0 ∷ 1 ∷ []) (2 ∷ 0 ∷ []) judgementT right-t
