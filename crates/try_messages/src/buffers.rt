@@ -1,11 +1,14 @@
-// The buffers that are lent: what they hold before, and what they hold after.
+// The lent buffers: what they hold before, and whether they hold it after.
 
-use crate::show::text;
+use libc::STDOUT_FILENO;
 
 // What every entry of a lent buffer holds before. No symbol and no word has this number.
 pub const BEFORE: u8 = 200;
 
 pub const WORK_BEFORE: u64 = 200;
+
+// The greatest length that a buffer can be lent at: some more than the longest message needs.
+pub const ROOM: usize = 16400;
 
 // Whether all entries from `from` on hold what they held before.
 pub fn is_kept(buffer: &[u8], from: usize) -> bool {
@@ -31,24 +34,24 @@ fn is_all(work: &[u64], value: u64) -> bool {
     true
 }
 
-// Writes whether the buffers for results were kept past what was written.
+// Writes whether the buffers for results hold what they held before, past what is written.
 pub fn write_kept(kept: bool) {
     if kept {
-        text(b", buffers kept");
+        io::write_all(STDOUT_FILENO, b"; buffers kept");
     } else {
-        text(b", buffers changed");
+        io::write_all(STDOUT_FILENO, b"; buffers changed");
     }
 }
 
 // Writes what became of the working buffer.
 pub fn write_work(work: &[u64]) {
     if is_all(work, WORK_BEFORE) {
-        text(b", work kept");
+        io::write_all(STDOUT_FILENO, b"; work kept");
         return;
     }
     if is_all(work, 0) {
-        text(b", work zero");
+        io::write_all(STDOUT_FILENO, b"; work zero");
         return;
     }
-    text(b", work dirty");
+    io::write_all(STDOUT_FILENO, b"; work dirty");
 }

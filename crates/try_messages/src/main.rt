@@ -1,17 +1,36 @@
-// Encodes sequences and reads messages, and writes a line for each trial: the answer, and what the lent buffers hold then.
+// Each argument is a trial, in fields with a blank between:
+//     encode SHEET WORDS ROOM
+//     read SHEET MESSAGE ROOM ROOM ROOM
+// SHEET is a file, and a ROOM is the length of a lent buffer. After the rooms the table may be changed by one of
+//     count N    length X N    symbol X K N    entry X Y N
+// The program writes the trial, its answer, and what the lent buffers then hold.
 
-mod broken;
 mod buffers;
-mod cases;
-mod long;
-mod refusals;
-mod show;
+mod fields;
+mod lists;
 mod tables;
 mod trials;
 
+use libc::STDOUT_FILENO;
+
+fn try_line(line: &[u8]) {
+    io::write_all(STDOUT_FILENO, line);
+    io::write_all(STDOUT_FILENO, b": ");
+    if fields::is(line, 0, b"encode") {
+        trials::encode(line);
+    } else {
+        trials::read(line);
+    }
+    io::write_all(STDOUT_FILENO, b"\n");
+}
+
 fn main() {
-    cases::try_all();
-    refusals::try_all();
-    long::try_all();
-    broken::try_all();
+    let count = os::arg_count();
+    let mut i: usize = 1;
+    while i < count {
+        let mut line = io::buffer();
+        let n = os::arg(i, &mut line);
+        try_line(&line[..n]);
+        i += 1;
+    }
 }

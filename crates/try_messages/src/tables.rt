@@ -1,81 +1,111 @@
-// The codes that the trials go by.
+// The table that a trial goes by: what its sheet gives, or that with one number changed.
 
+use crate::fields;
 use code::Code;
 use code::Row;
 use code::Word;
 ghost use Prim.Native.Nat.{_<_};
 
-fn table_of(sheet: &[u8]) -> Code {
+fn from_sheet(sheet: &[u8]) -> Code {
     let taken = sheet::take_in(sheet);
     taken.code
 }
 
-// Code T of 000.
-pub fn t() -> Code {
-    table_of(b"0,1,1,1,1\r\n10,1,1,1,1\r\n01,1,1,1,1\r\n101,1,1,1,1\r\n")
+// The table of the sheet in a file.
+fn from_file(path: &[u8]) -> Code {
+    let file = os::open_read(path);
+    if file < 0 {
+        os::fail(path);
+        return from_sheet(b"");
+    }
+    // one byte more than a sheet may have
+    let mut bytes = [0u8; 4097];
+    let n = io::read_full(file, &mut bytes);
+    libc::close(file);
+    from_sheet(&bytes[..n])
 }
 
-// Code U of 000: no word that begins with 0 after one that ends with 1.
-pub fn u() -> Code {
-    table_of(b"0,1,1,0,0\r\n10,1,1,1,1\r\n01,1,1,0,0\r\n101,1,1,1,1\r\n")
+fn with_count(mut code: Code, count: usize) -> Code {
+    code.count = count;
+    code
 }
 
-// 0 may come after 1, and no other word after another.
-pub fn one_way() -> Code {
-    table_of(b"0,0,1\r\n1,0,0\r\n")
-}
-
-// Two words with the same symbols, and no word may follow any.
-pub fn equal_words() -> Code {
-    table_of(b"0,0,0\r\n0,0,0\r\n")
-}
-
-// One word of sixteen symbols.
-pub fn one_word() -> Code {
-    table_of(b"0123456789ABCDEF,1\r\n")
-}
-
-// One word of sixteen zeros.
-pub fn sixteen_zeros() -> Code {
-    table_of(b"0000000000000000,1\r\n")
-}
-
-// Every message of zeros alone has more readings the longer it is.
-pub fn one_or_two_zeros() -> Code {
-    table_of(b"0,1,1\r\n00,1,1\r\n")
-}
-
-pub fn two_or_three_zeros() -> Code {
-    table_of(b"00,1,1\r\n000,1,1\r\n")
-}
-
-// Word x of `largest`: the two digits of x to the base 16, and two zeros.
-fn word_of_four(x: usize) -> Word
+fn with_length(mut code: Code, x: usize, len: usize) -> Code
     requires { ⌜ x < 32 ⌝ }
 {
-    let mut symbols = [0u8; Word::SYMBOLS];
-    symbols[0] = (x / 16) as u8;
-    symbols[1] = (x % 16) as u8;
-    Word {
-        symbols: symbols,
-        len: 4,
-    }
+    let mut word = code.words[x];
+    word.len = len;
+    code.words[x] = word;
+    code
 }
 
-// 32 words of four symbols, without bans.
-pub fn largest() -> Code {
-    let row = Row {
-        entries: [1u8; Code::WORDS],
-    };
-    let mut words = [word_of_four(0); Code::WORDS];
-    let mut x: usize = 1;
-    while x < Code::WORDS {
-        words[x] = word_of_four(x);
-        x += 1;
+fn put_symbol(mut word: Word, k: usize, symbol: u8) -> Word
+    requires { ⌜ k < 16 ⌝ }
+{
+    word.symbols[k] = symbol;
+    word
+}
+
+fn with_symbol(mut code: Code, x: usize, k: usize, symbol: u8) -> Code
+    requires { ⌜ (x < 32) × (k < 16) ⌝ }
+{
+    let word = put_symbol(code.words[x], k, symbol);
+    code.words[x] = word;
+    code
+}
+
+fn put_entry(mut row: Row, y: usize, entry: u8) -> Row
+    requires { ⌜ y < 32 ⌝ }
+{
+    row.entries[y] = entry;
+    row
+}
+
+fn with_entry(mut code: Code, x: usize, y: usize, entry: u8) -> Code
+    requires { ⌜ (x < 32) × (y < 32) ⌝ }
+{
+    let row = put_entry(code.rows[x], y, entry);
+    code.rows[x] = row;
+    code
+}
+
+// The table with the change that fields k to k + 3 name, if any.
+fn changed(code: Code, line: &[u8], k: usize) -> Code
+    requires { ⌜ k < 8 ⌝ }
+{
+    let n = fields::number(line, k + 1);
+    if fields::is(line, k, b"count") {
+        return with_count(code, n);
     }
-    Code {
-        words: words,
-        rows: [row; Code::WORDS],
-        count: Code::WORDS,
+    let x = fields::number_within(line, k + 1, 31);
+    if fields::is(line, k, b"length") {
+        return with_length(code, x, fields::number(line, k + 2));
     }
+    if fields::is(line, k, b"symbol") {
+        return with_symbol(
+            code,
+            x,
+            fields::number_within(line, k + 2, 15),
+            fields::byte(line, k + 3),
+        );
+    }
+    if fields::is(line, k, b"entry") {
+        return with_entry(
+            code,
+            x,
+            fields::number_within(line, k + 2, 31),
+            fields::byte(line, k + 3),
+        );
+    }
+    code
+}
+
+// The table of a trial: field 1 names its sheet, and a change may stand from field k on.
+pub fn of_trial(line: &[u8], k: usize) -> Code
+    requires { ⌜ k < 8 ⌝ }
+{
+    let f = fields::field(line, 1);
+    let a = f.from;
+    let e = f.to;
+    changed(from_file(&line[a..e]), line, k)
 }

@@ -1,30 +1,41 @@
-// One trial: lends buffers, writes the answer, and what the buffers hold then.
+// A trial: lends the buffers, writes the answer, and what the buffers hold then.
 
 use crate::buffers;
-use crate::show;
-use crate::show::Kind;
+use crate::fields;
+use crate::lists;
+use crate::tables;
 use code::Code;
 use code::Encoding;
 use code::Reading;
 use code::Refusal;
+use libc::STDOUT_FILENO;
 ghost use Prim.Native.Nat.{_≤_};
+ghost use lib.ListN.{length};
 
-// The entries that there are to lend of each buffer: some more than the longest message needs.
-pub const ROOM: usize = 16400;
+// The entries that there are for the words or the message of a trial.
+const ENTRIES: usize = 100000;
+
+// Puts the list in field 2 at the start of `out`, and gives how many entries it has.
+fn put_list(line: &[u8], out: &mut [u8]) -> usize
+    ensures { λ r. ⌜ r ≤ length (now (out .exit)) ⌝ }
+{
+    let f = fields::field(line, 2);
+    let a = f.from;
+    let e = f.to;
+    lists::put(&line[a..e], out)
+}
 
 fn write_refusal(r: Refusal) {
-    show::text(b"refused ");
-    show::number(r.number() as usize);
+    io::write_all(STDOUT_FILENO, b"refused ");
+    io::print_decimal(STDOUT_FILENO, r.number() as u64);
 }
 
 // Writes the answer to encoding, and gives how many symbols it says are written.
-fn write_encoding(answer: Encoding, buffer: &[u8]) -> usize {
+fn write_encoding(answer: Encoding, message: &[u8]) -> usize {
     match answer {
         Encoding::Encoded(n) => {
-            show::text(b"encoded ");
-            show::number(n.0);
-            show::text(b": ");
-            show::first_entries(Kind::Symbols, buffer, n.0);
+            io::write_all(STDOUT_FILENO, b"encoded ");
+            lists::write_first(message, n.0);
             n.0
         }
         Encoding::Refused(r) => {
@@ -34,23 +45,19 @@ fn write_encoding(answer: Encoding, buffer: &[u8]) -> usize {
     }
 }
 
-// Encodes a sequence into a buffer.
-fn encode_in(name: &[u8], code: Code, words: &[u8], message: &mut [u8]) {
-    show::text(b"encode ");
-    show::text(name);
-    show::text(b": ");
+fn encode_in(code: Code, words: &[u8], message: &mut [u8]) {
     let answer = encoding::encode(code, words, message);
     let n = write_encoding(answer, message);
     buffers::write_kept(buffers::is_kept(message, n));
-    show::text(b"\n");
 }
 
-// Encodes a sequence into a buffer of `room` entries.
-pub fn encode(name: &[u8], code: Code, words: &[u8], room: usize)
-    requires { ⌜ room ≤ 16400 ⌝ }
-{
-    let mut message = [buffers::BEFORE; ROOM];
-    encode_in(name, code, words, &mut message[0..room]);
+pub fn encode(line: &[u8]) {
+    let code = tables::of_trial(line, 4);
+    let mut words = [0u8; ENTRIES];
+    let n = put_list(line, &mut words);
+    let room = fields::number_within(line, 3, buffers::ROOM);
+    let mut message = [buffers::BEFORE; buffers::ROOM];
+    encode_in(code, &words[0..n], &mut message[0..room]);
 }
 
 // How many words of each reading are written.
@@ -63,18 +70,18 @@ struct Written {
 fn write_reading(answer: Reading, first: &[u8], second: &[u8]) -> Written {
     match answer {
         Reading::One(n) => {
-            show::text(b"one: ");
-            show::first_entries(Kind::Words, first, n.0);
+            io::write_all(STDOUT_FILENO, b"one ");
+            lists::write_first(first, n.0);
             Written {
                 first: n.0,
                 second: 0,
             }
         }
         Reading::Two(n, k) => {
-            show::text(b"two: ");
-            show::first_entries(Kind::Words, first, n.0);
-            show::text(b" | ");
-            show::first_entries(Kind::Words, second, k.0);
+            io::write_all(STDOUT_FILENO, b"two ");
+            lists::write_first(first, n.0);
+            io::write_all(STDOUT_FILENO, b" ");
+            lists::write_first(second, k.0);
             Written {
                 first: n.0,
                 second: k.0,
@@ -90,14 +97,7 @@ fn write_reading(answer: Reading, first: &[u8], second: &[u8]) -> Written {
     }
 }
 
-// The lengths of the three buffers that reading is lent.
-pub struct Lent {
-    pub first: usize,
-    pub second: usize,
-    pub work: usize,
-}
-
-// Writes whether both reading buffers were kept past what was written.
+// Writes whether both reading buffers were kept past what is written.
 fn write_both_kept(first: &[u8], second: &[u8], written: Written) {
     if buffers::is_kept(first, written.first) {
         buffers::write_kept(buffers::is_kept(second, written.second));
@@ -106,39 +106,26 @@ fn write_both_kept(first: &[u8], second: &[u8], written: Written) {
     }
 }
 
-// Reads a message with three buffers.
-fn read_in(
-    name: &[u8],
-    code: Code,
-    message: &[u8],
-    first: &mut [u8],
-    second: &mut [u8],
-    work: &mut [u64],
-) {
-    show::text(b"read ");
-    show::text(name);
-    show::text(b": ");
+fn read_in(code: Code, message: &[u8], first: &mut [u8], second: &mut [u8], work: &mut [u64]) {
     let answer = reading::read(code, message, first, second, work);
     let written = write_reading(answer, first, second);
     write_both_kept(first, second, written);
     buffers::write_work(work);
-    show::text(b"\n");
 }
 
-// Reads a message with buffers of these lengths.
-pub fn read(name: &[u8], code: Code, message: &[u8], lent: Lent)
-    requires { ⌜ (lent .first ≤ 16400) × (lent .second ≤ 16400) × (lent .work ≤ 16400) ⌝ }
-{
-    let a = lent.first;
-    let b = lent.second;
-    let c = lent.work;
-    let mut first = [buffers::BEFORE; ROOM];
-    let mut second = [buffers::BEFORE; ROOM];
-    let mut work = [buffers::WORK_BEFORE; ROOM];
+pub fn read(line: &[u8]) {
+    let code = tables::of_trial(line, 6);
+    let mut message = [0u8; ENTRIES];
+    let n = put_list(line, &mut message);
+    let a = fields::number_within(line, 3, buffers::ROOM);
+    let b = fields::number_within(line, 4, buffers::ROOM);
+    let c = fields::number_within(line, 5, buffers::ROOM);
+    let mut first = [buffers::BEFORE; buffers::ROOM];
+    let mut second = [buffers::BEFORE; buffers::ROOM];
+    let mut work = [buffers::WORK_BEFORE; buffers::ROOM];
     read_in(
-        name,
         code,
-        message,
+        &message[0..n],
         &mut first[0..a],
         &mut second[0..b],
         &mut work[0..c],

@@ -2,8 +2,8 @@
 use borrow.Author.Needs.{needs}
 use Prim.Native.Nat.{_+_, _≤_, _<_, _-_}
 use lib.ListN.{length}
-use Rattle.try_messages.proofs.show.run_len.Statement.{statement}
-use Rattle.try_messages.proofs.show.run_len.Tie as tie
+use Rattle.try_messages.proofs.lists.run_len.Statement.{statement}
+use Rattle.try_messages.proofs.lists.run_len.Tie as tie
 
 abbrev Inv-loop : tie.InvT-loop
 Inv-loop xs at n₀ n = (0 < n) × (at + n ≤ length xs)

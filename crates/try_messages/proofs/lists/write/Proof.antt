@@ -2,21 +2,24 @@
 use borrow.Author.Needs.{needs}
 use Prim.Native.Nat.{_≤_, _-_}
 use lib.ListN.{length}
-use Rattle.try_messages.proofs.show.entries.Statement.{statement}
-use Rattle.try_messages.proofs.show.entries.Tie as tie
+use Rattle.try_messages.proofs.lists.write.Statement.{statement}
+use Rattle.try_messages.proofs.lists.write.Tie as tie
 
 abbrev Inv-loop : tie.InvT-loop
-Inv-loop kind xs i₀ i = i ≤ length xs
+Inv-loop xs i₀ t4 i = i ≤ length xs
 
 abbrev μ-loop : tie.MeasureT-loop
-μ-loop kind xs i₀ i = length xs - i
+μ-loop xs i₀ t4 i = length xs - i
 
-pub entries-spec : {M : Type 1} → statement M
-entries-spec =
+pub write-spec : {M : Type 1} → statement M
+write-spec =
     tie.close
     (tie.spec
     Inv-loop
     μ-loop
+    (λ c. search needs)
+    (λ c κs. search needs)
+    (λ c. search needs)
     (λ c. search needs)
     (λ c κs. search needs)
     (λ c κs. search needs)
