@@ -27,6 +27,12 @@ module _ {m f g w : ℕ} where
       back (inr (inr (inl h))) = absurd (omega arith)
       back (inr (inr (inr h))) = h
 
+  pub room-not-short : Room m f g w → Short m f g w → ⊥
+  room-not-short r (inl h) = omega (arith, r .message)
+  room-not-short r (inr (inl h)) = omega (arith, r .first)
+  room-not-short r (inr (inr (inl h))) = omega (arith, r .second)
+  room-not-short r (inr (inr (inr h))) = omega (arith, r .work)
+
   -- Buffers of which none is too short have room.
   pub has-room : (Short m f g w → ⊥) → Room m f g w
   has-room none = record {

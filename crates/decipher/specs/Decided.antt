@@ -6,7 +6,7 @@ use lib.ListN.{length, take}
 use Rattle.code.specs.declared.Code.{Code}
 use Rattle.code.specs.declared.Verdict.{Verdict}
 use Rattle.code.specs.Definitions.Answers.{VerdictMeans}
-use Rattle.code.specs.Definitions.Operations.{zeroed, Shown, written}
+use Rattle.code.specs.Definitions.Operations.{zeroed, Shown}
 use Rattle.code.specs.Definitions.Sheets.{limits}
 use Rattle.code.specs.Definitions.Tables.{tableOf}
 use Rattle.pairs.specs.Searches.{shows}
@@ -15,7 +15,7 @@ use Rattle.shortest.specs.declared.Search.{Search}
 use Rattle.shortest.specs.declared.Search.the-variants.{Found, Nothing}
 use Rattle.shortest.specs.Contracts.{Answers}
 use Rattle.theory.specs.Searches.{search-ambiguous}
-use Rattle.decipher.specs.Bounds.{WalksSay, finite, unbounded, Bounded, says-means}
+use Rattle.decipher.specs.Delays.{DelayBy, finite, unbounded, Measured, delay-means}
 use Rattle.decipher.specs.Found.{was-nothing, found-least, found-written}
 use Rattle.decipher.specs.Twice.{ReadTwice, twice}
 
@@ -28,7 +28,7 @@ pub record Decided (c : Code) (m f g w m′ f′ g′ w′ : List ℕ) (v : Verd
   pub shown : Shown limits c m f g m′ f′ g′ x s u v
   pub work : w′ ≡ zeroed w
 
-unchanged : (c : Code) (m f g m′ : List ℕ) {places : List ℕ} {v : Verdict} → WalksSay places v → m′ ≡ m → Shown limits c m f g m′ f g [] [] [] v
+unchanged : (c : Code) (m f g m′ : List ℕ) {places : List ℕ} {v : Verdict} → DelayBy places v → m′ ≡ m → Shown limits c m f g m′ f g [] [] [] v
 unchanged c m f g m′ (finite l e) p = (p, refl, refl)
 unchanged c m f g m′ (unbounded e) p = (p, refl, refl)
 
@@ -47,12 +47,12 @@ module _ {c : Code} {places m f g w m′ w₁ : List ℕ} {r : Search} (laid : L
   }
 
   -- None was found, and the walks decide.
-  pub decided-decipherable : {w′ : List ℕ} {v : Verdict} → r ≡ Nothing → Bounded places w₁ w′ v → Decided c m f g w m′ f g w′ v
+  pub decided-decipherable : {w′ : List ℕ} {v : Verdict} → r ≡ Nothing → Measured places w₁ w′ v → Decided c m f g w m′ f g w′ v
   decided-decipherable e b = record {
     x = [];
     s = [];
     u = [];
-    means = says-means laid (was-nothing answers e .1) [] [] [] (b .says);
-    shown = unchanged c m f g m′ (b .says) (was-nothing answers e .0);
+    means = delay-means laid (was-nothing answers e .1) [] [] [] (b .delay);
+    shown = unchanged c m f g m′ (b .delay) (was-nothing answers e .0);
     work = rw long at (b .work);
   }

@@ -1,4 +1,4 @@
--- The message that the search found: it has two readings, at most 8,256 symbols, and is the least that a walk to two ends reads.
+-- The message that the search found is the least that a walk to two ends reads, so it has two readings and no more symbols than there are unordered pairs.
 use mathlib.Core.Path.{_≡_, sym, ap, _∙_}
 use mathlib.Core.List.{List}
 use Prim.Native.Nat.{ℕ, _≤_}
@@ -19,41 +19,37 @@ use Rattle.theory.specs.Ambiguity.{ends→readings}
 use Rattle.theory.specs.Searches.{goal→ends, least-goal}
 use Rattle.decipher.specs.Lengths.{least-few}
 
-module _ {places m m′ : List ℕ} {r : Search} (answers : Answers places m m′ r) where
-  pub was-found : {n : ℕ} → r ≡ Found n → Message places m m′ n
-  was-found {n} e = by answers e
-    where
-      by : {s : Search} → Answers places m m′ s → s ≡ Found n → Message places m m′ n
-      by (found {n = k} h) p = let z : k ≡ n = cc in rw z at h
-      by (nothing p h) q = let z : _≡_ {A = ℕ} 0 1 = cc in absurd (omega arith)
+module _ {places m m′ : List ℕ} where
+  pub was-found : {r : Search} {n : ℕ} → Answers places m m′ r → r ≡ Found n → Message places m m′ n
+  was-found {n = n} (found {n = k} h) e = let z : k ≡ n = cc in rw z at h
+  was-found (nothing p h) e = let z : _≡_ {A = ℕ} 0 1 = cc in absurd (omega arith)
 
-  pub was-nothing : r ≡ Nothing → (m′ ≡ m) × NoGoal (pairGraph places)
-  was-nothing e = by answers e
-    where
-      by : {s : Search} → Answers places m m′ s → s ≡ Nothing → (m′ ≡ m) × NoGoal (pairGraph places)
-      by (found h) p = let z : _≡_ {A = ℕ} 0 1 = cc in absurd (omega arith)
-      by (nothing p h) q = (p, h)
+  pub was-nothing : {r : Search} → Answers places m m′ r → r ≡ Nothing → (m′ ≡ m) × NoGoal (pairGraph places)
+  was-nothing (found h) e = let z : _≡_ {A = ℕ} 0 1 = cc in absurd (omega arith)
+  was-nothing (nothing p h) e = (p, h)
 
-  module _ {n : ℕ} (is : r ≡ Found n) where
-    symbols-at : take n m′ ≡ was-found is .symbols
-    symbols-at = let h = was-found is in ap (take n) (h .list) ∙ take-at (h .symbols) (drop n m) n (h .long)
+  module _ {r : Search} {n : ℕ} (answers : Answers places m m′ r) (is : r ≡ Found n) where
+    symbols-at : take n m′ ≡ was-found answers is .symbols
+    symbols-at = let h = was-found answers is in ap (take n) (h .list) ∙ take-at (h .symbols) (drop n m) n (h .long)
 
-    -- It stands at the start of the message buffer.
     pub found-long : n ≡ length (take n m′)
-    found-long = sym (was-found is .long) ∙ sym (ap length symbols-at)
+    found-long = sym (was-found answers is .long) ∙ sym (ap length symbols-at)
 
     pub found-inside : n ≤ length m′
     found-inside = omega (arith, found-long, length-take n m′)
 
+    -- It stands at the start of the message buffer, and the rest is as it was.
     pub found-written : m′ ≡ written (take n m′) m
-    found-written = let h = was-found is in rw (symbols-at, h .long) (h .list)
+    found-written = let h = was-found answers is in rw (symbols-at, h .long) (h .list)
 
     pub found-least : LeastGoal (pairGraph places) (take n m′)
-    found-least = rw symbols-at (was-found is .least)
+    found-least = rw symbols-at (was-found answers is .least)
 
     module _ {t : Table} (laid : LaidOut t places) where
+      -- It has two readings,
       pub found-two : TwoReadings t (take n m′)
       found-two = ends→readings (laid .fits .some) (goal→ends (shows laid) (found-least .goal))
 
+      -- and at most 8,256 symbols.
       pub found-few : length (take n m′) ≤ 8256
       found-few = least-few (laid .fits) (least-goal (shows laid) found-least)

@@ -1,19 +1,26 @@
 -- The number of unordered pairs of places bounds the shortest ambiguous message and the delay of every table within the limits.
-use mathlib.Core.Path.{_≡_, sym, ap}
-use mathlib.Core.List.{List, []}
-use Prim.Native.Nat.{ℕ, suc, _≤_}
+use mathlib.Core.Path.{_≡_, sym}
+use mathlib.Core.List.{List, [], List-discrete}
+use mathlib.Core.Logic.{_⊎_, inl, inr}
+use Prim.Native.Nat.{ℕ, _≤_}
+use native.Mathlib.Decide.{ℕ-discrete}
 use native.Mathlib.Omega.{arith}
 use lib.ListN.{length}
+use Rattle.code.specs.declared.Code.{Code}
 use Rattle.code.specs.Definitions.Delays.{Delay}
-use Rattle.code.specs.Definitions.Lists.{sum}
-use Rattle.code.specs.Definitions.Readings.{Ambiguous, Decipherable}
-use Rattle.code.specs.Definitions.Tables.{Table, size}
+use Rattle.code.specs.Definitions.Orders.{Shortlex}
+use Rattle.code.specs.Definitions.Readings.{TwoReadings, Ambiguous, Decipherable}
+use Rattle.code.specs.Definitions.Sheets.{limits, FromSheet}
+use Rattle.code.specs.Definitions.Tables.{Table, tableOf}
 use Rattle.code.specs.Laws.Lists.{table-map}
+use Rattle.code.specs.Laws.Readings.{first-two-readings}
+use Rattle.places.specs.Codes.{code-fits}
 use Rattle.places.specs.Lays.{base}
 use Rattle.places.specs.Whole.{Fits}
-use Rattle.theory.specs.Ambiguity.{LeastTwoEnds, no-two-ends}
+use Rattle.table.specs.Given.{well}
+use Rattle.theory.specs.Ambiguity.{LeastTwoEnds, at-most, ends→readings, readings→ends, no-two-ends}
 use Rattle.theory.specs.Finite.{placeCount, pairCount, pairs-within}
-use Rattle.theory.specs.Lengths.{least-short, delay-short}
+use Rattle.theory.specs.Lengths.{short-ends, least-short, delay-short}
 
 module _ {t : Table} (fits : Fits t) where
   places-few : placeCount t ≤ 128
@@ -27,6 +34,25 @@ module _ {t : Table} (fits : Fits t) where
   pub least-few : {m : List ℕ} → LeastTwoEnds t m → length m ≤ 8256
   least-few l = omega (arith, least-short (fits .some) l, pairs-few)
 
+  -- The shortest ambiguous message has at most 8,256 symbols: where some message has two readings, two ends are reached by at most so many.
+  pub message-few : {m s u : List ℕ} → Ambiguous t m s u → length m ≤ 8256
+  message-few {m} a =
+      let h = short-ends (fits .some) (readings→ends (fits .some) (first-two-readings (a .readings)) .ends) in
+      omega (arith, h .short, pairs-few, at-most m (h .m) (by (h .m) (ends→readings (fits .some) (h .ends)) (List-discrete ℕ-discrete (h .m) m)))
+    where
+      by : (n : List ℕ) → TwoReadings t n → Dec (n ≡ m) → (m ≡ n) ⊎ Shortlex m n
+      by n r (yes e) = inl (sym e)
+      by n r (no e) = inr (a .least n r e)
+
   -- 01: "Delays therefore run from 0 to 8,257 at most."
   pub delay-few : {N : ℕ} → Decipherable t → Delay t N → N ≤ 8257
   delay-few {N} d h = omega (arith, delay-short (fits .some) N (no-two-ends (fits .some) d) h, pairs-few)
+
+module _ {c : Code} (sheet : FromSheet limits c) where
+  -- The shortest ambiguous message of a table that a sheet gives has at most 8,256 symbols,
+  pub sheet-message-few : {m s u : List ℕ} → Ambiguous (tableOf c) m s u → length m ≤ 8256
+  sheet-message-few = message-few (code-fits c (well sheet))
+
+  -- and the delay of a decipherable one is at most 8,257.
+  pub sheet-delay-few : {N : ℕ} → Decipherable (tableOf c) → Delay (tableOf c) N → N ≤ 8257
+  sheet-delay-few = delay-few (code-fits c (well sheet))

@@ -1,7 +1,9 @@
 pub mod Buffers
-pub mod Bounds
-pub mod Twice
 pub mod Lengths
 pub mod Found
+pub mod Twice
+pub mod Delays
 pub mod Decided
 pub mod Ways
+pub mod Kinds
+pub mod Shown

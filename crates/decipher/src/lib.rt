@@ -1,4 +1,5 @@
-// The verdict on a code: ambiguous, decipherable with its delay, or decipherable without bound.
+// The verdict on a code: ambiguous, decipherable with its delay, or decipherable without bound. The shortest message of a walk over the
+// pairs of places to two ends is looked for; where there is none, the longest walk tells the delay.
 
 use code::Code;
 use code::Judgement;
@@ -20,17 +21,17 @@ ghost use Rattle.places.specs.Roots.{Numbered};
 ghost use Rattle.table.specs.Exactly.{Exactly};
 ghost use Rattle.table.specs.WellFormed.{WellFormed};
 ghost use Rattle.decipher.specs.Buffers.{Short, Room};
-ghost use Rattle.decipher.specs.Bounds.{delayOf, Bounded};
+ghost use Rattle.decipher.specs.Delays.{delayOf, Measured};
 ghost use Rattle.decipher.specs.Twice.{ReadTwice};
 ghost use Rattle.decipher.specs.Decided.{Decided};
 
-// Pairs of places of a code.
+// The pairs of places of a code.
 pub struct Pairs {}
 
 impl Pairs {
-    // Unordered pairs. No ambiguous message that is the shortest has more symbols.
+    // How many there are at most, whichever place comes first. The shortest ambiguous message has no more symbols.
     pub const UNORDERED: usize = Code::SYMBOLS * (Code::SYMBOLS + 1) / 2;
-    // Pairs in order: each has a mark.
+    // How many marks there are: one for each place with each place.
     pub const MARKS: usize = Code::SYMBOLS * Code::SYMBOLS;
 }
 
@@ -50,7 +51,7 @@ fn is_short(message: usize, first: usize, second: usize, work: usize) -> bool
     work < Pairs::MARKS
 }
 
-// The verdict by a message that has several readings; the first two of them stand in their buffers.
+// The verdict `ambiguous`, from a message that has several readings; the first two then stand in their buffers.
 fn ambiguous(
     code: Code,
     message: &[u8],
@@ -65,7 +66,7 @@ fn ambiguous(
 {
     let n = message.len();
     let Reading::Two(a, b) = reading::find_readings(code, message, first, second, work) else {
-        // never: such a message has a second reading
+        // not reached: the message has a second reading
         return Verdict::Unbounded;
     };
     Verdict::Ambiguous(SymbolCount(n), a, b)
@@ -85,7 +86,7 @@ fn delay_of(words: usize, longest: usize) -> SymbolCount
 // The verdict on a decipherable code: its delay, or that it is without bound.
 fn decipherable(places: &[u8], work: &mut [u64]) -> Verdict
     requires { ⌜ Laid (now places) × Numbered (now places) × (16384 ≤ length (now work)) ⌝ }
-    ensures { λ r. ⌜ Bounded (now (places .entry)) (now (work .entry)) (now (work .exit)) r ⌝ }
+    ensures { λ r. ⌜ Measured (now (places .entry)) (now (work .entry)) (now (work .exit)) r ⌝ }
 {
     let mut marks = [0u16; Pairs::MARKS];
     let extent = delay::longest(places, &mut marks, work);

@@ -20,6 +20,7 @@ use Rattle.shortest.specs.Runs.{Run, run-more, run-end}
 use Rattle.shortest.specs.Slots.{slots-begin}
 use Rattle.shortest.specs.Turns.{enter, next-group}
 
+-- The scan for a group's end: the next key is the same, or differs, or there is none.
 module _ {f q : List ℕ} {tail a b : ℕ} (laid : Laid f) (s : Ascending (pairGraph f) q tail) (r : Run (pairGraph f) q tail a b) where
   pub group-more : {x y : ℕ} → x ≡ keyOf f (getD q b 0) → y ≡ keyOf f (getD q a 0) → x ≡ y → b < tail → Run (pairGraph f) q tail a (b + 1)
   group-more d e z l = run-more r l (sym d ∙ z ∙ e)
@@ -34,6 +35,7 @@ module _ {f q : List ℕ} {tail a b : ℕ} (laid : Laid f) (s : Ascending (pairG
 pub entered : {f ms q : List ℕ} {tail a b : ℕ} → Laid f → Between (pairGraph f) ms q tail a → IsGroup (pairGraph f) q tail a b → Stands f ms q tail a b 0 a 0
 entered laid s p = slots-begin (enter s p)
 
+-- What `advance` returns.
 pub expand-goal : {f ms q : List ℕ} {a b t k c x : ℕ} {r : Progress} → Progressed f ms q a b t k c r → r ≡ Goal x → Expanded f ms q a (Ended x)
 expand-goal h e = ended (was-goal h e)
 
@@ -54,10 +56,11 @@ module _ {f ms q : List ℕ} {a : ℕ} where
   was-on (ended h) d = let z : _≡_ {A = ℕ} 0 1 = cc in absurd (omega arith)
   was-on {b} (moved {b = x} l h) d = let z : x ≡ b = cc in rw z at l
 
+-- What `explore` returns: at a goal,
 pub explore-goal : {f ms q : List ℕ} {a x : ℕ} {r : Expansion} → Expanded f ms q a r → r ≡ Ended x → Explored f q (Reached a x)
 explore-goal h e = reached (was-ended h e)
 
--- With no group left, there is no goal.
+-- and with no group left.
 pub explore-end : {f ms q : List ℕ} {tail a : ℕ} → Laid f → Between (pairGraph f) ms q tail a → tail ≤ a → Explored f q Exhausted
 explore-end laid s h = exhausted (no-goal s h)
 

@@ -1,4 +1,4 @@
--- What the small functions of the search return, way by way.
+-- What the functions on one pair return, way by way.
 use mathlib.Core.Path.{_≡_, sym, ap, _∙_}
 use mathlib.Core.Bool.{Bool, true, false}
 use mathlib.Core.List.{List}
@@ -26,7 +26,7 @@ pub places-symbol : (f : List ℕ) {v : ℕ} {p : Pair} → PlacesOf v p → sym
 places-symbol f {v} {p} r = ap (symbolAt f) (let z : p .high ≡ v % 128 = let e = r .node in let h = r .high in omega arith in z)
 
 module _ {f : List ℕ} (laid : Laid f) where
-  -- first
+  -- What `first` returns: for two words in order their first pair, else nothing.
   pub arrives-words : (j : ℕ) {x y n : ℕ} {r : Pair} → Arrives (startNode f x y) r → n ≡ wordCount f → x < y → y < n → x ≡ j / 32 → y ≡ j % 32
       → Arrives (firstFrom f j) r
   arrives-words j a z l h e d = rw (first-words f j (rw (← e, ← d) l) (rw (← d, ← z) h), ← e, ← d) a
@@ -37,21 +37,21 @@ module _ {f : List ℕ} (laid : Laid f) where
   pub arrives-disorder : (j : ℕ) {x y : ℕ} → y ≤ x → x ≡ j / 32 → y ≡ j % 32 → Arrives (firstFrom f j) (record { low = 128; high = 0 })
   arrives-disorder j l e d = nowhere (first-disorder f j (rw (← e, ← d) l))
 
-  -- next
+  -- What `next` returns, from a pair and from the source.
   pub arrives-pair : (low high j : ℕ) {r : Pair} → Arrives (arcFrom f low high j) r → low < 128 → high < 128 → Arrives (toward f (low * 128 + high) j) r
   arrives-pair low high j a l h = rw (toward-node f (low * 128 + high) j (omega arith), low-of low high h, high-of low high h) a
 
   pub arrives-first : (low high j : ℕ) {r : Pair} → Arrives (firstFrom f j) r → 128 ≤ low → Arrives (toward f (low * 128 + high) j) r
   arrives-first low high j a l = rw (toward-source f (low * 128 + high) j (omega arith)) a
 
-  -- inner
+  -- What `inner` returns, by whether the lower place is an end.
   pub inner-end : (p q : ℕ) {b : Bool} → b ≡ endAt f p → b ≡ true → q ≡ innerOf f p q
   inner-end p q e d = rw (← e, d)
 
   pub inner-inside : (p q : ℕ) {b : Bool} → b ≡ endAt f p → b ≡ false → p ≡ innerOf f p q
   inner-inside p q e d = rw (← e, d)
 
-  -- two_ends
+  -- What `two_ends` returns, by whether the lower place is an end.
   pub ends-both : (low high : ℕ) {a b : Bool} → low < 128 → high < 128 → a ≡ endAt f low → a ≡ true → b ≡ endAt f high
       → b ≡ pairGraph f .goal (low * 128 + high)
   ends-both low high l h e t d = rw (low-of low high h, high-of low high h, ← e, t) d
@@ -59,7 +59,7 @@ module _ {f : List ℕ} (laid : Laid f) where
   pub ends-inside : (low high : ℕ) {a : Bool} → high < 128 → a ≡ endAt f low → a ≡ false → false ≡ pairGraph f .goal (low * 128 + high)
   ends-inside low high h e t = rw (low-of low high h, ← e, t)
 
-  -- width
+  -- What `width` returns: for the source, for a symbol that leads on, and for one that does not.
   pub width-words : (low high t : ℕ) {n : ℕ} → n ≡ wordCount f * 32 → 128 ≤ low → n ≡ width f (low * 128 + high) t
   width-words low high t e l = rw (width-source f (low * 128 + high) t (omega arith)) e
 
@@ -76,7 +76,7 @@ module _ {f : List ℕ} (laid : Laid f) where
       let b = high-of low high h in
       sym (width-off f (low * 128 + high) t (omega arith) (rw (a, b, ← e) (ne-eqb _ _ d)))
 
-  -- look
+  -- What `look` returns, from its first way out to its last.
   module _ {ms : List ℕ} (low high : ℕ) {t : ℕ} where
     pub seen-nowhere : 128 ≤ low → Seen f ms (low * 128 + high) t Passed
     seen-nowhere l = passed (λ h. absurd (omega arith))

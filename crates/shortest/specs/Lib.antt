@@ -16,6 +16,7 @@ pub mod Runs
 pub mod Slots
 pub mod Spelling
 pub mod Steps
+pub mod Symbols
 pub mod Triangle
 pub mod Turns
 pub mod Writing

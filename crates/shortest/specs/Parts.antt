@@ -39,6 +39,9 @@ module _ {f ms q : List ℕ} {tail a b t k c : ℕ} (laid : Laid f) (n : Numbere
   pub stands-few : tail ≤ 8257
   stands-few = tail-most laid n (s .stage .queue)
 
+  pub group-within : 16384 ≤ length q → b ≤ length q
+  group-within w = let e = s .stage .group .ends in let m = stands-few in omega arith
+
   pub ready : 16384 ≤ length q → k < b → t < 16 → Ready ms q tail a b t k
   ready w l h =
       record {

@@ -33,6 +33,10 @@ module _ {f ms : List ℕ} {v t : ℕ} where
   was-fresh (fresh h) e = h
   was-fresh (final h) e = let y : _≡_ {A = ℕ} 0 1 = cc in absurd (omega arith)
 
+  -- A new node has a mark.
+  pub fresh-within : {x : Arrival} {i : ℕ} → Seen f ms v t x → x ≡ Fresh → i ≡ v → length ms ≡ 16384 → i < length ms
+  fresh-within y h z l = let m = was-fresh y h .node in omega arith
+
   pub was-final : {x : Arrival} → Seen f ms v t x → x ≡ Final → IsGoal f v t
   was-final (passed h) e = let y : _≡_ {A = ℕ} 0 1 = cc in absurd (omega arith)
   was-final (fresh h) e = let y : _≡_ {A = ℕ} 0 1 = cc in absurd (omega arith)
@@ -40,6 +44,7 @@ module _ {f ms : List ℕ} {v t : ℕ} where
 
 module _ {f ms q : List ℕ} {tail a b t k c : ℕ} (laid : Laid f) (n : Numbered f) (s : Stands f ms q tail a b t k c) (r : Ready ms q tail a b t k) {p o : Pair}
     (u : PlacesOf (nodeOf (getD q k 0)) p) (d : Arrives (toward f (p .low * 128 + p .high) c) o) where
+  -- The slot leads to the pair o.
   leads : toward f (nodeAt q k) c ≡ o .low * 128 + o .high
   leads = ap (λ (v : ℕ). toward f v c) (sym (u .node)) ∙ sym (d .node)
 
@@ -47,9 +52,11 @@ module _ {f ms q : List ℕ} {tail a b t k c : ℕ} (laid : Laid f) (n : Numbere
   link : o .low * 128 + o .high < 16384 → Link (pairGraph f) (nodeAt q k) (o .low * 128 + o .high)
   link l = rw leads at (pair-slots laid n .sound (nodeAt q k) c (r .node) (rw leads l))
 
+  -- Nothing new.
   pub step-passed : {x : Arrival} → Seen f ms (o .low * 128 + o .high) t x → x ≡ Passed → Progressed f ms q a b t k (c + 1) (Tail tail)
   step-passed y e = went (pass s (rw leads (λ l z. met-marked s (r .low) (o .low * 128 + o .high) (was-passed y e l z))))
 
+  -- A goal: the first that is met.
   pub step-goal : {x : Arrival} → Seen f ms (o .low * 128 + o .high) t x → x ≡ Final → Progressed f ms q a b t k (c + 1) (Goal t)
   step-goal y e =
       let i = was-final y e in
@@ -64,7 +71,7 @@ module _ {f ms q : List ℕ} {tail a b t k c : ℕ} (laid : Laid f) (n : Numbere
         least = first-goal (s .stage) (o .low * 128 + o .high) (r .member) l (i .symbol) (i .goal);
       })
 
-  -- The new node's mark is set at i, and its entry is e.
+  -- The mark of the new node is set at i, and its entry is e.
   pub step-fresh : {x : Arrival} {i e : ℕ} → Seen f ms (o .low * 128 + o .high) t x → x ≡ Fresh → i ≡ o .low * 128 + o .high
       → e ≡ entryOf (a + 1) (o .low * 128 + o .high) → Progressed f (set ms i 1) (set q tail e) a b t k (c + 1) (Tail (tail + 1))
   step-fresh {x} {i} {e} y h z w =
@@ -75,10 +82,6 @@ module _ {f ms q : List ℕ} {tail a b t k c : ℕ} (laid : Laid f) (n : Numbere
       (went
       (push s v e (let g = r .few in let g′ = r .wide in omega arith) (r .member) (link l) (m .symbol) (m .plain) (m .clear)
       (rw w (node-entry (a + 1) v (omega arith))) (rw w (from-entry (a + 1) v (omega arith))) leads))
-
-  -- The new node has a mark.
-  pub fresh-within : {x : Arrival} {i : ℕ} → Seen f ms (o .low * 128 + o .high) t x → x ≡ Fresh → i ≡ o .low * 128 + o .high → i < length ms
-  fresh-within y h z = let m = was-fresh y h .node in let l = r .marks in omega arith
 
   -- The member's entry is not changed.
   pub member-kept : (e : ℕ) → getD (set q tail e) k 0 ≡ getD q k 0

@@ -23,7 +23,7 @@ use Rattle.shortest.specs.Queue.{Between}
 use Rattle.shortest.specs.Spelling.{Spelled, Stored, Filled, fill-some, fill-next}
 use Rattle.shortest.specs.Turns.{begun}
 
--- fill
+-- One turn of `fill`.
 module _ {f q o p : List ℕ} {start count index at : ℕ} (laid : Laid f) (t : Filled (pairGraph f) q start count o index at p) (l : 0 < index) where
   pub fill-within : length p ≡ length o → at - 1 < length p
   fill-within e = let h = fill-some t l in let k = t .within in let n = t .room in omega arith
@@ -32,7 +32,7 @@ module _ {f q o p : List ℕ} {start count index at : ℕ} (laid : Laid f) (t : 
       → Filled (pairGraph f) q start count o (r - 1) (at - 1) (set p (at - 1) (getD f (d .high) 0))
   fill-store u e = fill-next t e l (places-symbol f u)
 
--- write
+-- What `write` rests on: the label of the group where a goal comes next, and its length.
 module _ {f q : List ℕ} {a t : ℕ} (m : GoalNext f q a t) where
   pub met-depth : HasDepth q a
   met-depth = record { count = length (m .labelled .message); depth = label-depth (m .labelled .label) }
@@ -57,7 +57,7 @@ module _ {f q : List ℕ} {a t : ℕ} (m : GoalNext f q a t) where
         list = s .list ∙ written-list (s .spelled .message) o n (let l = m .small in omega arith);
       }
 
--- shortest
+-- What `shortest` starts from.
 zeros : (n v : ℕ) → _≡_ {A = ℕ} (getD (replicate n 0) v 0) 0
 zeros n v = go (decLt v n)
   where
@@ -79,6 +79,7 @@ clear-zeros = record { long = length-replicate {A = ℕ} 16384 0; clear = λ v. 
 pub started : {f ms q : List ℕ} → Laid f → Numbered f → Clear ms → Seeded q → Between (pairGraph f) ms q 1 0
 started laid n c s = begun (pair-bounded laid n) (c .long) (c .clear) (s .node) (s .from)
 
+-- What the exploration says.
 module _ {f q : List ℕ} where
   pub was-reached : {a x : ℕ} {r : Exploration} → Explored f q r → r ≡ Reached a x → GoalNext f q a x
   was-reached {a} {x} (reached {a = b} {x = y} m) e = let z : b ≡ a = cc in let w : y ≡ x = cc in rw (z, w) at m

@@ -21,6 +21,7 @@ ghost use Rattle.shortest.specs.Spelling.{Spelled, Stored};
 ghost use Rattle.shortest.specs.Depth.{HasDepth, Depth};
 ghost use Rattle.shortest.specs.Entries.{entryOf, nodeOf, fromOf};
 ghost use Rattle.shortest.specs.Pairs.{firstFrom, toward, innerOf, width};
+ghost use Rattle.shortest.specs.Symbols.{NotLed, NoneLed};
 
 // The length of the message, or that there is none.
 pub enum Search {
@@ -180,11 +181,11 @@ fn look(places: &[u8], marks: &[u16], pair: Pair, symbol: usize) -> Arrival
     if places::symbol(places, pair.high) != symbol {
         return Arrival::Passed;
     }
-    if two_ends(places, pair) {
-        return Arrival::Goal;
-    }
     if marks[node(pair)] != 0 {
         return Arrival::Passed;
+    }
+    if two_ends(places, pair) {
+        return Arrival::Goal;
     }
     Arrival::Fresh
 }
@@ -279,6 +280,38 @@ fn expand_symbol(
     Progress::Tail(tail)
 }
 
+// The lesser of `least` and the symbol, not below `symbol`, that leads a pair on. Any symbol may lead the source on.
+fn sooner(places: &[u8], pair: Pair, symbol: usize, least: usize) -> usize
+    requires { ⌜ Laid (now places) × (pair .high < 128) × (symbol ≤ least) ⌝ }
+    ensures { λ r. ⌜ NotLed (now (places .entry)) (pair .low * 128 + pair .high) symbol r × (r ≤ least) ⌝ }
+{
+    if Layout::PLACES <= pair.low {
+        return symbol;
+    }
+    let place = inner(places, pair);
+    let next = places[place + 1] as usize;
+    if symbol <= next {
+        if next < least {
+            return next;
+        }
+    }
+    least
+}
+
+// The least symbol, not below `symbol`, that may lead a member of a group on; 16 if there is none.
+fn next_symbol(places: &[u8], queue: &[u64], group: Group, symbol: usize) -> usize
+    requires { ⌜ Laid (now places) × (group .end ≤ length (now queue)) × (symbol ≤ 16) ⌝ }
+    ensures { λ r. ⌜ NoneLed (now (places .entry)) (now (queue .entry)) (group .start) (group .end) symbol r × (r ≤ 16) ⌝ }
+{
+    let mut least = Word::ALPHABET as usize;
+    let mut member = group.start;
+    while member < group.end {
+        least = sooner(places, pair_of(queue[member]), symbol, least);
+        member += 1;
+    }
+    least
+}
+
 // Deals with a group, symbol after symbol.
 fn expand_group(
     places: &[u8],
@@ -294,14 +327,14 @@ fn expand_group(
     ensures { λ r. ⌜ Progressed (now (places .entry)) (now (marks .exit)) (now (queue .exit))
         (group .start) (group .end) 16 (group .start) 0 r ⌝ }
 {
-    let mut symbol: usize = 0;
+    let mut symbol = next_symbol(places, queue, group, 0);
     let mut tail = tail;
     while symbol < Word::ALPHABET as usize {
         match expand_symbol(places, marks, queue, group, symbol, tail) {
             Progress::Goal(x) => return Progress::Goal(x),
             Progress::Tail(e) => tail = e,
         }
-        symbol += 1;
+        symbol = next_symbol(places, queue, group, symbol + 1);
     }
     Progress::Tail(tail)
 }

@@ -1,37 +1,26 @@
+-- `decide` meets its contract: a message that was found has two readings and fits (`found-two`, `found-few`), and each way gives the verdict that it decides.
 use borrow.Author.Needs.{needs}
 use Rattle.shortest.specs.Writing.{clear-zeros}
 use Rattle.decipher.specs.Found.{found-inside, found-long, found-two, found-few}
 use Rattle.decipher.specs.Decided.{decided-ambiguous, decided-decipherable}
 use Rattle.decipher.proofs.decide.Statement.{statement}
 use Rattle.decipher.proofs.decide.Tie as tie
-use Rattle.decipher.proofs.decide.Reads as reads
-use Rattle.decipher.proofs.decide.Lts as lts
-use Rattle.decipher.proofs.ambiguous.Reads as ambiguous-reads
-use Rattle.decipher.proofs.decipherable.Reads as decipherable-reads
-use Rattle.places.proofs.lay_out.Reads as lay-out-reads
-use Rattle.shortest.proofs.shortest.Reads as shortest-reads
 
--- src/lib.rt:117:11
 shortest-requires : tie.Need-shortest-requires
 shortest-requires c κs = (search needs, search needs, clear-zeros, search needs, search needs)
 
--- src/lib.rt:118:45
 slice-reshare-prefix-ambiguous : tie.Need-slice-reshare-prefix-ambiguous
 slice-reshare-prefix-ambiguous c = search found-inside
 
--- src/lib.rt:118:45
 slice-aggregate-ambiguous : tie.Need-slice-aggregate-ambiguous
 slice-aggregate-ambiguous c = search found-long
 
--- src/lib.rt:118:29
 ambiguous-requires : tie.Need-ambiguous-requires
 ambiguous-requires c κs = (search needs, search found-two, search found-few, search needs, search needs, search needs)
 
--- src/lib.rt:103:1
 returns : tie.Need-returns
 returns c = search decided-ambiguous
 
--- src/lib.rt:103:1
 returns-2 : tie.Need-returns-2
 returns-2 c = search decided-decipherable
 

@@ -1,25 +1,17 @@
+-- `decipherable` meets its contract: the walk is as long as `delay_of` asks (`extent-low`), and each answer of the search gives its verdict.
 use borrow.Author.Needs.{needs}
-use Rattle.decipher.specs.Bounds.{extent-low, bounded-finite, bounded-not}
+use Rattle.decipher.specs.Delays.{extent-low, measured-finite, measured-unbounded}
 use Rattle.decipher.proofs.decipherable.Statement.{statement}
 use Rattle.decipher.proofs.decipherable.Tie as tie
-use Rattle.decipher.proofs.decipherable.Reads as reads
-use Rattle.decipher.proofs.decipherable.Lts as lts
-use Rattle.bits.proofs.clear.Reads as clear-reads
-use Rattle.decipher.proofs.delay_of.Reads as delay-of-reads
-use Rattle.delay.proofs.longest.Reads as longest-reads
-use Rattle.places.proofs.word_count.Reads as word-count-reads
 
--- src/lib.rt:95:17
 delay-of-requires : tie.Need-delay-of-requires
 delay-of-requires c κs = search extent-low
 
--- src/lib.rt:86:1
 returns : tie.Need-returns
-returns c = search bounded-finite
+returns c = search measured-finite
 
--- src/lib.rt:86:1
 returns-2 : tie.Need-returns-2
-returns-2 c = search bounded-not
+returns-2 c = search measured-unbounded
 
 pub decipherable-spec : {M : Type 1} → statement M
 decipherable-spec =

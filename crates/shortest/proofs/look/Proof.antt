@@ -13,23 +13,23 @@ symbol-requires c κs = search needs
 returns-2 : tie.Need-returns-2
 returns-2 c = search seen-other
 
-two-ends-requires : tie.Need-two-ends-requires
-two-ends-requires c κs = search needs
-
-returns-3 : tie.Need-returns-3
-returns-3 c = search seen-goal
-
 node-requires : tie.Need-node-requires
 node-requires c κs = search needs
 
-mul-if4 : tie.Need-mul-if4
-mul-if4 c = search needs
+mul-if3 : tie.Need-mul-if3
+mul-if3 c = search needs
 
-shared-slice-read-if4 : tie.Need-shared-slice-read-if4
-shared-slice-read-if4 c = search needs
+shared-slice-read-if3 : tie.Need-shared-slice-read-if3
+shared-slice-read-if3 c = search needs
+
+returns-3 : tie.Need-returns-3
+returns-3 c = search seen-marked
+
+two-ends-requires : tie.Need-two-ends-requires
+two-ends-requires c κs = search needs
 
 returns-4 : tie.Need-returns-4
-returns-4 c = search seen-marked
+returns-4 c = search seen-goal
 
 returns-5 : tie.Need-returns-5
 returns-5 c = search seen-fresh
@@ -41,10 +41,10 @@ look-spec =
     returns
     symbol-requires
     returns-2
-    two-ends-requires
-    returns-3
     node-requires
-    mul-if4
-    shared-slice-read-if4
+    mul-if3
+    shared-slice-read-if3
+    returns-3
+    two-ends-requires
     returns-4
     returns-5)

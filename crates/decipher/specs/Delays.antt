@@ -33,26 +33,27 @@ use Rattle.theory.specs.Searches.{search-decipherable, search-delay, search-wit
 abbrev pub delayOf : (words r : ℕ) → ℕ
 delayOf n r = if eqb n 1 then 0 else r + 1
 
--- What the walks over the pairs of f say.
-pub data WalksSay (f : List ℕ) : Verdict → Type 0 where
-  finite : {d : SymbolCount} {r : ℕ} → Longest (pairGraph f) r → d .0 ≡ delayOf (wordCount f) r → WalksSay f (Finite d)
-  unbounded : Endless (pairGraph f) → WalksSay f Unbounded
+-- The delay, or that there is none, by the walks over the pairs of f.
+pub data DelayBy (f : List ℕ) : Verdict → Type 0 where
+  finite : {d : SymbolCount} {r : ℕ} → Longest (pairGraph f) r → d .0 ≡ delayOf (wordCount f) r → DelayBy f (Finite d)
+  unbounded : Endless (pairGraph f) → DelayBy f Unbounded
 
--- The verdict is what they say, and the working buffer is zero.
-pub record Bounded (f w w′ : List ℕ) (v : Verdict) : Type 0 where
-  pub says : WalksSay f v
+-- The verdict is found so, and the working buffer is zero.
+pub record Measured (f w w′ : List ℕ) (v : Verdict) : Type 0 where
+  pub delay : DelayBy f v
   pub work : w′ ≡ zeroed w
 
+-- The longest walk reads few enough symbols that one more can be counted.
 pub extent-low : {f : List ℕ} {e : Extent} {r : ℕ} → ExtentOf f e → e ≡ Most r → r ≤ 8256
 extent-low x p = was-finite x p .low
 
 module _ {f w w′ : List ℕ} {n : ℕ} (long : n ≡ length w) (clear : w′ ≡ replicate n 0) where
-  pub bounded-finite : {e : Extent} {r k : ℕ} {d : SymbolCount} → ExtentOf f e → e ≡ Most r → k ≡ wordCount f → d .0 ≡ delayOf k r → Bounded f w w′ (Finite d)
-  bounded-finite {r = r} x p q h = record { says = finite {r = r} (was-finite x p .longest) (rw q at h); work = rw long at clear }
+  pub measured-finite : {e : Extent} {r k : ℕ} {d : SymbolCount} → ExtentOf f e → e ≡ Most r → k ≡ wordCount f → d .0 ≡ delayOf k r → Measured f w w′ (Finite d)
+  measured-finite {r = r} x p q h = record { delay = finite {r = r} (was-finite x p .longest) (rw q at h); work = rw long at clear }
 
-  pub bounded-not : {e : Extent} → ExtentOf f e → e ≡ Without-most → Bounded f w w′ Unbounded
-  bounded-not (Answer.finite p) q = let z : _≡_ {A = ℕ} 0 1 = cc in absurd (omega arith)
-  bounded-not (Answer.unbounded u) q = record { says = unbounded u; work = rw long at clear }
+  pub measured-unbounded : {e : Extent} → ExtentOf f e → e ≡ Without-most → Measured f w w′ Unbounded
+  measured-unbounded (Answer.finite p) q = let z : _≡_ {A = ℕ} 0 1 = cc in absurd (omega arith)
+  measured-unbounded (Answer.unbounded u) q = record { delay = unbounded u; work = rw long at clear }
 
 module _ {t : Table} {f : List ℕ} (laid : LaidOut t f) (none : NoGoal (pairGraph f)) where
   by-count : (r : ℕ) (b : Bool) → eqb (wordCount f) 1 ≡ b → Longest (pairGraph f) r → Delay t (if b then 0 else r + 1)
@@ -65,8 +66,8 @@ module _ {t : Table} {f : List ℕ} (laid : LaidOut t f) (none : NoGoal (pairGra
       two : 2 ≤ size t
       two = omega (arith, laid .lays .count, laid .fits .one, several)
 
-  -- Where no walk leads to two ends, what the walks say is the verdict, whatever the message and its readings are.
-  pub says-means : {v : Verdict} (x s u : List ℕ) → WalksSay f v → VerdictMeans t x s u v
-  says-means x s u (finite {r = r} l e) =
+  -- Where no walk leads to two ends, the verdict by the walks holds, whatever stands for the message and its readings.
+  pub delay-means : {v : Verdict} (x s u : List ℕ) → DelayBy f v → VerdictMeans t x s u v
+  delay-means x s u (finite {r = r} l e) =
       (search-decipherable (shows laid) (laid .fits .some) none, rw e (by-count r (eqb (wordCount f) 1) refl l))
-  says-means x s u (unbounded e) = (search-decipherable (shows laid) (laid .fits .some) none, search-without-bound (shows laid) (laid .fits .some) e)
+  delay-means x s u (unbounded e) = (search-decipherable (shows laid) (laid .fits .some) none, search-without-bound (shows laid) (laid .fits .some) e)

@@ -1,0 +1,24 @@
+-- The two cases of the digit.
+use borrow.Author.Needs.{needs}
+use borrow.Author.Tests.{lt-ltb, le-ltb}
+use native.Mathlib.Omega.{arith}
+use Rattle.table.specs.Digits.{digitOf}
+use Rattle.printing.proofs.puts.digit.Statement.{statement}
+use Rattle.printing.proofs.puts.digit.Tie as tie
+
+add-result : tie.Need-add-result
+add-result c = search needs
+
+add-result-2 : tie.Need-add-result-2
+add-result-2 c = search needs
+
+returns : tie.Need-returns
+unfolding digitOf
+returns c = rw (lt-ltb _ _ (c .if1 .taken)) (omega arith)
+
+returns-2 : tie.Need-returns-2
+unfolding digitOf
+returns-2 c = rw (le-ltb _ _ (c .if1 .left)) (omega arith)
+
+pub digit-spec : {M : Type 1} → statement M
+digit-spec = tie.close (tie.spec add-result add-result-2 returns returns-2)

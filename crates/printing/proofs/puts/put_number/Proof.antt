@@ -1,0 +1,47 @@
+-- The first number stands alone, every other after a comma.
+use native.Mathlib.Omega.{arith}
+use borrow.Author.Tests.{eq-eqb, ne-eqb}
+use Rattle.printing.specs.Puts.{puts-then, puts-length}
+use borrow.Author.Needs.{needs}
+use Rattle.printing.proofs.puts.put_number.Statement.{statement}
+use Rattle.printing.proofs.puts.put_number.Tie as tie
+
+put-decimal-requires : tie.Need-put-decimal-requires
+put-decimal-requires c κs = rw (eq-eqb _ _ (c .before .if1 .taken)) at (c .before .before .before .pre)
+
+same-length : tie.Need-same-length
+same-length c = search needs
+
+returns : tie.Need-returns
+returns c = rw (eq-eqb _ _ (c .before .before .before .before .if1 .taken)) (c .before .before .put-decimal .ensures)
+
+slice-aggregate-put : tie.Need-slice-aggregate-put
+slice-aggregate-put c = search needs
+
+put-requires : tie.Need-put-requires
+put-requires c κs = let room = rw (ne-eqb _ _ (c .before .before .if1 .left)) at (c .before .before .before .before .pre) in omega arith
+
+put-decimal-requires-2 : tie.Need-put-decimal-requires-2
+put-decimal-requires-2 c κs = let f = c .before .before .before .put .ensures in
+    let room = rw (ne-eqb _ _ (c .before .before .before .before .before .before .if1 .left)) at (c .before .before .before .before .before .before .before .before .pre) in
+    omega (arith, f .end, puts-length f)
+
+same-length-2 : tie.Need-same-length-2
+same-length-2 c = search needs
+
+returns-2 : tie.Need-returns-2
+returns-2 c = rw (ne-eqb _ _ (c .before .before .before .before .before .before .before .before .before .if1 .left))
+    (puts-then (c .before .before .before .before .before .before .put .ensures) (c .before .before .put-decimal2 .ensures))
+
+pub put-number-spec : {M : Type 1} → statement M
+put-number-spec =
+    tie.close
+    (tie.spec
+    put-decimal-requires
+    same-length
+    returns
+    slice-aggregate-put
+    put-requires
+    put-decimal-requires-2
+    same-length-2
+    returns-2)

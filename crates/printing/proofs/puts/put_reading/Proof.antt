@@ -1,0 +1,32 @@
+-- The numbers take at most four bytes each, a comma included, since a byte has at most three digits; then CR LF.
+use borrow.Author.Needs.{needs}
+use native.Mathlib.Omega.{arith}
+use Rattle.printing.specs.Lengths.{length-numbers}
+use Rattle.printing.specs.Puts.{puts-then, puts-length}
+use Rattle.printing.proofs.puts.put_reading.Statement.{statement}
+use Rattle.printing.proofs.puts.put_reading.Tie as tie
+
+put-numbers-requires : tie.Need-put-numbers-requires
+put-numbers-requires c κs = let s = c .before .before .before .args .reading .now in
+    omega (arith, length-numbers s (λ k. omega (arith, c .before .shared-slice-known .given k)))
+
+slice-aggregate-put : tie.Need-slice-aggregate-put
+slice-aggregate-put c = search needs
+
+put-requires : tie.Need-put-requires
+put-requires c κs = let s = c .before .before .before .before .before .before .before .before .args .reading .now in
+    let f = c .before .before .before .before .put-numbers .ensures in
+    omega (arith, f .end, puts-length f, length-numbers s (λ k. omega (arith, c .before .before .before .before .before .before .shared-slice-known .given k)))
+
+same-length : tie.Need-same-length
+same-length c = search needs
+
+returns : tie.Need-returns
+returns c = let s = c .before .before .before .before .before .before .before .before .before .before .before .args .reading .now in
+    let f = c .before .before .before .before .before .before .before .put-numbers .ensures in
+    let g = c .before .before .put .ensures in
+    (puts-then f g, omega (arith, f .end, g .end, length-numbers s (λ k. omega (arith, c .before .before .before .before .before .before .before .before .before .shared-slice-known .given k))))
+
+pub put-reading-spec : {M : Type 1} → statement M
+put-reading-spec =
+    tie.close (tie.spec put-numbers-requires slice-aggregate-put put-requires same-length returns)

@@ -1,0 +1,9 @@
+pub mod Printed
+pub mod Decimals
+pub mod Puts
+pub mod Fields
+pub mod Lengths
+pub mod Prints
+pub mod Rooms
+pub mod Results
+pub mod Examples
