@@ -1,10 +1,32 @@
 //! The verdict as one would write it at first: pairs of places in the standard
 //! hash set and a queue. A baseline for times.
 
-use reference::code::Code;
+use reference::code::{Code, Refusal};
+use reference::operations::{Buffers, VerdictLengths, VERDICT_ENTRIES, VERDICT_WORKING};
 use reference::read::{first_two, Readings};
+use reference::table::Table;
 use reference::verdict::Verdict;
 use std::collections::{HashMap, HashSet, VecDeque};
+
+/// The operation with its lent buffers, which it leaves as the proved one does.
+pub fn on_table(table: &Table, buffers: &mut Buffers) -> Result<VerdictLengths, Refusal> {
+    let code = table.code().ok_or(Refusal::NotFromSheet)?;
+    let entries = [&buffers.message, &buffers.first, &buffers.second];
+    if entries.iter().any(|buffer| buffer.len() < VERDICT_ENTRIES) || buffers.working.len() < VERDICT_WORKING {
+        return Err(Refusal::BufferTooShort);
+    }
+    buffers.working.fill(0);
+    Ok(match verdict(&code) {
+        Verdict::Delay(delay) => VerdictLengths::Delay(delay),
+        Verdict::Unbounded => VerdictLengths::Unbounded,
+        Verdict::Ambiguous { message, first, second } => {
+            buffers.message[..message.len()].copy_from_slice(&message);
+            buffers.first[..first.len()].copy_from_slice(&first);
+            buffers.second[..second.len()].copy_from_slice(&second);
+            VerdictLengths::Ambiguous { message: message.len(), first: first.len(), second: second.len() }
+        }
+    })
+}
 
 type Pair = (u8, u8);
 

@@ -1,6 +1,7 @@
 //! The baseline of the benchmarks gives the verdicts of the reference.
 
 use furlazon::plain;
+use reference::operations::{Operations, Reference};
 use reference::random::Random;
 use reference::{generate, verdict};
 
@@ -10,5 +11,18 @@ fn verdicts_agree() {
     for _ in 0..5_000 {
         let code = generate::code(&mut random);
         assert_eq!(plain::verdict(&code), verdict::verdict(&code), "{code:?}");
+    }
+}
+
+#[test]
+fn buffers_agree() {
+    let mut random = Random(2);
+    for _ in 0..2_000 {
+        let code = generate::code(&mut random);
+        let table = generate::damaged_table(&mut random, &code);
+        let mut expected = generate::verdict_buffers(&mut random);
+        let mut actual = expected.clone();
+        assert_eq!(plain::on_table(&table, &mut actual), Reference.verdict(&table, &mut expected));
+        assert_eq!(actual, expected);
     }
 }

@@ -124,6 +124,7 @@ impl Lent {
 
     fn unchanged(&self) -> bool {
         let entries = self.work.iter().chain(&self.answer);
-        self.bytes.iter().flatten().all(|&byte| byte == MARK) && entries.into_iter().all(|&entry| entry == u64::from(MARK))
+        self.bytes.iter().flatten().all(|&byte| byte == MARK)
+            && entries.into_iter().all(|&entry| entry == u64::from(MARK))
     }
 }

@@ -1,7 +1,9 @@
 //! Times the proved library against plain Rust on the same inputs and prints
-//! the ratios: `ratios [SHEETS [SECONDS]]`. Every call is timed by itself, the
-//! two sides in turn; lent buffers are cleared before each call, outside the
-//! time. The median of a side is printed, and the quotient of the two.
+//! the ratios: `ratios [SHEETS [SECONDS]]`. Every call is timed by itself; lent
+//! buffers are cleared before it, outside the time. A run is nine calls of each
+//! side, in turn, and counts with its fastest call, so that a call which the
+//! system interrupts does not count. The medians of the runs are printed, and
+//! their quotient.
 
 use furlazon::{image, plain, ANSWER_ENTRIES, TABLE_BYTES};
 use reference::code::Code;
@@ -166,7 +168,8 @@ impl Bench {
             timer.time(|| furlazon::verdict(black_box(&packed), message, first, second, working, &mut answer));
         };
         let simple = |timer: &mut Timer| {
-            timer.time(|| plain::verdict(&black_box(&table).code().expect("the table of a sheet")));
+            clear(&mut other);
+            timer.time(|| plain::on_table(black_box(&table), &mut other));
         };
         self.row(&format!("verdict, {kind}"), &format!("`{name}`, hash set"), &mut proved, simple);
         let reference = |timer: &mut Timer| {
@@ -180,31 +183,44 @@ impl Bench {
     fn row(&self, operation: &str, input: &str, mut proved: impl FnMut(&mut Timer), mut plain: impl FnMut(&mut Timer)) {
         let (mut ours, mut theirs) = (Timer::default(), Timer::default());
         let start = Instant::now();
-        while start.elapsed() < self.span || ours.times.len() < 25 {
-            proved(&mut ours);
-            plain(&mut theirs);
+        while start.elapsed() < self.span || ours.runs.len() < RUNS {
+            for _ in 0..CALLS {
+                proved(&mut ours);
+                plain(&mut theirs);
+            }
+            ours.end_run();
+            theirs.end_run();
         }
         let (ours, theirs) = (ours.median(), theirs.median());
         println!("| {operation} | {input} | {ours:.2} | {theirs:.2} | {:.2} |", ours / theirs);
     }
 }
 
-/// The times of single calls.
+/// Calls of a run, and the fewest runs of a row.
+const CALLS: usize = 9;
+const RUNS: usize = 15;
+
+/// The times of the calls of a run, and of the runs before.
 #[derive(Default)]
 struct Timer {
-    times: Vec<Duration>,
+    calls: Vec<Duration>,
+    runs: Vec<Duration>,
 }
 
 impl Timer {
     fn time<T>(&mut self, call: impl FnOnce() -> T) {
         let start = Instant::now();
         black_box(call());
-        self.times.push(start.elapsed());
+        self.calls.push(start.elapsed());
     }
 
-    /// The median in microseconds.
+    fn end_run(&mut self) {
+        self.runs.extend(self.calls.drain(..).min());
+    }
+
+    /// The median of the runs in microseconds.
     fn median(mut self) -> f64 {
-        self.times.sort();
-        self.times[self.times.len() / 2].as_secs_f64() * 1e6
+        self.runs.sort();
+        self.runs[self.runs.len() / 2].as_secs_f64() * 1e6
     }
 }
