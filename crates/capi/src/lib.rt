@@ -14,7 +14,6 @@ use code::SheetAnswer;
 use image::Image;
 use image::pack;
 use image::unpack;
-ghost use lib.ListN.{length};
 ghost use Rattle.table.specs.Exactly.{Exactly};
 ghost use Rattle.capi.specs.Calls.{Short, TakesIn, EncodeCall, ReadCall, VerdictCall};
 
@@ -48,8 +47,8 @@ pub extern "C" fn furlazon_take_in(sheet: &[u8], table: &mut [u8]) -> u64
     }
 }
 
-// Encodes a sequence of word numbers. 0: the message stands at the start of `message`, and its length in the first entry of `answer`. Else the
-// refusal's number, and both are as they were.
+// Encodes a sequence of word numbers. 0: the message stands at the start of `message`, and `answer` has its length. Else the refusal's number, and
+// both are as they were.
 #[no_mangle]
 pub extern "C" fn furlazon_encode(
     table: &[u8],
@@ -69,7 +68,7 @@ pub extern "C" fn furlazon_encode(
 }
 
 // Reads a message. 0: the only reading or the first two stand at the start of `first` and `second`; `answer` has 1 or 2, and their lengths. Else the
-// refusal's number. All but 13 for a short `table` or `answer` leave the buffers as reading does.
+// refusal's number, and the buffers are as they were, except that 14 leaves `work` all zero.
 #[no_mangle]
 pub extern "C" fn furlazon_read(
     table: &[u8],

@@ -20,7 +20,7 @@ encode-requires : tie.Need-encode-requires
 encode-requires c κs = search needs
 
 put-encoding-requires : tie.Need-put-encoding-requires
-put-encoding-requires c κs = answer-room (c .before .before .before .before .before .before .before .is-short .ensures) (c .before .before .before .before .before .before .if1 .left)
+put-encoding-requires c κs = search answer-room
 
 same-length : tie.Need-same-length
 same-length c = search needs
@@ -29,10 +29,7 @@ same-length-2 : tie.Need-same-length-2
 same-length-2 c = search needs
 
 returns-2 : tie.Need-returns-2
-returns-2 c =
-    let p = c .before .before .before .before .before .before .before .before .before in
-    encode-answered (p .before .is-short .ensures) (p .if1 .left) (c .before .before .before .before .before .before .before .before .unpack .ensures)
-    (c .before .before .before .before .before .before .encode .ensures) (c .before .before .put-encoding .ensures)
+returns-2 c = search encode-answered
 
 pub furlazon-encode-spec : {M : Type 1} → statement M
 furlazon-encode-spec =

@@ -20,7 +20,7 @@ read-requires : tie.Need-read-requires
 read-requires c κs = search needs
 
 put-reading-requires : tie.Need-put-reading-requires
-put-reading-requires c κs = answer-room (c .before .before .before .before .before .before .before .before .before .before .before .before .before .is-short .ensures) (c .before .before .before .before .before .before .before .before .before .before .before .before .if1 .left)
+put-reading-requires c κs = search answer-room
 
 same-length : tie.Need-same-length
 same-length c = search needs

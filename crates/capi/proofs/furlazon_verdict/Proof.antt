@@ -20,7 +20,7 @@ verdict-requires : tie.Need-verdict-requires
 verdict-requires c κs = search needs
 
 put-judgement-requires : tie.Need-put-judgement-requires
-put-judgement-requires c κs = answer-room (c .before .before .before .before .before .before .before .before .before .before .before .before .before .before .before .before .is-short .ensures) (c .before .before .before .before .before .before .before .before .before .before .before .before .before .before .before .if1 .left)
+put-judgement-requires c κs = search answer-room
 
 same-length : tie.Need-same-length
 same-length c = search needs

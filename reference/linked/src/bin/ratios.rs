@@ -23,8 +23,8 @@ fn main() {
     let sheets = PathBuf::from(arguments.next().unwrap_or_else(|| "sheets".to_string()));
     let seconds = arguments.next().and_then(|text| text.parse().ok()).unwrap_or(0.5);
     let bench = Bench { span: Duration::from_secs_f64(seconds) };
-    println!("| Operation | Input | Proved, µs | Plain, µs | Ratio |");
-    println!("|---|---|---|---|---|");
+    println!("| Operation | Input | Plain Rust | Proved, µs | Plain, µs | Ratio |");
+    println!("|---|---|---|---|---|---|");
     for name in ["turkish-six", "largest-unbounded"] {
         bench.take_in(name, &read_sheet(&sheets, name));
     }
@@ -115,7 +115,7 @@ impl Bench {
             timer.time(|| furlazon::take_in(black_box(sheet), &mut table));
         };
         let plain = |timer: &mut Timer| timer.time(|| Reference.take_in(black_box(sheet)));
-        self.row("take in", &format!("`{name}`, {} bytes", sheet.len()), proved, plain);
+        self.row("take in", &format!("`{name}`, {} bytes", sheet.len()), "reference", proved, plain);
     }
 
     fn encode(&self, name: &str, code: &Code, symbols: usize) {
@@ -132,7 +132,7 @@ impl Bench {
             other.fill(0);
             timer.time(|| Reference.encode(black_box(&table), black_box(&sequence), &mut other));
         };
-        self.row("encode", &format!("`{name}`, {} words", sequence.len()), proved, plain);
+        self.row("encode", &format!("`{name}`, {} words", sequence.len()), "reference", proved, plain);
     }
 
     fn read(&self, name: &str, code: &Code, symbols: usize) {
@@ -152,7 +152,7 @@ impl Bench {
             clear(&mut other);
             timer.time(|| Reference.read(black_box(&table), black_box(&message), &mut other));
         };
-        self.row("read", &format!("`{name}`, {} symbols", message.len()), proved, plain);
+        self.row("read", &format!("`{name}`, {} symbols", message.len()), "reference", proved, plain);
     }
 
     fn verdict(&self, kind: &str, name: &str, code: &Code) {
@@ -171,16 +171,23 @@ impl Bench {
             clear(&mut other);
             timer.time(|| plain::on_table(black_box(&table), &mut other));
         };
-        self.row(&format!("verdict, {kind}"), &format!("`{name}`, hash set"), &mut proved, simple);
+        self.row(&format!("verdict, {kind}"), &format!("`{name}`"), "hash set", &mut proved, simple);
         let reference = |timer: &mut Timer| {
             clear(&mut other);
             timer.time(|| Reference.verdict(black_box(&table), &mut other));
         };
-        self.row(&format!("verdict, {kind}"), &format!("`{name}`, reference"), &mut proved, reference);
+        self.row(&format!("verdict, {kind}"), &format!("`{name}`"), "reference", &mut proved, reference);
     }
 
     /// Times both sides in turn and prints a row.
-    fn row(&self, operation: &str, input: &str, mut proved: impl FnMut(&mut Timer), mut plain: impl FnMut(&mut Timer)) {
+    fn row(
+        &self,
+        operation: &str,
+        input: &str,
+        side: &str,
+        mut proved: impl FnMut(&mut Timer),
+        mut plain: impl FnMut(&mut Timer),
+    ) {
         let (mut ours, mut theirs) = (Timer::default(), Timer::default());
         let start = Instant::now();
         while start.elapsed() < self.span || ours.runs.len() < RUNS {
@@ -192,7 +199,7 @@ impl Bench {
             theirs.end_run();
         }
         let (ours, theirs) = (ours.median(), theirs.median());
-        println!("| {operation} | {input} | {ours:.2} | {theirs:.2} | {:.2} |", ours / theirs);
+        println!("| {operation} | {input} | {side} | {ours:.2} | {theirs:.2} | {:.2} |", ours / theirs);
     }
 }
 
