@@ -10,10 +10,10 @@ shortest-requires : tie.Need-shortest-requires
 shortest-requires c κs = (search needs, search needs, clear-zeros, search needs, search needs)
 
 slice-reshare-prefix-ambiguous : tie.Need-slice-reshare-prefix-ambiguous
-slice-reshare-prefix-ambiguous c = search found-inside
+slice-reshare-prefix-ambiguous c = search (needs, found-inside)
 
 slice-aggregate-ambiguous : tie.Need-slice-aggregate-ambiguous
-slice-aggregate-ambiguous c = search found-long
+slice-aggregate-ambiguous c = search (needs, found-long)
 
 ambiguous-requires : tie.Need-ambiguous-requires
 ambiguous-requires c κs = (search needs, search found-two, search found-few, search needs, search needs, search needs)
