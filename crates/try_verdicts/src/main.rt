@@ -1,0 +1,112 @@
+// Gives the verdict on the sheet in each file that it is given: with buffers as long as need be, and with longer ones. Then tries buffers that are one
+// entry short, and tables that no accepted sheet gives. Of each trial it writes the lengths of the lent buffers, the printed result, and what the
+// buffers then hold. Lines end with CR LF, as those of a printed result do.
+
+mod buffers;
+mod trials;
+
+use code::Code;
+use libc::STDOUT_FILENO;
+use trials::Lent;
+use trials::try_table;
+
+// What a verdict needs, and more than that.
+const NEEDED: Lent = Lent {
+    message: 8256,
+    first: 8256,
+    second: 8256,
+    work: 16384,
+};
+
+const LONGER: Lent = Lent {
+    message: 8300,
+    first: 8301,
+    second: 8302,
+    work: 16400,
+};
+
+fn from_sheet(sheet: &[u8]) -> Code {
+    let taken = sheet::take_in(sheet);
+    taken.code
+}
+
+fn try_sheet(sheet: &[u8]) {
+    let code = from_sheet(sheet);
+    try_table(code, NEEDED);
+    try_table(code, LONGER);
+}
+
+fn write_name(name: &[u8]) {
+    io::write_all(STDOUT_FILENO, name);
+    io::write_all(STDOUT_FILENO, b"\r\n");
+}
+
+fn try_file(path: &[u8]) {
+    write_name(path);
+    let file = os::open_read(path);
+    if file < 0 {
+        os::fail(path);
+        return;
+    }
+    // one byte more than a sheet may have
+    let mut bytes = [0u8; 4097];
+    let n = io::read_full(file, &mut bytes);
+    libc::close(file);
+    try_sheet(&bytes[..n]);
+}
+
+// Each buffer one entry short.
+fn try_short(code: Code) {
+    let mut lent = NEEDED;
+    lent.message = 8255;
+    try_table(code, lent);
+    lent = NEEDED;
+    lent.first = 8255;
+    try_table(code, lent);
+    lent = NEEDED;
+    lent.second = 8255;
+    try_table(code, lent);
+    lent = NEEDED;
+    lent.work = 16383;
+    try_table(code, lent);
+}
+
+// No sheet gives a table with another count of words; this is refused before short buffers are.
+fn try_count(mut code: Code, count: usize) {
+    code.count = count;
+    try_table(code, LONGER);
+    let none = Lent {
+        message: 0,
+        first: 0,
+        second: 0,
+        work: 0,
+    };
+    try_table(code, none);
+}
+
+fn try_refusals() {
+    let t = from_sheet(b"0,1,1,1,1\r\n10,1,1,1,1\r\n01,1,1,1,1\r\n101,1,1,1,1\r\n");
+    let u = from_sheet(b"0,1,1,0,0\r\n10,1,1,1,1\r\n01,1,1,0,0\r\n101,1,1,1,1\r\n");
+    write_name(b"short for code T");
+    try_short(t);
+    write_name(b"short for code U");
+    try_short(u);
+    write_name(b"code T with count 0");
+    try_count(t, 0);
+    write_name(b"code T with count 3");
+    try_count(t, 3);
+    write_name(b"code U with count 33");
+    try_count(u, 33);
+}
+
+fn main() {
+    let count = os::arg_count();
+    let mut i: usize = 1;
+    while i < count {
+        let mut name = io::buffer();
+        let n = os::arg(i, &mut name);
+        try_file(&name[..n]);
+        i += 1;
+    }
+    try_refusals();
+}
