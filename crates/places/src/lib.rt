@@ -89,6 +89,14 @@ fn first_place(places: &[u8], x: usize) -> usize
     entry(places, Layout::FIRST + x)
 }
 
+// The first symbol of word `x`.
+pub fn first_symbol(places: &[u8], x: usize) -> usize
+    requires { ⌜ Laid (now places) × (x < 32) ⌝ }
+    ensures { λ r. ⌜ r ≡ symbolAt (now (places .entry)) (firstAt (now (places .entry)) x) ⌝ }
+{
+    symbol(places, first_place(places, x))
+}
+
 // Whether word `x` may come immediately after word `y`.
 fn may_follow(places: &[u8], x: usize, y: usize) -> bool
     requires { ⌜ Laid (now places) × (x < 32) × (y < 32) ⌝ }

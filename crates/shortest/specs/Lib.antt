@@ -13,6 +13,7 @@ pub mod Push
 pub mod Queue
 pub mod Room
 pub mod Runs
+pub mod Skips
 pub mod Slots
 pub mod Spelling
 pub mod Steps

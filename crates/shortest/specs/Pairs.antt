@@ -75,6 +75,11 @@ module _ (f : List ℕ) where
   unfolding width
   width-source v t l = simp (le-ltb _ _ l)
 
+-- The symbol of an arrival is that of either place.
+pub arrival-symbol : {f : List ℕ} {p q w : ℕ} → NodeOf f p q w → Dec (p ≤ q) → (symbolAt f p ≡ symbolAt f (w % 128)) × (symbolAt f q ≡ symbolAt f (w % 128))
+arrival-symbol {f} {p} {q} {w} m (yes l) = let e : w % 128 ≡ q = node-high m ∙ omega arith in rw e (m .same, refl)
+arrival-symbol {f} {p} {q} {w} m (no l) = let e : w % 128 ≡ p = node-high m ∙ omega arith in rw e (refl, sym (m .same))
+
 module _ {f : List ℕ} (laid : Laid f) (n : Numbered f) where
   -- A slot of a node that leads to a node is an edge.
   sound-node : (v j : ℕ) → v < 16384 → arcFrom f (v / 128) (v % 128) j < 16384 → Dec (j < slotsOf f (v / 128) (v % 128))
@@ -113,11 +118,6 @@ module _ {f : List ℕ} (laid : Laid f) (n : Numbered f) where
             ∙ first-words f (s .x * 32 + s .y) (rw (a, b) o) (rw b k)
             ∙ rw (a, b) (s .node);
       }
-
-  -- The symbol of an arrival is that of either place.
-  arrival-symbol : {p q w : ℕ} → NodeOf f p q w → Dec (p ≤ q) → (symbolAt f p ≡ symbolAt f (w % 128)) × (symbolAt f q ≡ symbolAt f (w % 128))
-  arrival-symbol {p} {q} {w} m (yes l) = let e : w % 128 ≡ q = node-high m ∙ omega arith in rw e (m .same, refl)
-  arrival-symbol {p} {q} {w} m (no l) = let e : w % 128 ≡ p = node-high m ∙ omega arith in rw e (refl, sym (m .same))
 
   -- Two ends have no slot.
   ends-none : (p q : ℕ) → endAt f p ≡ true → endAt f q ≡ true → slotsOf f p q ≡ 0

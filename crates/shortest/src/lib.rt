@@ -21,6 +21,7 @@ ghost use Rattle.shortest.specs.Spelling.{Spelled, Stored};
 ghost use Rattle.shortest.specs.Depth.{HasDepth, Depth};
 ghost use Rattle.shortest.specs.Entries.{entryOf, nodeOf, fromOf};
 ghost use Rattle.shortest.specs.Pairs.{firstFrom, toward, innerOf, width};
+ghost use Rattle.shortest.specs.Skips.{Skips};
 ghost use Rattle.shortest.specs.Symbols.{NotLed, NoneLed};
 
 // The length of the message, or that there is none.
@@ -159,6 +160,24 @@ fn width(places: &[u8], pair: Pair, symbol: usize) -> usize
     0
 }
 
+// The slot from which to go on by a symbol, `slot` or a later one: the source passes over a word that begins with another symbol.
+fn skip(places: &[u8], pair: Pair, symbol: usize, slot: usize) -> usize
+    requires { ⌜ Laid (now places) ⌝ }
+    ensures { λ r. ⌜ Skips (now (places .entry)) (pair .low * 128 + pair .high) symbol slot r ⌝ }
+{
+    if pair.low < Layout::PLACES {
+        return slot;
+    }
+    let word = slot >> 5;
+    if places::word_count(places) <= word {
+        return slot;
+    }
+    if places::first_symbol(places, word) == symbol {
+        return slot;
+    }
+    (word + 1) << 5
+}
+
 // Whether both places of a pair are ends.
 fn two_ends(places: &[u8], pair: Pair) -> bool
     requires { ⌜ Laid (now places) × (pair .low < 128) × (pair .high < 128) ⌝ }
@@ -238,15 +257,16 @@ fn expand_member(
     ensures { λ r. ⌜ Progressed (now (places .entry)) (now (marks .exit)) (now (queue .exit))
         (group .start) (group .end) symbol (member + 1) 0 r ⌝ }
 {
-    let end = width(places, pair_of(queue[member]), symbol);
-    let mut slot: usize = 0;
+    let pair = pair_of(queue[member]);
+    let end = width(places, pair, symbol);
+    let mut slot = skip(places, pair, symbol, 0);
     let mut tail = tail;
     while slot < end {
         match step(places, marks, queue, group, symbol, member, slot, tail) {
             Progress::Goal(x) => return Progress::Goal(x),
             Progress::Tail(e) => tail = e,
         }
-        slot += 1;
+        slot = skip(places, pair, symbol, slot + 1);
     }
     Progress::Tail(tail)
 }
