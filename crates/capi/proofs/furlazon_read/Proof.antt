@@ -4,35 +4,14 @@ use borrow.Author.Needs.{needs}
 use Rattle.capi.proofs.furlazon_read.Statement.{statement}
 use Rattle.capi.proofs.furlazon_read.Tie as tie
 
-is-short-requires : tie.Need-is-short-requires
-is-short-requires c κs = search needs
-
-number-requires : tie.Need-number-requires
-number-requires c κs = search needs
-
 returns : tie.Need-returns
 returns c = search read-short
 
 unpack-requires : tie.Need-unpack-requires
 unpack-requires c κs = search image-room
 
-read-requires : tie.Need-read-requires
-read-requires c κs = search needs
-
 put-reading-requires : tie.Need-put-reading-requires
 put-reading-requires c κs = search answer-room
-
-same-length : tie.Need-same-length
-same-length c = search needs
-
-same-length-2 : tie.Need-same-length-2
-same-length-2 c = search needs
-
-same-length-3 : tie.Need-same-length-3
-same-length-3 c = search needs
-
-same-length-4 : tie.Need-same-length-4
-same-length-4 c = search needs
 
 returns-2 : tie.Need-returns-2
 returns-2 c = search read-answered
@@ -41,14 +20,14 @@ pub furlazon-read-spec : {M : Type 1} → statement M
 furlazon-read-spec =
     tie.close
     (tie.spec
-    is-short-requires
-    number-requires
+    (λ c κs. search needs)
+    (λ c κs. search needs)
     returns
     unpack-requires
-    read-requires
+    (λ c κs. search needs)
     put-reading-requires
-    same-length
-    same-length-2
-    same-length-3
-    same-length-4
+    (λ c. search needs)
+    (λ c. search needs)
+    (λ c. search needs)
+    (λ c. search needs)
     returns-2)

@@ -4,31 +4,13 @@ use borrow.Author.Needs.{needs}
 use Rattle.capi.proofs.furlazon_take_in.Statement.{statement}
 use Rattle.capi.proofs.furlazon_take_in.Tie as tie
 
-number-requires : tie.Need-number-requires
-number-requires c κs = search needs
-
 returns : tie.Need-returns
 returns c = sheet-short _ _ _ (c .before .if1 .taken) (c .number .ensures)
-
-take-in-requires : tie.Need-take-in-requires
-take-in-requires c κs = search needs
-
-enum-told : tie.Need-enum-told
-enum-told c = search needs
 
 pack-requires : tie.Need-pack-requires
 pack-requires c κs =
     let t = c .before .before .before .before .take-in in
     (accepted-well _ (c .before .before .before .before .before .before .before .before .args .table .now) (t .result) (t .ensures) (c .before .before .enum-told .given .1), search needs)
-
-enum-known-answer : tie.Need-enum-known-answer
-enum-known-answer c = search needs
-
-number-requires-2 : tie.Need-number-requires-2
-number-requires-2 c κs = search needs
-
-same-length : tie.Need-same-length
-same-length c = search needs
 
 returns-2 : tie.Need-returns-2
 returns-2 c =
@@ -45,13 +27,13 @@ pub furlazon-take-in-spec : {M : Type 1} → statement M
 furlazon-take-in-spec =
     tie.close
     (tie.spec
-    number-requires
+    (λ c κs. search needs)
     returns
-    take-in-requires
-    enum-told
+    (λ c κs. search needs)
+    (λ c. search needs)
     pack-requires
-    enum-known-answer
-    number-requires-2
-    same-length
+    (λ c. search needs)
+    (λ c κs. search needs)
+    (λ c. search needs)
     returns-2
     returns-3)

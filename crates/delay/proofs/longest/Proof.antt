@@ -20,9 +20,6 @@ abbrev μ-loop : tie.MeasureT-loop
 loop-holds : tie.Need-loop-holds Inv-loop μ-loop
 loop-holds c = (search counting-none, search needs, search needs, search needs)
 
-row-requires : tie.Need-row-requires Inv-loop μ-loop
-row-requires c κs = search needs
-
 returns : tie.Need-returns Inv-loop μ-loop
 returns c = search was-unbounded
 
@@ -39,5 +36,5 @@ pub longest-spec : {M : Type 1} → statement M
 longest-spec =
     tie.close
     (tie.spec
-    Inv-loop μ-loop (λ c κs. search needs) loop-holds row-requires (λ c. search needs) (λ c. search needs)
+    Inv-loop μ-loop (λ c κs. search needs) loop-holds (λ c κs. search needs) (λ c. search needs) (λ c. search needs)
     (λ c. cc) (λ c. cc) returns (λ c. search needs) loop-less loop-again (λ c. cc) (λ c. cc) returns-2)

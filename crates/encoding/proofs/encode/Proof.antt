@@ -6,9 +6,6 @@ use Rattle.encoding.specs.Ways.{way-8, sheet-well, way-9, all-known, way
 use Rattle.encoding.proofs.encode.Statement.{statement}
 use Rattle.encoding.proofs.encode.Tie as tie
 
-well-formed-requires : tie.Need-well-formed-requires
-well-formed-requires c κs = search needs
-
 returns : tie.Need-returns
 returns c = search (way-8 limits)
 
@@ -36,9 +33,6 @@ returns-5 c = search (way-13 limits)
 write-message-requires : tie.Need-write-message-requires
 write-message-requires c κs = (search (all-known limits), omega arith)
 
-same-length : tie.Need-same-length
-same-length c = search needs
-
 returns-6 : tie.Need-returns-6
 returns-6 c = search (way-encoded limits)
 
@@ -46,7 +40,7 @@ pub encode-spec : {M : Type 1} → statement M
 encode-spec =
     tie.close
     (tie.spec
-    well-formed-requires
+    (λ c κs. search needs)
     returns
     has-unknown-requires
     returns-2
@@ -56,5 +50,5 @@ encode-spec =
     returns-4
     returns-5
     write-message-requires
-    same-length
+    (λ c. search needs)
     returns-6)

@@ -19,22 +19,10 @@ abbrev μ-loop : tie.MeasureT-loop
 loop-holds : tie.Need-loop-holds Inv-loop μ-loop
 loop-holds c = (omega arith, below-none _)
 
-add-loop : tie.Need-add-loop Inv-loop μ-loop
-add-loop c = search needs
-
-shared-slice-read-y : tie.Need-shared-slice-read-y Inv-loop μ-loop
-shared-slice-read-y c = search needs
-
 cast-y : tie.Need-cast-y Inv-loop μ-loop
 cast-y c =
     let pair = known-pair limits (c .before .before .before .pre) (c .before .before .loop .i) (omega arith) in
     omega arith
-
-add-x : tie.Need-add-x Inv-loop μ-loop
-add-x c = search needs
-
-shared-slice-read-x : tie.Need-shared-slice-read-x Inv-loop μ-loop
-shared-slice-read-x c = search needs
 
 cast-x : tie.Need-cast-x Inv-loop μ-loop
 cast-x c =
@@ -61,12 +49,6 @@ returns c =
     let loop = c .before .before .before .before .before .before .loop in
     forbidden-here limits (c .before .before .before .before .before .before .before .pre) (loop .i) (omega arith) (c .if1 .taken)
 
-add-i : tie.Need-add-i Inv-loop μ-loop
-add-i c = search needs
-
-loop-less : tie.Need-loop-less Inv-loop μ-loop
-loop-less c = search needs
-
 loop-again : tie.Need-loop-again Inv-loop μ-loop
 loop-again c = (search needs, below-more _ _ (c .before .before .before .before .before .before .loop .inv .1) (c .if1 .left))
 
@@ -80,17 +62,17 @@ has-forbidden-spec =
     Inv-loop
     μ-loop
     loop-holds
-    add-loop
-    shared-slice-read-y
+    (λ c. search needs)
+    (λ c. search needs)
     cast-y
-    add-x
-    shared-slice-read-x
+    (λ c. search needs)
+    (λ c. search needs)
     cast-x
     mul-row
     element-copy-out-row
     element-copy-out-if1
     returns
-    add-i
-    loop-less
+    (λ c. search needs)
+    (λ c. search needs)
     loop-again
     returns-2)

@@ -15,12 +15,6 @@ Inv-loop words code sum₀ i₀ sum i = (i ≤ length words) × (sum ≡ length 
 abbrev μ-loop : tie.MeasureT-loop
 μ-loop words code sum₀ i₀ sum i = length words - i
 
-loop-holds : tie.Need-loop-holds Inv-loop μ-loop
-loop-holds c = search needs
-
-shared-slice-read-w : tie.Need-shared-slice-read-w Inv-loop μ-loop
-shared-slice-read-w c = search needs
-
 cast-w : tie.Need-cast-w Inv-loop μ-loop
 cast-w c = omega (arith, c .shared-slice-known .given (c .before .before .loop .i))
 
@@ -33,17 +27,8 @@ element-copy-out-w c = search (known-number limits)
 add-sum : tie.Need-add-sum Inv-loop μ-loop
 add-sum c = omega (arith, known-short limits (c .before .before .before .before .before .pre) (c .before .before .before .before .loop .i) (search needs))
 
-add-result : tie.Need-add-result Inv-loop μ-loop
-add-result c = search needs
-
 returns : tie.Need-returns Inv-loop μ-loop
 returns c = search (length-over limits)
-
-add-i : tie.Need-add-i Inv-loop μ-loop
-add-i c = search needs
-
-loop-less : tie.Need-loop-less Inv-loop μ-loop
-loop-less c = search needs
 
 loop-again : tie.Need-loop-again Inv-loop μ-loop
 loop-again c = (search needs, search (length-more limits), search needs)
@@ -57,15 +42,15 @@ message-len-spec =
     (tie.spec
     Inv-loop
     μ-loop
-    loop-holds
-    shared-slice-read-w
+    (λ c. search needs)
+    (λ c. search needs)
     cast-w
     mul-w
     element-copy-out-w
     add-sum
-    add-result
+    (λ c. search needs)
     returns
-    add-i
-    loop-less
+    (λ c. search needs)
+    (λ c. search needs)
     loop-again
     returns-2)

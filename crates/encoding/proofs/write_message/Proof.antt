@@ -18,12 +18,6 @@ Inv-loop words message₀ code at₀ i₀ message at i =
 abbrev μ-loop : tie.MeasureT-loop
 μ-loop words message₀ code at₀ i₀ message at i = length words - i
 
-loop-holds : tie.Need-loop-holds Inv-loop μ-loop
-loop-holds c = search needs
-
-shared-slice-read-w : tie.Need-shared-slice-read-w Inv-loop μ-loop
-shared-slice-read-w c = search needs
-
 cast-w : tie.Need-cast-w Inv-loop μ-loop
 cast-w c = omega (arith, c .shared-slice-known2 .given (c .before .before .loop .i))
 
@@ -39,12 +33,6 @@ write-word-requires c κs =
     let pre = c .before .before .before .before .before .before .before .pre in
     (search (known-short limits), write-room limits (pre .0) (l .i) (l .at) _ (search needs) (l .inv .1) (omega arith))
 
-add-i : tie.Need-add-i Inv-loop μ-loop
-add-i c = search needs
-
-loop-less : tie.Need-loop-less Inv-loop μ-loop
-loop-less c = search needs
-
 loop-again : tie.Need-loop-again Inv-loop μ-loop
 loop-again c =
     let l = c .before .before .before .before .before .before .before .loop in
@@ -53,9 +41,6 @@ loop-again c =
     let within : l .i < length (c .before .before .before .before .before .before .before .before .before .before .args .words .now) = omega arith in
     let length-next = w .ensures .0 ∙ length-more limits (pre .0) (l .i) (l .at) within (l .inv .1) in
     (omega arith, length-next, omega arith, write-more limits (pre .0) (l .i) (l .at) _ (l .message) _ within (l .inv .1) (l .inv .3) (w .ensures .1))
-
-same-length : tie.Need-same-length Inv-loop μ-loop
-same-length c = search needs
 
 returns : tie.Need-returns Inv-loop μ-loop
 returns c = search (write-whole limits)
@@ -66,14 +51,14 @@ write-message-spec =
     (tie.spec
     Inv-loop
     μ-loop
-    loop-holds
-    shared-slice-read-w
+    (λ c. search needs)
+    (λ c. search needs)
     cast-w
     mul-w
     element-copy-out-w
     write-word-requires
-    add-i
-    loop-less
+    (λ c. search needs)
+    (λ c. search needs)
     loop-again
-    same-length
+    (λ c. search needs)
     returns)

@@ -19,21 +19,6 @@ abbrev μ-loop : tie.MeasureT-loop
 loop-holds : tie.Need-loop-holds Inv-loop μ-loop
 loop-holds c = (search needs, search needs, paste-zero (c .args .message .now) (c .args .at) (c .args .t1 .symbols))
 
-element-copy-out-message : tie.Need-element-copy-out-message Inv-loop μ-loop
-element-copy-out-message c = search needs
-
-add-message : tie.Need-add-message Inv-loop μ-loop
-add-message c = search needs
-
-slice-write-message : tie.Need-slice-write-message Inv-loop μ-loop
-slice-write-message c = search needs
-
-add-k : tie.Need-add-k Inv-loop μ-loop
-add-k c = search needs
-
-loop-less : tie.Need-loop-less Inv-loop μ-loop
-loop-less c = search needs
-
 loop-again : tie.Need-loop-again Inv-loop μ-loop
 loop-again c =
     let l = c .before .before .loop in
@@ -41,12 +26,6 @@ loop-again c =
     let long : length (args .t1 .symbols) ≡ limits .symbols = search needs in
     let stored = paste-suc (args .message .now) (args .at) (args .t1 .symbols) (l .k) 0 (omega arith) (omega arith) in
     (search needs, simp length-set (l .inv .1), rw (l .inv .2, add-one) stored)
-
-add-result : tie.Need-add-result Inv-loop μ-loop
-add-result c = search needs
-
-same-length : tie.Need-same-length Inv-loop μ-loop
-same-length c = search needs
 
 returns : tie.Need-returns Inv-loop μ-loop
 returns c =
@@ -61,12 +40,12 @@ write-word-spec =
     Inv-loop
     μ-loop
     loop-holds
-    element-copy-out-message
-    add-message
-    slice-write-message
-    add-k
-    loop-less
+    (λ c. search needs)
+    (λ c. search needs)
+    (λ c. search needs)
+    (λ c. search needs)
+    (λ c. search needs)
     loop-again
-    add-result
-    same-length
+    (λ c. search needs)
+    (λ c. search needs)
     returns)

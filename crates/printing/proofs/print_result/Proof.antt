@@ -5,14 +5,8 @@ use borrow.Author.Needs.{needs}
 use Rattle.printing.proofs.print_result.Statement.{statement}
 use Rattle.printing.proofs.print_result.Tie as tie
 
-printable-requires : tie.Need-printable-requires
-printable-requires c κs = search needs
-
 put-result-requires : tie.Need-put-result-requires
 put-result-requires c κs = c .before .before .printable .ensures .yes (c .before .if1 .taken)
-
-same-length : tie.Need-same-length
-same-length c = search needs
 
 returns : tie.Need-returns
 returns c = all (c .before .before .before .before .before .printable .ensures .yes (c .before .before .before .before .if1 .taken)) (c .before .before .put-result .ensures .count) (c .before .before .put-result .ensures .out)
@@ -22,4 +16,4 @@ returns-2 c = none (c .before .printable .ensures .no (c .if1 .left)) refl
 
 pub print-result-spec : {M : Type 1} → statement M
 print-result-spec =
-    tie.close (tie.spec printable-requires put-result-requires same-length returns returns-2)
+    tie.close (tie.spec (λ c κs. search needs) put-result-requires (λ c. search needs) returns returns-2)

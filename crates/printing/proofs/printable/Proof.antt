@@ -8,9 +8,6 @@ use borrow.Author.Needs.{needs}
 use Rattle.printing.proofs.printable.Statement.{statement}
 use Rattle.printing.proofs.printable.Tie as tie
 
-shown-requires : tie.Need-shown-requires
-shown-requires c κs = search needs
-
 returns : tie.Need-returns
 returns c = exactly-false (λ p. omega (arith, same-lengths (c .before .shown .ensures)))
 
@@ -23,12 +20,6 @@ returns-3 c = exactly-false (λ p. omega (arith, same-lengths (c .before .before
 slice-aggregate-all-symbols : tie.Need-slice-aggregate-all-symbols
 slice-aggregate-all-symbols c = sym (length-take-le _ _ (omega arith))
 
-all-symbols-requires : tie.Need-all-symbols-requires
-all-symbols-requires c κs = search needs
-
-fit-requires : tie.Need-fit-requires
-fit-requires c κs = search needs
-
 returns-4 : tie.Need-returns-4
 returns-4 c = let n = c .before .before .before .before .before .before .before .before .before .shown in
     room-left _ _ _ _ _ (n .result) (n .ensures) (omega arith) (omega arith) (omega arith) (c .before .before .all-symbols .ensures .yes (c .before .if4 .taken)) (c .fit .ensures)
@@ -40,12 +31,12 @@ pub printable-spec : {M : Type 1} → statement M
 printable-spec =
     tie.close
     (tie.spec
-    shown-requires
+    (λ c κs. search needs)
     returns
     returns-2
     returns-3
     slice-aggregate-all-symbols
-    all-symbols-requires
-    fit-requires
+    (λ c κs. search needs)
+    (λ c κs. search needs)
     returns-4
     returns-5)

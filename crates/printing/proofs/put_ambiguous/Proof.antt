@@ -24,9 +24,6 @@ slice-aggregate-put-reading-2 c = sym (length-take-le _ _ (c .before .before .be
 put-reading-requires-2 : tie.Need-put-reading-requires-2
 put-reading-requires-2 c κs = search second-room
 
-same-length : tie.Need-same-length
-same-length c = search needs
-
 returns : tie.Need-returns
 returns c = search ambiguous-put
 
@@ -40,5 +37,5 @@ put-ambiguous-spec =
     put-reading-requires
     slice-aggregate-put-reading-2
     put-reading-requires-2
-    same-length
+    (λ c. search needs)
     returns)

@@ -3,11 +3,8 @@ use borrow.Author.Needs.{needs}
 use Rattle.sheet.proofs.refuse.Statement.{statement}
 use Rattle.sheet.proofs.refuse.Tie as tie
 
-blank-code-requires : tie.Need-blank-code-requires
-blank-code-requires c κs = search needs
-
 returns : tie.Need-returns
 returns c = rw (c .blank-code .ensures)
 
 pub refuse-spec : {M : Type 1} → statement M
-refuse-spec = tie.close (tie.spec blank-code-requires returns)
+refuse-spec = tie.close (tie.spec (λ c κs. search needs) returns)

@@ -5,21 +5,6 @@ use borrow.Author.Needs.{needs}
 use Rattle.sheet.proofs.take_body.Statement.{statement}
 use Rattle.sheet.proofs.take_body.Tie as tie
 
-survey-all-requires : tie.Need-survey-all-requires
-survey-all-requires c κs = search needs
-
-judge-requires : tie.Need-judge-requires
-judge-requires c κs = search needs
-
-enum-known-answer : tie.Need-enum-known-answer
-enum-known-answer c = search needs
-
-refuse-requires : tie.Need-refuse-requires
-refuse-requires c κs = search needs
-
-enum-told : tie.Need-enum-told
-enum-told c = search needs
-
 build-requires : tie.Need-build-requires
 build-requires c κs = let v = c .before .before .before .survey-all .ensures .0 in let p = c .before .before .before .before .before .pre in
     (p .0, p .1, fits-accepted _ _ v (sym (c .before .before .judge .ensures) ∙ c .enum-told .given .1), count-accepted _ _ v)
@@ -34,11 +19,11 @@ pub take-body-spec : {M : Type 1} → statement M
 take-body-spec =
     tie.close
     (tie.spec
-    survey-all-requires
-    judge-requires
-    enum-known-answer
-    refuse-requires
-    enum-told
+    (λ c κs. search needs)
+    (λ c κs. search needs)
+    (λ c. search needs)
+    (λ c κs. search needs)
+    (λ c. search needs)
     build-requires
     returns
     returns-2)

@@ -8,30 +8,15 @@ use borrow.Author.Needs.{needs}
 use Rattle.sheet.proofs.take_in.Statement.{statement}
 use Rattle.sheet.proofs.take_in.Tie as tie
 
-refuse-requires : tie.Need-refuse-requires
-refuse-requires c κs = search needs
-
 returns : tie.Need-returns
 returns c = c .refuse .ensures ∙ way-empty _ (c .before .if1 .taken)
-
-refuse-requires-2 : tie.Need-refuse-requires-2
-refuse-requires-2 c κs = search needs
 
 returns-2 : tie.Need-returns-2
 returns-2 c = c .refuse2 .ensures ∙ way-long _ (c .before .if2 .taken)
 
-bad-bytes-requires : tie.Need-bad-bytes-requires
-bad-bytes-requires c κs = search needs
-
-refuse-requires-3 : tie.Need-refuse-requires-3
-refuse-requires-3 c κs = search needs
-
 returns-3 : tie.Need-returns-3
 returns-3 c = c .refuse3 .ensures
     ∙ way-bytes _ (c .before .before .before .before .if1 .left) (c .before .before .before .if2 .left) (sym (c .before .before .bad-bytes .ensures) ∙ c .before .if3 .taken)
-
-body-len-requires : tie.Need-body-len-requires
-body-len-requires c κs = search needs
 
 slice-aggregate-take-body : tie.Need-slice-aggregate-take-body
 slice-aggregate-take-body c = let s = c .before .before .before .before .before .before .before .args .sheet .now in
@@ -53,14 +38,14 @@ pub take-in-spec : {M : Type 1} → statement M
 take-in-spec =
     tie.close
     (tie.spec
-    refuse-requires
+    (λ c κs. search needs)
     returns
-    refuse-requires-2
+    (λ c κs. search needs)
     returns-2
-    bad-bytes-requires
-    refuse-requires-3
+    (λ c κs. search needs)
+    (λ c κs. search needs)
     returns-3
-    body-len-requires
+    (λ c κs. search needs)
     slice-aggregate-take-body
     take-body-requires
     returns-4)

@@ -14,15 +14,6 @@ abbrev μ-loop : tie.MeasureT-loop
 loop-holds : tie.Need-loop-holds Inv-loop μ-loop
 loop-holds c = search count-begin
 
-mul-from-of : tie.Need-mul-from-of Inv-loop μ-loop
-mul-from-of c = search needs
-
-shared-slice-read-from-of : tie.Need-shared-slice-read-from-of Inv-loop μ-loop
-shared-slice-read-from-of c = search needs
-
-from-of-requires : tie.Need-from-of-requires Inv-loop μ-loop
-from-of-requires c κs = search needs
-
 sub-index : tie.Need-sub-index Inv-loop μ-loop
 sub-index c = search count-some
 
@@ -45,9 +36,9 @@ depth-spec =
     Inv-loop
     μ-loop
     loop-holds
-    mul-from-of
-    shared-slice-read-from-of
-    from-of-requires
+    (λ c. search needs)
+    (λ c. search needs)
+    (λ c κs. search needs)
     sub-index
     add-count
     loop-less

@@ -27,44 +27,11 @@ next-symbol-requires c κs = (search needs, search group-within, search needs)
 loop-holds : tie.Need-loop-holds Inv-loop μ-loop
 loop-holds c = (search symbols-passed, search needs, search group-within, search needs, search needs)
 
-cast-loop : tie.Need-cast-loop Inv-loop μ-loop
-cast-loop c = search needs
-
-expand-symbol-requires : tie.Need-expand-symbol-requires Inv-loop μ-loop
-expand-symbol-requires c κs = search needs
-
-enum-known-x : tie.Need-enum-known-x Inv-loop μ-loop
-enum-known-x c = search needs
-
-same-length : tie.Need-same-length Inv-loop μ-loop
-same-length c = cc
-
-same-length-2 : tie.Need-same-length-2 Inv-loop μ-loop
-same-length-2 c = cc
-
 returns : tie.Need-returns Inv-loop μ-loop
 returns c = search goal-again
 
-enum-known-e : tie.Need-enum-known-e Inv-loop μ-loop
-enum-known-e c = search needs
-
-add-next-symbol : tie.Need-add-next-symbol Inv-loop μ-loop
-add-next-symbol c = search needs
-
-next-symbol-requires-2 : tie.Need-next-symbol-requires-2 Inv-loop μ-loop
-next-symbol-requires-2 c κs = search needs
-
-loop-less : tie.Need-loop-less Inv-loop μ-loop
-loop-less c = search needs
-
 loop-again : tie.Need-loop-again Inv-loop μ-loop
 loop-again c = (search symbol-next, search needs, search needs, (cc), (cc))
-
-same-length-3 : tie.Need-same-length-3 Inv-loop μ-loop
-same-length-3 c = cc
-
-same-length-4 : tie.Need-same-length-4 Inv-loop μ-loop
-same-length-4 c = cc
 
 returns-2 : tie.Need-returns-2 Inv-loop μ-loop
 returns-2 c = search group-done
@@ -77,17 +44,17 @@ expand-group-spec =
     μ-loop
     next-symbol-requires
     loop-holds
-    cast-loop
-    expand-symbol-requires
-    enum-known-x
-    same-length
-    same-length-2
+    (λ c. search needs)
+    (λ c κs. search needs)
+    (λ c. search needs)
+    (λ c. cc)
+    (λ c. cc)
     returns
-    enum-known-e
-    add-next-symbol
-    next-symbol-requires-2
-    loop-less
+    (λ c. search needs)
+    (λ c. search needs)
+    (λ c κs. search needs)
+    (λ c. search needs)
     loop-again
-    same-length-3
-    same-length-4
+    (λ c. cc)
+    (λ c. cc)
     returns-2)

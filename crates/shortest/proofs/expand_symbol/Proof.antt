@@ -25,35 +25,11 @@ loop-holds c = (search needs, search needs, search needs, search needs)
 expand-member-requires : tie.Need-expand-member-requires Inv-loop μ-loop
 expand-member-requires c κs = (search needs, search needs, search needs, search ready)
 
-enum-known-x : tie.Need-enum-known-x Inv-loop μ-loop
-enum-known-x c = search needs
-
-same-length : tie.Need-same-length Inv-loop μ-loop
-same-length c = cc
-
-same-length-2 : tie.Need-same-length-2 Inv-loop μ-loop
-same-length-2 c = cc
-
 returns : tie.Need-returns Inv-loop μ-loop
 returns c = search goal-again
 
-enum-known-e : tie.Need-enum-known-e Inv-loop μ-loop
-enum-known-e c = search needs
-
-add-member : tie.Need-add-member Inv-loop μ-loop
-add-member c = search needs
-
-loop-less : tie.Need-loop-less Inv-loop μ-loop
-loop-less c = search needs
-
 loop-again : tie.Need-loop-again Inv-loop μ-loop
 loop-again c = (search was-tail, search needs, (cc), (cc))
-
-same-length-3 : tie.Need-same-length-3 Inv-loop μ-loop
-same-length-3 c = cc
-
-same-length-4 : tie.Need-same-length-4 Inv-loop μ-loop
-same-length-4 c = cc
 
 returns-2 : tie.Need-returns-2 Inv-loop μ-loop
 returns-2 c = search symbol-end
@@ -66,14 +42,14 @@ expand-symbol-spec =
     μ-loop
     loop-holds
     expand-member-requires
-    enum-known-x
-    same-length
-    same-length-2
+    (λ c. search needs)
+    (λ c. cc)
+    (λ c. cc)
     returns
-    enum-known-e
-    add-member
-    loop-less
+    (λ c. search needs)
+    (λ c. search needs)
+    (λ c. search needs)
     loop-again
-    same-length-3
-    same-length-4
+    (λ c. cc)
+    (λ c. cc)
     returns-2)

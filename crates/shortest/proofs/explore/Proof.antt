@@ -23,35 +23,14 @@ abbrev μ-loop : tie.MeasureT-loop
 loop-holds : tie.Need-loop-holds Inv-loop μ-loop
 loop-holds c = (search needs, search needs, search needs, search needs, search needs)
 
-advance-requires : tie.Need-advance-requires Inv-loop μ-loop
-advance-requires c κs = search needs
-
-enum-known-x : tie.Need-enum-known-x Inv-loop μ-loop
-enum-known-x c = search needs
-
-same-length : tie.Need-same-length Inv-loop μ-loop
-same-length c = cc
-
-same-length-2 : tie.Need-same-length-2 Inv-loop μ-loop
-same-length-2 c = cc
-
 returns : tie.Need-returns Inv-loop μ-loop
 returns c = search explore-goal
-
-enum-known-b : tie.Need-enum-known-b Inv-loop μ-loop
-enum-known-b c = search needs
 
 loop-less : tie.Need-loop-less Inv-loop μ-loop
 loop-less c = search explore-less
 
 loop-again : tie.Need-loop-again Inv-loop μ-loop
 loop-again c = (search was-moved, search needs, search moved-few, (cc), (cc))
-
-same-length-3 : tie.Need-same-length-3 Inv-loop μ-loop
-same-length-3 c = cc
-
-same-length-4 : tie.Need-same-length-4 Inv-loop μ-loop
-same-length-4 c = cc
 
 returns-2 : tie.Need-returns-2 Inv-loop μ-loop
 returns-2 c = search explore-end
@@ -63,14 +42,14 @@ explore-spec =
     Inv-loop
     μ-loop
     loop-holds
-    advance-requires
-    enum-known-x
-    same-length
-    same-length-2
+    (λ c κs. search needs)
+    (λ c. search needs)
+    (λ c. cc)
+    (λ c. cc)
     returns
-    enum-known-b
+    (λ c. search needs)
     loop-less
     loop-again
-    same-length-3
-    same-length-4
+    (λ c. cc)
+    (λ c. cc)
     returns-2)

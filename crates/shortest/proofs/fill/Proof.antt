@@ -20,26 +20,11 @@ abbrev μ-loop : tie.MeasureT-loop
 loop-holds : tie.Need-loop-holds Inv-loop μ-loop
 loop-holds c = (search fill-begin, search needs)
 
-mul-entry : tie.Need-mul-entry Inv-loop μ-loop
-mul-entry c = search needs
-
-shared-slice-read-entry : tie.Need-shared-slice-read-entry Inv-loop μ-loop
-shared-slice-read-entry c = search needs
-
-pair-of-requires : tie.Need-pair-of-requires Inv-loop μ-loop
-pair-of-requires c κs = search needs
-
 sub-at : tie.Need-sub-at Inv-loop μ-loop
 sub-at c = search fill-some
 
-shared-slice-read-message : tie.Need-shared-slice-read-message Inv-loop μ-loop
-shared-slice-read-message c = search needs
-
 slice-write-message : tie.Need-slice-write-message Inv-loop μ-loop
 slice-write-message c = search fill-within
-
-from-of-requires : tie.Need-from-of-requires Inv-loop μ-loop
-from-of-requires c κs = search needs
 
 sub-index : tie.Need-sub-index Inv-loop μ-loop
 sub-index c = search fill-from
@@ -49,9 +34,6 @@ loop-less c = search fill-falls
 
 loop-again : tie.Need-loop-again Inv-loop μ-loop
 loop-again c = (search fill-store, search needs)
-
-same-length : tie.Need-same-length Inv-loop μ-loop
-same-length c = search needs
 
 returns : tie.Need-returns Inv-loop μ-loop
 returns c = search fill-end
@@ -63,15 +45,15 @@ fill-spec =
     Inv-loop
     μ-loop
     loop-holds
-    mul-entry
-    shared-slice-read-entry
-    pair-of-requires
+    (λ c. search needs)
+    (λ c. search needs)
+    (λ c κs. search needs)
     sub-at
-    shared-slice-read-message
+    (λ c. search needs)
     slice-write-message
-    from-of-requires
+    (λ c κs. search needs)
     sub-index
     loop-less
     loop-again
-    same-length
+    (λ c. search needs)
     returns)

@@ -5,15 +5,6 @@ use Rattle.shortest.specs.Leaves.{arrives-words, arrives-past, arrives-d
 use Rattle.shortest.proofs.first.Statement.{statement}
 use Rattle.shortest.proofs.first.Tie as tie
 
-sub-y : tie.Need-sub-y
-sub-y c = search needs
-
-word-count-requires : tie.Need-word-count-requires
-word-count-requires c κs = search needs
-
-first-pair-requires : tie.Need-first-pair-requires
-first-pair-requires c κs = search needs
-
 returns : tie.Need-returns
 returns c =
     let s = c .before .before .before .before .before in
@@ -32,4 +23,4 @@ returns-3 c =
 
 pub first-spec : {M : Type 1} → statement M
 first-spec =
-    tie.close (tie.spec sub-y word-count-requires first-pair-requires returns returns-2 returns-3)
+    tie.close (tie.spec (λ c. search needs) (λ c κs. search needs) (λ c κs. search needs) returns returns-2 returns-3)

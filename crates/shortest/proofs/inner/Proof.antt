@@ -4,9 +4,6 @@ use Rattle.shortest.specs.Leaves.{inner-end, inner-inside}
 use Rattle.shortest.proofs.inner.Statement.{statement}
 use Rattle.shortest.proofs.inner.Tie as tie
 
-is-end-requires : tie.Need-is-end-requires
-is-end-requires c κs = search needs
-
 returns : tie.Need-returns
 returns c = (search inner-end, search needs)
 
@@ -14,4 +11,4 @@ returns-2 : tie.Need-returns-2
 returns-2 c = (search inner-inside, search needs)
 
 pub inner-spec : {M : Type 1} → statement M
-inner-spec = tie.close (tie.spec is-end-requires returns returns-2)
+inner-spec = tie.close (tie.spec (λ c κs. search needs) returns returns-2)

@@ -5,15 +5,6 @@ use Rattle.shortest.specs.Leaves.{places-symbol}
 use Rattle.shortest.proofs.key.Statement.{statement}
 use Rattle.shortest.proofs.key.Tie as tie
 
-pair-of-requires : tie.Need-pair-of-requires
-pair-of-requires c κs = search needs
-
-from-of-requires : tie.Need-from-of-requires
-from-of-requires c κs = search needs
-
-symbol-requires : tie.Need-symbol-requires
-symbol-requires c κs = search needs
-
 add-result : tie.Need-add-result
 add-result c = omega (arith, c .symbol .ensures, c .before .before .before .shared-slice-known .given (c .before .before .pair-of .result .high))
 
@@ -22,4 +13,4 @@ returns c = let e = places-symbol (c .before .before .before .before .args .plac
 
 pub key-spec : {M : Type 1} → statement M
 key-spec =
-    tie.close (tie.spec pair-of-requires from-of-requires symbol-requires add-result returns)
+    tie.close (tie.spec (λ c κs. search needs) (λ c κs. search needs) (λ c κs. search needs) add-result returns)

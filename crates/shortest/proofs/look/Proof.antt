@@ -7,26 +7,11 @@ use Rattle.shortest.proofs.look.Tie as tie
 returns : tie.Need-returns
 returns c = search seen-nowhere
 
-symbol-requires : tie.Need-symbol-requires
-symbol-requires c κs = search needs
-
 returns-2 : tie.Need-returns-2
 returns-2 c = search seen-other
 
-node-requires : tie.Need-node-requires
-node-requires c κs = search needs
-
-mul-if3 : tie.Need-mul-if3
-mul-if3 c = search needs
-
-shared-slice-read-if3 : tie.Need-shared-slice-read-if3
-shared-slice-read-if3 c = search needs
-
 returns-3 : tie.Need-returns-3
 returns-3 c = search seen-marked
-
-two-ends-requires : tie.Need-two-ends-requires
-two-ends-requires c κs = search needs
 
 returns-4 : tie.Need-returns-4
 returns-4 c = search seen-goal
@@ -39,12 +24,12 @@ look-spec =
     tie.close
     (tie.spec
     returns
-    symbol-requires
+    (λ c κs. search needs)
     returns-2
-    node-requires
-    mul-if3
-    shared-slice-read-if3
+    (λ c κs. search needs)
+    (λ c. search needs)
+    (λ c. search needs)
     returns-3
-    two-ends-requires
+    (λ c κs. search needs)
     returns-4
     returns-5)

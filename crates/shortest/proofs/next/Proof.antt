@@ -4,17 +4,11 @@ use Rattle.shortest.specs.Leaves.{arrives-pair, arrives-first}
 use Rattle.shortest.proofs.next.Statement.{statement}
 use Rattle.shortest.proofs.next.Tie as tie
 
-successor-requires : tie.Need-successor-requires
-successor-requires c κs = search needs
-
 returns : tie.Need-returns
 returns c = search arrives-pair
-
-first-requires : tie.Need-first-requires
-first-requires c κs = search needs
 
 returns-2 : tie.Need-returns-2
 returns-2 c = search arrives-first
 
 pub next-spec : {M : Type 1} → statement M
-next-spec = tie.close (tie.spec successor-requires returns first-requires returns-2)
+next-spec = tie.close (tie.spec (λ c κs. search needs) returns (λ c κs. search needs) returns-2)

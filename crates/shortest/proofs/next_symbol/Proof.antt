@@ -12,29 +12,8 @@ Inv-loop places queue group symbol least₀ member₀ least member = NoneLed pla
 abbrev μ-loop : tie.MeasureT-loop
 μ-loop places queue group symbol least₀ member₀ least member = group .end - member
 
-cast-least : tie.Need-cast-least Inv-loop μ-loop
-cast-least c = search needs
-
 loop-holds : tie.Need-loop-holds Inv-loop μ-loop
 loop-holds c = (search none-led-begin, search needs)
-
-mul-pair-of : tie.Need-mul-pair-of Inv-loop μ-loop
-mul-pair-of c = search needs
-
-shared-slice-read-pair-of : tie.Need-shared-slice-read-pair-of Inv-loop μ-loop
-shared-slice-read-pair-of c = search needs
-
-pair-of-requires : tie.Need-pair-of-requires Inv-loop μ-loop
-pair-of-requires c κs = search needs
-
-sooner-requires : tie.Need-sooner-requires Inv-loop μ-loop
-sooner-requires c κs = search needs
-
-add-member : tie.Need-add-member Inv-loop μ-loop
-add-member c = search needs
-
-loop-less : tie.Need-loop-less Inv-loop μ-loop
-loop-less c = search needs
 
 loop-again : tie.Need-loop-again Inv-loop μ-loop
 loop-again c = (search none-led-more, search needs)
@@ -48,13 +27,13 @@ next-symbol-spec =
     (tie.spec
     Inv-loop
     μ-loop
-    cast-least
+    (λ c. search needs)
     loop-holds
-    mul-pair-of
-    shared-slice-read-pair-of
-    pair-of-requires
-    sooner-requires
-    add-member
-    loop-less
+    (λ c. search needs)
+    (λ c. search needs)
+    (λ c κs. search needs)
+    (λ c κs. search needs)
+    (λ c. search needs)
+    (λ c. search needs)
     loop-again
     returns)

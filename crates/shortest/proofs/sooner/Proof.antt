@@ -7,18 +7,6 @@ use Rattle.shortest.specs.Symbols.{not-led-above, not-led-below}
 use Rattle.shortest.proofs.sooner.Statement.{statement}
 use Rattle.shortest.proofs.sooner.Tie as tie
 
-returns : tie.Need-returns
-returns c = search needs
-
-inner-requires : tie.Need-inner-requires
-inner-requires c κs = search needs
-
-add-next : tie.Need-add-next
-add-next c = search needs
-
-shared-slice-read-next : tie.Need-shared-slice-read-next
-shared-slice-read-next c = search needs
-
 cast-next : tie.Need-cast-next
 cast-next c = omega (arith, c .shared-slice-known2 .given (c .before .inner .result + 1))
 
@@ -35,10 +23,10 @@ pub sooner-spec : {M : Type 1} → statement M
 sooner-spec =
     tie.close
     (tie.spec
-    returns
-    inner-requires
-    add-next
-    shared-slice-read-next
+    (λ c. search needs)
+    (λ c κs. search needs)
+    (λ c. search needs)
+    (λ c. search needs)
     cast-next
     returns-2
     returns-3

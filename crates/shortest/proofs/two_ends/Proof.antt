@@ -4,12 +4,6 @@ use Rattle.shortest.specs.Leaves.{ends-both, ends-inside}
 use Rattle.shortest.proofs.two_ends.Statement.{statement}
 use Rattle.shortest.proofs.two_ends.Tie as tie
 
-is-end-requires : tie.Need-is-end-requires
-is-end-requires c κs = search needs
-
-is-end-requires-2 : tie.Need-is-end-requires-2
-is-end-requires-2 c κs = search needs
-
 returns : tie.Need-returns
 returns c = search ends-both
 
@@ -17,4 +11,4 @@ returns-2 : tie.Need-returns-2
 returns-2 c = search ends-inside
 
 pub two-ends-spec : {M : Type 1} → statement M
-two-ends-spec = tie.close (tie.spec is-end-requires is-end-requires-2 returns returns-2)
+two-ends-spec = tie.close (tie.spec (λ c κs. search needs) (λ c κs. search needs) returns returns-2)

@@ -6,28 +6,13 @@ use Rattle.shortest.specs.Leaves.{width-words, width-leads, width-none}
 use Rattle.shortest.proofs.width.Statement.{statement}
 use Rattle.shortest.proofs.width.Tie as tie
 
-word-count-requires : tie.Need-word-count-requires
-word-count-requires c κs = search needs
-
 returns : tie.Need-returns
 returns c =
     let s = c .before .before .before .before in
     width-words (s .pre .0) (s .args .pair .low) (s .args .pair .high) (s .args .symbol) (omega arith) (c .before .if1 .taken)
 
-inner-requires : tie.Need-inner-requires
-inner-requires c κs = search needs
-
-add-if2 : tie.Need-add-if2
-add-if2 c = search needs
-
-shared-slice-read-if2 : tie.Need-shared-slice-read-if2
-shared-slice-read-if2 c = search needs
-
 cast-if2 : tie.Need-cast-if2
 cast-if2 c = omega (arith, c .shared-slice-known2 .given (c .before .inner .result + 1))
-
-slots-requires : tie.Need-slots-requires
-slots-requires c κs = search needs
 
 returns-2 : tie.Need-returns-2
 returns-2 c = search width-leads
@@ -39,12 +24,12 @@ pub width-spec : {M : Type 1} → statement M
 width-spec =
     tie.close
     (tie.spec
-    word-count-requires
+    (λ c κs. search needs)
     returns
-    inner-requires
-    add-if2
-    shared-slice-read-if2
+    (λ c κs. search needs)
+    (λ c. search needs)
+    (λ c. search needs)
     cast-if2
-    slots-requires
+    (λ c κs. search needs)
     returns-2
     returns-3)

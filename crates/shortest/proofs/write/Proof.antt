@@ -10,12 +10,6 @@ use Rattle.shortest.proofs.write.Tie as tie
 depth-requires : tie.Need-depth-requires
 depth-requires c κs = (search met-depth, search needs, search needs)
 
-cast-message : tie.Need-cast-message
-cast-message c = search needs
-
-slice-write-message : tie.Need-slice-write-message
-slice-write-message c = search needs
-
 fill-requires : tie.Need-fill-requires
 fill-requires c κs =
     let s = c .before .before .before .before .before in (
@@ -24,9 +18,6 @@ fill-requires c κs =
       search needs,
       omega (arith, length-set (s .args .message .now) (c .before .depth .result) (s .args .symbol)),
     )
-
-add-result : tie.Need-add-result
-add-result c = search needs
 
 same-length : tie.Need-same-length
 same-length c =
@@ -42,9 +33,9 @@ write-spec =
     tie.close
     (tie.spec
     depth-requires
-    cast-message
-    slice-write-message
+    (λ c. search needs)
+    (λ c. search needs)
     fill-requires
-    add-result
+    (λ c. search needs)
     same-length
     returns)

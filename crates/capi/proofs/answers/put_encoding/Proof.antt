@@ -4,35 +4,17 @@ use borrow.Author.Needs.{needs}
 use Rattle.capi.proofs.answers.put_encoding.Statement.{statement}
 use Rattle.capi.proofs.answers.put_encoding.Tie as tie
 
-enum-known-e : tie.Need-enum-known-e
-enum-known-e c = search needs
-
-put-entries-requires : tie.Need-put-entries-requires
-put-entries-requires c κs = search needs
-
-enum-known-e-2 : tie.Need-enum-known-e-2
-enum-known-e-2 c = search needs
-
-number-requires : tie.Need-number-requires
-number-requires c κs = search needs
-
-same-length : tie.Need-same-length
-same-length c = search needs
-
 returns : tie.Need-returns
 returns c = rw (c .before .before .before .before .before .e .given .1) (refl, c .before .before .put-entries .ensures)
-
-returns-2 : tie.Need-returns-2
-returns-2 c = search needs
 
 pub put-encoding-spec : {M : Type 1} → statement M
 put-encoding-spec =
     tie.close
     (tie.spec
-    enum-known-e
-    put-entries-requires
-    enum-known-e-2
-    number-requires
-    same-length
+    (λ c. search needs)
+    (λ c κs. search needs)
+    (λ c. search needs)
+    (λ c κs. search needs)
+    (λ c. search needs)
     returns
-    returns-2)
+    (λ c. search needs))

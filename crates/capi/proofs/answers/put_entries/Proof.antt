@@ -7,20 +7,11 @@ use borrow.Author.Needs.{needs}
 use Rattle.capi.proofs.answers.put_entries.Statement.{statement}
 use Rattle.capi.proofs.answers.put_entries.Tie as tie
 
-slice-write-answer : tie.Need-slice-write-answer
-slice-write-answer c = search needs
-
 slice-write-answer-2 : tie.Need-slice-write-answer-2
 slice-write-answer-2 c = simp length-set (omega arith)
 
 slice-write-answer-3 : tie.Need-slice-write-answer-3
 slice-write-answer-3 c = simp length-set (omega arith)
-
-slice-write-answer-4 : tie.Need-slice-write-answer-4
-slice-write-answer-4 c = search needs
-
-same-length : tie.Need-same-length
-same-length c = search needs
 
 returns : tie.Need-returns
 returns c = sets-written (c .args .a ∷ c .args .b ∷ c .args .c ∷ c .args .d ∷ []) (c .args .answer .now) (c .pre)
@@ -29,9 +20,9 @@ pub put-entries-spec : {M : Type 1} → statement M
 put-entries-spec =
     tie.close
     (tie.spec
-    slice-write-answer
+    (λ c. search needs)
     slice-write-answer-2
     slice-write-answer-3
-    slice-write-answer-4
-    same-length
+    (λ c. search needs)
+    (λ c. search needs)
     returns)

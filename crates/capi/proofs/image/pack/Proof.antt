@@ -4,18 +4,6 @@ use borrow.Author.Needs.{needs}
 use Rattle.capi.proofs.image.pack.Statement.{statement}
 use Rattle.capi.proofs.image.pack.Tie as tie
 
-put-words-requires : tie.Need-put-words-requires
-put-words-requires c κs = search needs
-
-put-rows-requires : tie.Need-put-rows-requires
-put-rows-requires c κs = search needs
-
-cast-table : tie.Need-cast-table
-cast-table c = search needs
-
-slice-write-table : tie.Need-slice-write-table
-slice-write-table c = search needs
-
 same-length : tie.Need-same-length
 same-length c =
     let a = c .before .before .before .before .before .before .before .before .before .before in
@@ -30,9 +18,9 @@ pub pack-spec : {M : Type 1} → statement M
 pack-spec =
     tie.close
     (tie.spec
-    put-words-requires
-    put-rows-requires
-    cast-table
-    slice-write-table
+    (λ c κs. search needs)
+    (λ c κs. search needs)
+    (λ c. search needs)
+    (λ c. search needs)
     same-length
     returns)

@@ -21,22 +21,10 @@ loop-holds : tie.Need-loop-holds Inv-loop μ-loop
 unfolding flatMap
 loop-holds c = search needs
 
-mul-row : tie.Need-mul-row Inv-loop μ-loop
-mul-row c = search needs
-
-element-copy-out-row : tie.Need-element-copy-out-row Inv-loop μ-loop
-element-copy-out-row c = search needs
-
 slice-aggregate-put : tie.Need-slice-aggregate-put Inv-loop μ-loop
 slice-aggregate-put c =
     let well = c .before .before .before .before .before .before .pre .0 in
     sym (well .row (c .before .before .before .before .loop .k) (omega arith) .array)
-
-mul-put : tie.Need-mul-put Inv-loop μ-loop
-mul-put c = search needs
-
-add-put : tie.Need-add-put Inv-loop μ-loop
-add-put c = search needs
 
 put-requires : tie.Need-put-requires Inv-loop μ-loop
 put-requires c κs =
@@ -44,20 +32,11 @@ put-requires c κs =
     let well = c .before .before .before .before .before .before .before .pre .0 in
     omega (arith, well .row (l .k) (omega arith) .array)
 
-add-k : tie.Need-add-k Inv-loop μ-loop
-add-k c = search needs
-
-loop-less : tie.Need-loop-less Inv-loop μ-loop
-loop-less c = search needs
-
 loop-again : tie.Need-loop-again Inv-loop μ-loop
 loop-again c =
     let l = c .before .before .before .before .before .before .before .before .loop in
     let well = c .before .before .before .before .before .before .before .before .before .before .pre .0 in
     (omega arith, omega arith, rows-next well _ (l .table) _ (l .k) (omega arith) (l .inv .2) (c .before .before .put .ensures))
-
-same-length : tie.Need-same-length Inv-loop μ-loop
-same-length c = search needs
 
 returns : tie.Need-returns Inv-loop μ-loop
 returns c =
@@ -71,14 +50,14 @@ put-rows-spec =
     Inv-loop
     μ-loop
     loop-holds
-    mul-row
-    element-copy-out-row
+    (λ c. search needs)
+    (λ c. search needs)
     slice-aggregate-put
-    mul-put
-    add-put
+    (λ c. search needs)
+    (λ c. search needs)
     put-requires
-    add-k
-    loop-less
+    (λ c. search needs)
+    (λ c. search needs)
     loop-again
-    same-length
+    (λ c. search needs)
     returns)

@@ -7,23 +7,8 @@ use Rattle.capi.specs.Packing.{word-stored}
 use Rattle.capi.proofs.image.put_word.Statement.{statement}
 use Rattle.capi.proofs.image.put_word.Tie as tie
 
-slice-aggregate-put : tie.Need-slice-aggregate-put
-slice-aggregate-put c = search needs
-
 put-requires : tie.Need-put-requires
 put-requires c κs = let long : length (c .before .before .before .before .args .w .symbols) ≡ 16 = search needs in omega arith
-
-cast-table : tie.Need-cast-table
-cast-table c = search needs
-
-add-table : tie.Need-add-table
-add-table c = search needs
-
-slice-write-table : tie.Need-slice-write-table
-slice-write-table c = search needs
-
-same-length : tie.Need-same-length
-same-length c = search needs
 
 returns : tie.Need-returns
 returns c =
@@ -34,10 +19,10 @@ pub put-word-spec : {M : Type 1} → statement M
 put-word-spec =
     tie.close
     (tie.spec
-    slice-aggregate-put
+    (λ c. search needs)
     put-requires
-    cast-table
-    add-table
-    slice-write-table
-    same-length
+    (λ c. search needs)
+    (λ c. search needs)
+    (λ c. search needs)
+    (λ c. search needs)
     returns)

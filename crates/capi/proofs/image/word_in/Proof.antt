@@ -19,33 +19,12 @@ Inv-loop table at word₀ k₀ word k =
 abbrev μ-loop : tie.MeasureT-loop
 μ-loop table at word₀ k₀ word k = 16 - k
 
-add-t6 : tie.Need-add-t6 Inv-loop μ-loop
-add-t6 c = search needs
-
-shared-slice-read-t8 : tie.Need-shared-slice-read-t8 Inv-loop μ-loop
-shared-slice-read-t8 c = search needs
-
 cast-t9 : tie.Need-cast-t9 Inv-loop μ-loop
 cast-t9 c = omega (arith, c .shared-slice-known .given (c .before .args .at + 16))
 
 loop-holds : tie.Need-loop-holds Inv-loop μ-loop
 unfolding filling
 loop-holds c = (omega arith, refl, refl, refl)
-
-add-word : tie.Need-add-word Inv-loop μ-loop
-add-word c = search needs
-
-shared-slice-read-word : tie.Need-shared-slice-read-word Inv-loop μ-loop
-shared-slice-read-word c = search needs
-
-element-write-word : tie.Need-element-write-word Inv-loop μ-loop
-element-write-word c = search needs
-
-add-k : tie.Need-add-k Inv-loop μ-loop
-add-k c = search needs
-
-loop-less : tie.Need-loop-less Inv-loop μ-loop
-loop-less c = search needs
 
 loop-again : tie.Need-loop-again Inv-loop μ-loop
 loop-again c =
@@ -66,14 +45,14 @@ word-in-spec =
     (tie.spec
     Inv-loop
     μ-loop
-    add-t6
-    shared-slice-read-t8
+    (λ c. search needs)
+    (λ c. search needs)
     cast-t9
     loop-holds
-    add-word
-    shared-slice-read-word
-    element-write-word
-    add-k
-    loop-less
+    (λ c. search needs)
+    (λ c. search needs)
+    (λ c. search needs)
+    (λ c. search needs)
+    (λ c. search needs)
     loop-again
     returns)

@@ -6,12 +6,6 @@ use Rattle.table.specs.Digits.{digitOf}
 use Rattle.printing.proofs.puts.digit.Statement.{statement}
 use Rattle.printing.proofs.puts.digit.Tie as tie
 
-add-result : tie.Need-add-result
-add-result c = search needs
-
-add-result-2 : tie.Need-add-result-2
-add-result-2 c = search needs
-
 returns : tie.Need-returns
 unfolding digitOf
 returns c = rw (lt-ltb _ _ (c .if1 .taken)) (omega arith)
@@ -21,4 +15,4 @@ unfolding digitOf
 returns-2 c = rw (le-ltb _ _ (c .if1 .left)) (omega arith)
 
 pub digit-spec : {M : Type 1} → statement M
-digit-spec = tie.close (tie.spec add-result add-result-2 returns returns-2)
+digit-spec = tie.close (tie.spec (λ c. search needs) (λ c. search needs) returns returns-2)

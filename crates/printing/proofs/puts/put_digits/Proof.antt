@@ -20,23 +20,8 @@ abbrev μ-loop : tie.MeasureT-loop
 loop-holds : tie.Need-loop-holds Inv-loop μ-loop
 loop-holds c = (omega arith, refl, refl)
 
-shared-slice-read-digit : tie.Need-shared-slice-read-digit Inv-loop μ-loop
-shared-slice-read-digit c = search needs
-
 digit-requires : tie.Need-digit-requires Inv-loop μ-loop
 digit-requires c κs = c .before .before .before .before .before .pre .1 (c .before .before .loop .i)
-
-add-out : tie.Need-add-out Inv-loop μ-loop
-add-out c = search needs
-
-slice-write-out : tie.Need-slice-write-out Inv-loop μ-loop
-slice-write-out c = search needs
-
-add-i : tie.Need-add-i Inv-loop μ-loop
-add-i c = search needs
-
-loop-less : tie.Need-loop-less Inv-loop μ-loop
-loop-less c = search needs
 
 loop-again : tie.Need-loop-again Inv-loop μ-loop
 loop-again c = let l = c .before .before .before .loop in
@@ -44,9 +29,6 @@ loop-again c = let l = c .before .before .before .loop in
     let m = a .message .now in
     let d = c .digit .ensures ∙ sym (List·getD-map digitOf m (l .i) 0) in
     (omega arith, simp length-set (l .inv .1), rw (d, l .inv .2) (sets-next (map digitOf m) (a .out .now) (a .at) (l .i) (digitOf 0) (omega (arith, length-map m digitOf))))
-
-add-result : tie.Need-add-result Inv-loop μ-loop
-add-result c = search needs
 
 same-length : tie.Need-same-length Inv-loop μ-loop
 same-length c = c .before .loop .inv .1
@@ -63,13 +45,13 @@ put-digits-spec =
     Inv-loop
     μ-loop
     loop-holds
-    shared-slice-read-digit
+    (λ c. search needs)
     digit-requires
-    add-out
-    slice-write-out
-    add-i
-    loop-less
+    (λ c. search needs)
+    (λ c. search needs)
+    (λ c. search needs)
+    (λ c. search needs)
     loop-again
-    add-result
+    (λ c. search needs)
     same-length
     returns)

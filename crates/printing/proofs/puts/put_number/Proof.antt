@@ -9,14 +9,8 @@ use Rattle.printing.proofs.puts.put_number.Tie as tie
 put-decimal-requires : tie.Need-put-decimal-requires
 put-decimal-requires c κs = rw (eq-eqb _ _ (c .before .if1 .taken)) at (c .before .before .before .pre)
 
-same-length : tie.Need-same-length
-same-length c = search needs
-
 returns : tie.Need-returns
 returns c = rw (eq-eqb _ _ (c .before .before .before .before .if1 .taken)) (c .before .before .put-decimal .ensures)
-
-slice-aggregate-put : tie.Need-slice-aggregate-put
-slice-aggregate-put c = search needs
 
 put-requires : tie.Need-put-requires
 put-requires c κs = let room = rw (ne-eqb _ _ (c .before .before .if1 .left)) at (c .before .before .before .before .pre) in omega arith
@@ -25,9 +19,6 @@ put-decimal-requires-2 : tie.Need-put-decimal-requires-2
 put-decimal-requires-2 c κs = let f = c .before .before .before .put .ensures in
     let room = rw (ne-eqb _ _ (c .before .before .before .before .before .before .if1 .left)) at (c .before .before .before .before .before .before .before .before .pre) in
     omega (arith, f .end, puts-length f)
-
-same-length-2 : tie.Need-same-length-2
-same-length-2 c = search needs
 
 returns-2 : tie.Need-returns-2
 returns-2 c = rw (ne-eqb _ _ (c .before .before .before .before .before .before .before .before .before .if1 .left))
@@ -38,10 +29,10 @@ put-number-spec =
     tie.close
     (tie.spec
     put-decimal-requires
-    same-length
+    (λ c. search needs)
     returns
-    slice-aggregate-put
+    (λ c. search needs)
     put-requires
     put-decimal-requires-2
-    same-length-2
+    (λ c. search needs)
     returns-2)

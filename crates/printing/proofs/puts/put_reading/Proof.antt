@@ -10,16 +10,10 @@ put-numbers-requires : tie.Need-put-numbers-requires
 put-numbers-requires c κs = let s = c .before .before .before .args .reading .now in
     omega (arith, length-numbers s (λ k. omega (arith, c .before .shared-slice-known .given k)))
 
-slice-aggregate-put : tie.Need-slice-aggregate-put
-slice-aggregate-put c = search needs
-
 put-requires : tie.Need-put-requires
 put-requires c κs = let s = c .before .before .before .before .before .before .before .before .args .reading .now in
     let f = c .before .before .before .before .put-numbers .ensures in
     omega (arith, f .end, puts-length f, length-numbers s (λ k. omega (arith, c .before .before .before .before .before .before .shared-slice-known .given k)))
-
-same-length : tie.Need-same-length
-same-length c = search needs
 
 returns : tie.Need-returns
 returns c = let s = c .before .before .before .before .before .before .before .before .before .before .before .args .reading .now in
@@ -29,4 +23,4 @@ returns c = let s = c .before .before .before .before .before .before .before .b
 
 pub put-reading-spec : {M : Type 1} → statement M
 put-reading-spec =
-    tie.close (tie.spec put-numbers-requires slice-aggregate-put put-requires same-length returns)
+    tie.close (tie.spec put-numbers-requires (λ c. search needs) put-requires (λ c. search needs) returns)

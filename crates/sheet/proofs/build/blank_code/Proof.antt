@@ -5,15 +5,9 @@ use borrow.Author.Needs.{needs}
 use Rattle.sheet.proofs.build.blank_code.Statement.{statement}
 use Rattle.sheet.proofs.build.blank_code.Tie as tie
 
-blank-word-requires : tie.Need-blank-word-requires
-blank-word-requires c κs = search needs
-
-blank-row-requires : tie.Need-blank-row-requires
-blank-row-requires c κs = search needs
-
 returns : tie.Need-returns
 unfolding blankCode codeOf table
 returns c = rw (c .before .blank-word .ensures, c .blank-row .ensures)
 
 pub blank-code-spec : {M : Type 1} → statement M
-blank-code-spec = tie.close (tie.spec blank-word-requires blank-row-requires returns)
+blank-code-spec = tie.close (tie.spec (λ c κs. search needs) (λ c κs. search needs) returns)

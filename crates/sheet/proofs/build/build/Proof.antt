@@ -13,9 +13,6 @@ Inv-loop s n code₀ at₀ k₀ code at k = Built s (recordFields s) code at k
 abbrev μ-loop : tie.MeasureT-loop
 μ-loop s n code₀ at₀ k₀ code at k = n - k
 
-blank-code-requires : tie.Need-blank-code-requires Inv-loop μ-loop
-blank-code-requires c κs = search needs
-
 loop-holds : tie.Need-loop-holds Inv-loop μ-loop
 loop-holds c = let p = c .before .before .pre in built-none _ _ (p .0) (c .blank-code .ensures)
 
@@ -57,9 +54,6 @@ add-at-2 c = let p = c .before .before .before .before .before .before .before .
 add-k : tie.Need-add-k Inv-loop μ-loop
 add-k c = let p = c .before .before .before .before .before .before .before .pre in omega (arith, p .2 .most, p .3)
 
-loop-less : tie.Need-loop-less Inv-loop μ-loop
-loop-less c = search needs
-
 loop-again : tie.Need-loop-again Inv-loop μ-loop
 loop-again c = let l = c .before .before .before .before .loop in let p = c .before .before .before .before .before .before .before .pre in
     built-more _ _ _ _ _ _ _ (p .2) (l .inv) (p .3) (search needs) (c .before .before .field-end .ensures .0) _ _ (c .before .read-word .ensures) (c .read-row .ensures)
@@ -74,7 +68,7 @@ build-spec =
     (tie.spec
     Inv-loop
     μ-loop
-    blank-code-requires
+    (λ c κs. search needs)
     loop-holds
     field-end-requires
     read-word-requires
@@ -88,6 +82,6 @@ build-spec =
     add-at
     add-at-2
     add-k
-    loop-less
+    (λ c. search needs)
     loop-again
     returns)

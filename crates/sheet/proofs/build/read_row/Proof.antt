@@ -18,33 +18,12 @@ Inv-loop s at n row₀ y₀ row y = (y ≤ n) × (length (row .entries) ≡ 32) 
 abbrev μ-loop : tie.MeasureT-loop
 μ-loop s at n row₀ y₀ row y = n - y
 
-blank-row-requires : tie.Need-blank-row-requires Inv-loop μ-loop
-blank-row-requires c κs = search needs
-
 loop-holds : tie.Need-loop-holds Inv-loop μ-loop
 unfolding table
 loop-holds c = let e = ap (λ (r : Row). r .entries) (c .blank-row .ensures) in (search needs, ap length e, e)
 
-mul-value-of : tie.Need-mul-value-of Inv-loop μ-loop
-mul-value-of c = search needs
-
-add-value-of : tie.Need-add-value-of Inv-loop μ-loop
-add-value-of c = search needs
-
-shared-slice-read-value-of : tie.Need-shared-slice-read-value-of Inv-loop μ-loop
-shared-slice-read-value-of c = search needs
-
 value-of-requires : tie.Need-value-of-requires Inv-loop μ-loop
 value-of-requires c κs = let l = c .before .before .loop in c .before .before .before .before .before .pre .digits (l .y) (search needs)
-
-element-write-row : tie.Need-element-write-row Inv-loop μ-loop
-element-write-row c = search needs
-
-add-y : tie.Need-add-y Inv-loop μ-loop
-add-y c = search needs
-
-loop-less : tie.Need-loop-less Inv-loop μ-loop
-loop-less c = search needs
 
 loop-again : tie.Need-loop-again Inv-loop μ-loop
 loop-again c = let l = c .before .before .before .loop in let a = c .before .before .before .before .before .before .args in let p = c .before .before .before .before .before .before .pre in
@@ -61,14 +40,14 @@ read-row-spec =
     (tie.spec
     Inv-loop
     μ-loop
-    blank-row-requires
+    (λ c κs. search needs)
     loop-holds
-    mul-value-of
-    add-value-of
-    shared-slice-read-value-of
+    (λ c. search needs)
+    (λ c. search needs)
+    (λ c. search needs)
     value-of-requires
-    element-write-row
-    add-y
-    loop-less
+    (λ c. search needs)
+    (λ c. search needs)
+    (λ c. search needs)
     loop-again
     returns)

@@ -19,34 +19,13 @@ Inv-loop s at e n word₀ k₀ word k = (k ≤ n) × (length (word .symbols) ≡
 abbrev μ-loop : tie.MeasureT-loop
 μ-loop s at e n word₀ k₀ word k = n - k
 
-sub-n : tie.Need-sub-n Inv-loop μ-loop
-sub-n c = search needs
-
-blank-word-requires : tie.Need-blank-word-requires Inv-loop μ-loop
-blank-word-requires c κs = search needs
-
 loop-holds : tie.Need-loop-holds Inv-loop μ-loop
 unfolding table
 loop-holds c = let e = ap (λ (w : Word). w .symbols) (c .blank-word .ensures) in (search needs, ap length e, e, refl)
 
-add-value-of : tie.Need-add-value-of Inv-loop μ-loop
-add-value-of c = search needs
-
-shared-slice-read-value-of : tie.Need-shared-slice-read-value-of Inv-loop μ-loop
-shared-slice-read-value-of c = search needs
-
 value-of-requires : tie.Need-value-of-requires Inv-loop μ-loop
 value-of-requires c κs = let l = c .before .before .loop in let a = c .before .before .before .before .before .args in let p = c .before .before .before .before .before .pre in
     word-digit (a .s .now) (a .at) (l .k) (omega (arith, p .0))
-
-element-write-word : tie.Need-element-write-word Inv-loop μ-loop
-element-write-word c = search needs
-
-add-k : tie.Need-add-k Inv-loop μ-loop
-add-k c = search needs
-
-loop-less : tie.Need-loop-less Inv-loop μ-loop
-loop-less c = search needs
 
 loop-again : tie.Need-loop-again Inv-loop μ-loop
 loop-again c = let l = c .before .before .before .loop in let a = c .before .before .before .before .before .before .args in let p = c .before .before .before .before .before .before .pre in
@@ -64,14 +43,14 @@ read-word-spec =
     (tie.spec
     Inv-loop
     μ-loop
-    sub-n
-    blank-word-requires
+    (λ c. search needs)
+    (λ c κs. search needs)
     loop-holds
-    add-value-of
-    shared-slice-read-value-of
+    (λ c. search needs)
+    (λ c. search needs)
     value-of-requires
-    element-write-word
-    add-k
-    loop-less
+    (λ c. search needs)
+    (λ c. search needs)
+    (λ c. search needs)
     loop-again
     returns)

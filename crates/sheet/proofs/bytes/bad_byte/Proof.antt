@@ -8,9 +8,6 @@ use Rattle.sheet.proofs.bytes.bad_byte.Tie as tie
 returns : tie.Need-returns
 returns c = rw (c .if1 .taken)
 
-is-digit-requires : tie.Need-is-digit-requires
-is-digit-requires c κs = search needs
-
 returns-2 : tie.Need-returns-2
 returns-2 c = bad-plain _ _ (c .before .before .if1 .left) (sym (c .before .is-digit .ensures) ∙ c .if2 .taken)
 
@@ -21,4 +18,4 @@ returns-4 : tie.Need-returns-4
 returns-4 c = bad-other _ _ (c .before .before .before .if1 .left) (sym (c .before .before .is-digit .ensures) ∙ c .before .if2 .left) (c .if3 .left)
 
 pub bad-byte-spec : {M : Type 1} → statement M
-bad-byte-spec = tie.close (tie.spec returns is-digit-requires returns-2 returns-3 returns-4)
+bad-byte-spec = tie.close (tie.spec returns (λ c κs. search needs) returns-2 returns-3 returns-4)

@@ -7,17 +7,8 @@ use Rattle.sheet.proofs.bytes.body_len.Tie as tie
 returns : tie.Need-returns
 returns c = (body-short _ (c .if1 .taken), search needs)
 
-shared-slice-read-if2 : tie.Need-shared-slice-read-if2
-shared-slice-read-if2 c = search needs
-
 returns-2 : tie.Need-returns-2
 returns-2 c = (body-no-cr _ (c .if2 .taken), search needs)
-
-sub-if3 : tie.Need-sub-if3
-sub-if3 c = search needs
-
-shared-slice-read-if3 : tie.Need-shared-slice-read-if3
-shared-slice-read-if3 c = search needs
 
 returns-3 : tie.Need-returns-3
 returns-3 c = (body-no-lf _ (c .if3 .taken), search needs)
@@ -30,9 +21,9 @@ body-len-spec =
     tie.close
     (tie.spec
     returns
-    shared-slice-read-if2
+    (λ c. search needs)
     returns-2
-    sub-if3
-    shared-slice-read-if3
+    (λ c. search needs)
+    (λ c. search needs)
     returns-3
     returns-4)

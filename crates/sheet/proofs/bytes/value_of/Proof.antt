@@ -10,11 +10,8 @@ sub-result c = digit-from (c .before .args .b) (c .before .pre)
 returns : tie.Need-returns
 returns c = value-low (c .before .args .b) (c .if1 .taken)
 
-sub-result-2 : tie.Need-sub-result-2
-sub-result-2 c = search needs
-
 returns-2 : tie.Need-returns-2
 returns-2 c = value-high (c .before .args .b) (c .if1 .left)
 
 pub value-of-spec : {M : Type 1} → statement M
-value-of-spec = tie.close (tie.spec sub-result returns sub-result-2 returns-2)
+value-of-spec = tie.close (tie.spec sub-result returns (λ c. search needs) returns-2)

@@ -4,17 +4,11 @@ use borrow.Author.Needs.{needs}
 use Rattle.sheet.proofs.survey.end_record.Statement.{statement}
 use Rattle.sheet.proofs.survey.end_record.Tie as tie
 
-add-next : tie.Need-add-next
-add-next c = search needs
-
 returns : tie.Need-returns
 returns c = end-first _ (c .if1 .taken)
-
-or-requires : tie.Need-or-requires
-or-requires c κs = search needs
 
 returns-2 : tie.Need-returns-2
 returns-2 c = rw (c .or .ensures) (end-later _ (c .before .before .if1 .left))
 
 pub end-record-spec : {M : Type 1} → statement M
-end-record-spec = tie.close (tie.spec add-next returns or-requires returns-2)
+end-record-spec = tie.close (tie.spec (λ c. search needs) returns (λ c κs. search needs) returns-2)

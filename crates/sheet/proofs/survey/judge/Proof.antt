@@ -14,12 +14,6 @@ returns-2 c = rw (le-ltb 32 _ (c .before .if1 .left), c .if2 .taken)
 returns-3 : tie.Need-returns-3
 returns-3 c = rw (le-ltb 32 _ (c .before .before .before .if1 .left), c .before .before .if2 .left, lt-ltb 128 _ (c .if3 .taken))
 
-add-or : tie.Need-add-or
-add-or c = search needs
-
-or-requires : tie.Need-or-requires
-or-requires c κs = search needs
-
 returns-4 : tie.Need-returns-4
 returns-4 c = rw (
   le-ltb 32 _ (c .before .before .before .before .before .before .before .if1 .left),
@@ -49,4 +43,4 @@ returns-6 c = rw (
 pub judge-spec : {M : Type 1} → statement M
 judge-spec =
     tie.close
-    (tie.spec returns returns-2 returns-3 add-or or-requires returns-4 returns-5 returns-6)
+    (tie.spec returns returns-2 returns-3 (λ c. search needs) (λ c κs. search needs) returns-4 returns-5 returns-6)

@@ -22,9 +22,6 @@ loop-holds c = (passing-starts _, λ h. c .before .pre .0, record { records = se
 next-field-requires : tie.Need-next-field-requires Inv-loop μ-loop
 next-field-requires c κs = let l = c .before .before .loop in (l .inv .1 (search needs), search needs, search needs, l .inv .2)
 
-loop-less : tie.Need-loop-less Inv-loop μ-loop
-loop-less c = search needs
-
 loop-again : tie.Need-loop-again Inv-loop μ-loop
 loop-again c = let l = c .before .before .before .loop in let r = c .next-field .ensures in (r .rest ∙ l .inv .0, r .clean, r .bounded, r .within)
 
@@ -35,4 +32,4 @@ returns c = let l = c .before .before .before .loop in
 pub survey-all-spec : {M : Type 1} → statement M
 survey-all-spec =
     tie.close
-    (tie.spec Inv-loop μ-loop loop-holds next-field-requires loop-less loop-again returns)
+    (tie.spec Inv-loop μ-loop loop-holds next-field-requires (λ c. search needs) loop-again returns)
