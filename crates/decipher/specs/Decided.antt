@@ -25,12 +25,12 @@ pub record Decided (c : Code) (m f g w m′ f′ g′ w′ : List ℕ) (v : Verd
   pub s : List ℕ
   pub u : List ℕ
   pub means : VerdictMeans (tableOf c) x s u v
-  pub shown : Shown limits c m f g m′ f′ g′ x s u v
+  pub shown : Shown m f g m′ f′ g′ x s u v
   pub work : w′ ≡ zeroed w
 
-unchanged : (c : Code) (m f g m′ : List ℕ) {places : List ℕ} {v : Verdict} → DelayBy places v → m′ ≡ m → Shown limits c m f g m′ f g [] [] [] v
-unchanged c m f g m′ (finite l e) p = (p, refl, refl)
-unchanged c m f g m′ (unbounded e) p = (p, refl, refl)
+unchanged : (m f g m′ : List ℕ) {places : List ℕ} {v : Verdict} → DelayBy places v → m′ ≡ m → Shown m f g m′ f g [] [] [] v
+unchanged m f g m′ (finite l e) p = (p, refl, refl)
+unchanged m f g m′ (unbounded e) p = (p, refl, refl)
 
 module _ {c : Code} {places m f g w m′ w₁ : List ℕ} {r : Search} (laid : LaidOut (tableOf c) places) (answers : Answers places m m′ r)
     (long : length w₁ ≡ length w) where
@@ -53,6 +53,6 @@ module _ {c : Code} {places m f g w m′ w₁ : List ℕ} {r : Search} (laid : L
     s = [];
     u = [];
     means = delay-means laid (was-nothing answers e .1) [] [] [] (b .delay);
-    shown = unchanged c m f g m′ (b .delay) (was-nothing answers e .0);
+    shown = unchanged m f g m′ (b .delay) (was-nothing answers e .0);
     work = rw long at (b .work);
   }

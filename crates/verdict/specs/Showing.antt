@@ -65,7 +65,7 @@ module _ (sheet : List ℕ) (accepted : taken limits sheet .answer ≡ Accepted)
   from-sheet = record { sheet = sheet; gives = λ i. record { answer = accepted i; code = code } }
 
   module _ (m f g m′ f′ g′ x s u : List ℕ) (m-long : length m′ ≡ 8256) (f-long : length f′ ≡ 8256) (g-long : length g′ ≡ 8256) where
-    shows-ambiguous : (a : SymbolCount) (b k : WordCount) → VerdictMeans (tableOf code) x s u (Two-ways a b k) → Shown limits code m f g m′ f′ g′ x s u (Two-ways a b k)
+    shows-ambiguous : (a : SymbolCount) (b k : WordCount) → VerdictMeans (tableOf code) x s u (Two-ways a b k) → Shown m f g m′ f′ g′ x s u (Two-ways a b k)
         → Shows sheet m′ f′ g′ (Judged (Two-ways a b k))
     shows-ambiguous a b k means shown =
         let m-start = start-of x m m′ (a .0) (shown .0) (means .1) in
@@ -87,7 +87,7 @@ module _ (sheet : List ℕ) (accepted : taken limits sheet .answer ≡ Accepted)
           same = rw (m-start, start-of s f f′ (b .0) (shown .1) (means .2), start-of u g g′ (k .0) (shown .2) (means .3));
         }
 
-    shows-verdict : (v : Verdict) → VerdictMeans (tableOf code) x s u v → Shown limits code m f g m′ f′ g′ x s u v → Shows sheet m′ f′ g′ (Judged v)
+    shows-verdict : (v : Verdict) → VerdictMeans (tableOf code) x s u v → Shown m f g m′ f′ g′ x s u v → Shows sheet m′ f′ g′ (Judged v)
     shows-verdict (Two-ways a b k) means shown = shows-ambiguous a b k means shown
     shows-verdict (Finite d) means shown =
         record { message = x; first = s; second = u; right = (accepted, means); printable = plain (Judged (Finite d)) refl m′ f′ g′; same = refl }

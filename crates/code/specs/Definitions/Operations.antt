@@ -65,6 +65,16 @@ pub record HasHigh (m : List ℕ) : Type 0 where
   pub within : at < length m
   pub high : 15 < getD m at 0
 
+-- 01: "at most 128 places, so at most 128 × 129 / 2 = 8,256 unordered pairs"
+abbrev pub unorderedPairs : Limits → ℕ
+unorderedPairs l = l .total * (l .total + 1) / 2
+
+-- What the three buffers hold after a verdict: a message and two readings where it is ambiguous, else what they held.
+abbrev pub Shown : (m f g m′ f′ g′ x s u : List ℕ) → Verdict → Type 0
+Shown m f g m′ f′ g′ x s u (Two-ways a b k) = (m′ ≡ written x m) × (f′ ≡ written s f) × (g′ ≡ written u g)
+Shown m f g m′ f′ g′ x s u (Finite d) = (m′ ≡ m) × (f′ ≡ f) × (g′ ≡ g)
+Shown m f g m′ f′ g′ x s u Unbounded = (m′ ≡ m) × (f′ ≡ f) × (g′ ≡ g)
+
 module _ (l : Limits) (c : Code) where
   -- Encoding the sequence s into the buffer b.
   abbrev pub encodingConditions : (s b : List ℕ) → List Condition
@@ -99,23 +109,13 @@ module _ (l : Limits) (c : Code) where
     two : {n k : WordCount} {s u : List ℕ} → NoneHolds (readingConditions m f g w) → FirstTwo (tableOf c) m s u → n .0 ≡ length s → k .0 ≡ length u
         → f′ ≡ written s f → g′ ≡ written u g → w′ ≡ zeroed w → ReadsMessage m f g w f′ g′ w′ (Two n k)
 
-  -- 01: "at most 128 places, so at most 128 × 129 / 2 = 8,256 unordered pairs"
-  abbrev pub unorderedPairs : ℕ
-  unorderedPairs = l .total * (l .total + 1) / 2
-
   -- The verdict, with the message buffer m, the reading buffers f and g, and the working buffer w. 01: "A verdict needs a message buffer and two reading
   -- buffers of 8,256 entries each, and a working buffer of 16,384 entries."
   abbrev pub verdictConditions : (m f g w : List ℕ) → List Condition
   verdictConditions m f g w =
       record { refusal = NotFromSheet; holds = FromSheet l c → ⊥ }
-      ∷ record { refusal = ShortBuffer; holds = (length m < unorderedPairs) ⊎ ((length f < unorderedPairs) ⊎ ((length g < unorderedPairs) ⊎ (length w < l .total * l .total))) }
+      ∷ record { refusal = ShortBuffer; holds = (length m < unorderedPairs l) ⊎ ((length f < unorderedPairs l) ⊎ ((length g < unorderedPairs l) ⊎ (length w < l .total * l .total))) }
       ∷ []
-
-  -- What the three buffers hold after a verdict: a message and two readings where it is ambiguous, else what they held.
-  abbrev pub Shown : (m f g m′ f′ g′ x s u : List ℕ) → Verdict → Type 0
-  Shown m f g m′ f′ g′ x s u (Two-ways a b k) = (m′ ≡ written x m) × (f′ ≡ written s f) × (g′ ≡ written u g)
-  Shown m f g m′ f′ g′ x s u (Finite d) = (m′ ≡ m) × (f′ ≡ f) × (g′ ≡ g)
-  Shown m f g m′ f′ g′ x s u Unbounded = (m′ ≡ m) × (f′ ≡ f) × (g′ ≡ g)
 
   pub data Judges (m f g w m′ f′ g′ w′ : List ℕ) : Judgement → Type 0 where
     refused : {r : Refusal} → Lowest (verdictConditions m f g w) r → m′ ≡ m → f′ ≡ f → g′ ≡ g → w′ ≡ w → Judges m f g w m′ f′ g′ w′ (Not-judged r)
