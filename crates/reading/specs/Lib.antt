@@ -12,4 +12,5 @@ pub mod Steps
 pub mod Answers
 pub mod Core
 pub mod Layout
+pub mod Parts
 pub mod Public

@@ -20,8 +20,9 @@ ghost use Rattle.reading.specs.Marking.{Ready};
 ghost use Rattle.reading.specs.Core.{ReadsFlat};
 ghost use Rattle.reading.specs.Public.{Short, FindsAll};
 
-// Reads a message by a code that is laid out flat: the symbols of all words, where each of the `n` words begins, and the follow matrix.
-pub fn read_core(
+// Reads a message by a code that is laid out flat: the symbols of all words, where each of the `n` words begins, and the follow matrix. The marks
+// stand in the working buffer, which is cleared before and after.
+fn read_by_marks(
     symbols: &[u8],
     base: &[usize],
     follow: &[u8],
@@ -41,6 +42,36 @@ pub fn read_core(
     let r = walks::first_readings(base, follow, n, message.len(), work, first, second);
     bits::clear(work);
     r
+}
+
+// The same with a working buffer of any length: what the marks of this message do not need is cleared once.
+pub fn read_core(
+    symbols: &[u8],
+    base: &[usize],
+    follow: &[u8],
+    n: usize,
+    message: &[u8],
+    first: &mut [u8],
+    second: &mut [u8],
+    work: &mut [u64],
+) -> Reading
+    requires { ⌜ Ready (now symbols) (now base) (now follow) n (now message) (now work)
+        × (length (now message) ≤ length (now first)) × (length (now message) ≤ length (now second)) ⌝ }
+    ensures { λ r. ⌜ ReadsFlat (now (symbols .entry)) (now (base .entry)) (now (follow .entry)) n (now (message .entry))
+        (now (first .entry)) (now (second .entry)) (now (work .entry)) (now (first .exit)) (now (second .exit)) (now (work .exit)) r ⌝ }
+{
+    let used = message.len() + 1;
+    bits::clear(&mut work[used..]);
+    read_by_marks(
+        symbols,
+        base,
+        follow,
+        n,
+        message,
+        first,
+        second,
+        &mut work[..used],
+    )
 }
 
 // Reads a message by a code that an accepted sheet gives, in buffers that are long enough.
