@@ -8,7 +8,7 @@ use native.Mathlib.Numerals.{add-one}
 use lib.ListN.{length, take, drop, getD, length-append, List·getD-append}
 use lib.Seq.{sets, take-suc, split-at, getD-append-add, take-add, drop-drop}
 use Rattle.code.specs.Definitions.Lists.{table}
-use Rattle.capi.specs.Stores.{sets-behind}
+use Rattle.copying.specs.Runs.{sets-behind}
 
 module _ {A : Type 0} (f : A → List ℕ) where
   pub blocks-append : (xs ys : List A) → flatMap f (xs ++ ys) ≡ flatMap f xs ++ flatMap f ys

@@ -1,5 +1,4 @@
 pub mod Image
-pub mod Stores
 pub mod Blocks
 pub mod Packing
 pub mod Unpacking

@@ -1,22 +1,25 @@
 -- The image stored part by part: a word is its symbols and its length, and the words, the rows and the count stand one behind another.
-use mathlib.Core.Path.{_≡_, ap, _∙_}
+use mathlib.Core.Path.{_≡_, sym, ap, _∙_}
 use mathlib.Core.List.{List, [], _∷_, _++_}
 use Prim.Native.Nat.{ℕ, _+_, _*_, _≤_, _<_}
 use native.Mathlib.Omega.{arith}
 use lib.ListN.{length, take, getD, set, length-append, length-set}
-use lib.Seq.{sets, length-sets, take-all}
+use lib.Seq.{sets, length-sets, paste, take-all}
 use Rattle.code.specs.declared.Word.{Word}
 use Rattle.code.specs.declared.Code.{Code}
 use Rattle.code.specs.Definitions.Operations.{written}
 use Rattle.code.specs.Definitions.Sheets.{limits}
 use Rattle.code.specs.Definitions.Tables.{noWord, noRow}
+use Rattle.copying.specs.Copies.{paste-all}
+use Rattle.copying.specs.Runs.{sets-behind, sets-front}
 use Rattle.table.specs.WellFormed.{WellFormed}
 use Rattle.capi.specs.Image.{wordWidth, rowsPlace, countPlace, imageLength, wordBytes, rowBytes, wordsBytes, rowsBytes, imageOf}
-use Rattle.capi.specs.Stores.{sets-behind, sets-written}
 use Rattle.capi.specs.Blocks.{blocks-length, blocks-next}
 
-pub word-stored : (w : Word) (d d′ : List ℕ) (at : ℕ) → length (w .symbols) ≡ 16 → d′ ≡ sets d at (w .symbols) → set d′ (at + 16) (w .len) ≡ sets d at (wordBytes w)
-word-stored w d d′ at long e = rw e (sets-behind (w .symbols) (w .len ∷ []) d at (at + 16) (omega arith))
+pub word-stored : (w : Word) (d d′ : List ℕ) (at : ℕ) → length (w .symbols) ≡ 16 → at + wordWidth ≤ length d → d′ ≡ paste d at (w .symbols) 16
+    → set d′ (at + 16) (w .len) ≡ sets d at (wordBytes w)
+word-stored w d d′ at long room e =
+    rw (e, paste-all d (w .symbols) at 16 (sym long) (omega arith)) (sets-behind (w .symbols) (w .len ∷ []) d at (at + 16) (omega arith))
 
 module _ {c : Code} (well : WellFormed limits c) where
   pub word-wide : (k : ℕ) → k < length (c .words) → length (wordBytes (getD (c .words) k noWord)) ≡ wordWidth
@@ -33,9 +36,12 @@ module _ {c : Code} (well : WellFormed limits c) where
       → d′ ≡ sets d (k * wordWidth) (wordBytes (getD (c .words) k noWord)) → d′ ≡ sets b 0 (wordsBytes (take (k + 1) (c .words)))
   words-next b d d′ k h e n = n ∙ rw e (blocks-next wordBytes noWord wordWidth (c .words) word-wide b 0 (k * wordWidth) k (omega arith) (omega (arith, well .words)))
 
-  pub rows-next : (b d d′ : List ℕ) (k : ℕ) → k < 32 → d ≡ sets b rowsPlace (rowsBytes (take k (c .rows)))
-      → d′ ≡ sets d (rowsPlace + k * 32) (rowBytes (getD (c .rows) k noRow)) → d′ ≡ sets b rowsPlace (rowsBytes (take (k + 1) (c .rows)))
-  rows-next b d d′ k h e n = n ∙ rw e (blocks-next rowBytes noRow 32 (c .rows) row-wide b rowsPlace (rowsPlace + k * 32) k (omega arith) (omega (arith, well .rows)))
+  pub rows-next : (b d d′ : List ℕ) (k : ℕ) → k < 32 → imageLength ≤ length d → d ≡ sets b rowsPlace (rowsBytes (take k (c .rows)))
+      → d′ ≡ paste d (rowsPlace + k * 32) (rowBytes (getD (c .rows) k noRow)) 32 → d′ ≡ sets b rowsPlace (rowsBytes (take (k + 1) (c .rows)))
+  rows-next b d d′ k h room e n =
+      n
+      ∙ paste-all d (rowBytes (getD (c .rows) k noRow)) (rowsPlace + k * 32) 32 (sym (row-wide k (omega (arith, well .rows)))) (omega arith)
+      ∙ rw e (blocks-next rowBytes noRow 32 (c .rows) row-wide b rowsPlace (rowsPlace + k * 32) k (omega arith) (omega (arith, well .rows)))
 
   pub all-words : (k : ℕ) → 32 ≤ k → take k (c .words) ≡ c .words
   all-words k h = take-all k (c .words) (omega (arith, well .words))
@@ -61,7 +67,7 @@ module _ {c : Code} (well : WellFormed limits c) where
       let rs : List ℕ = rowsBytes (c .rows) in
       let room : length (ws ++ rs ++ (c .count ∷ [])) ≤ length b = omega (arith, length-append (ws ++ rs) (c .count ∷ []), length-both) in
       rw (n, e, sets-behind ws rs b 0 rowsPlace (omega (arith, length-words)))
-      (sets-behind (ws ++ rs) (c .count ∷ []) b 0 countPlace (omega (arith, length-both)) ∙ sets-written (ws ++ rs ++ (c .count ∷ [])) b room)
+      (sets-behind (ws ++ rs) (c .count ∷ []) b 0 countPlace (omega (arith, length-both)) ∙ sets-front (ws ++ rs ++ (c .count ∷ [])) b room)
 
   pub packed-length : (b w r : List ℕ) (v : ℕ) → w ≡ sets b 0 (wordsBytes (c .words)) → r ≡ sets w rowsPlace (rowsBytes (c .rows)) → length (set r countPlace v) ≡ length b
   packed-length b w r v e n =

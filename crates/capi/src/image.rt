@@ -4,6 +4,7 @@
 use code::Code;
 use code::Row;
 use code::Word;
+use copying::copy_at;
 ghost use mathlib.Core.Path.{_≡_};
 ghost use Prim.Native.Nat.{_+_, _≤_};
 ghost use lib.ListN.{length};
@@ -26,25 +27,13 @@ impl Image {
     pub const LENGTH: usize = Image::COUNT + 1;
 }
 
-// Stores bytes from `at` on.
-fn put(bytes: &[u8], table: &mut [u8], at: usize)
-    requires { ⌜ at + length (now bytes) ≤ length (now table) ⌝ }
-    ensures { λ _. ⌜ now (table .exit) ≡ sets (now (table .entry)) at (now (bytes .entry)) ⌝ }
-{
-    let mut i: usize = 0;
-    while i < bytes.len() {
-        table[at + i] = bytes[i];
-        i += 1;
-    }
-}
-
 // Stores a word from `at` on.
 fn put_word(w: Word, table: &mut [u8], at: usize)
     requires { ⌜ (w .len ≤ 255) × (at + wordWidth ≤ length (now table)) ⌝ }
     ensures { λ _. ⌜ now (table .exit) ≡ sets (now (table .entry)) at (wordBytes w) ⌝ }
 {
     let symbols = w.symbols;
-    put(&symbols, table, at);
+    copy_at(table, at, &symbols, Word::SYMBOLS);
     table[at + Word::SYMBOLS] = w.len as u8;
 }
 
@@ -70,7 +59,7 @@ fn put_rows(code: Code, table: &mut [u8])
     while k < Code::WORDS {
         let row = code.rows[k];
         let entries = row.entries;
-        put(&entries, table, Image::ROWS + k * Code::WORDS);
+        copy_at(table, Image::ROWS + k * Code::WORDS, &entries, Code::WORDS);
         k += 1;
     }
 }

@@ -8,4 +8,5 @@ pub mod Sequences
 pub mod Sharing
 pub mod Delays
 pub mod Verdicts
+pub mod Buffers
 pub mod Clean

@@ -4,6 +4,7 @@ use mathlib.Core.Logic.{_⊎_, inl, inr}
 use Prim.Native.Nat.{ℕ, _≤_, _<_}
 use native.Mathlib.Omega.{arith}
 use lib.Dec.{ltb}
+use Rattle.code.specs.Laws.Buffers.{long-enough}
 use Rattle.table.specs.Exactly.{Exactly, exactly-iff, exactly-lt}
 
 -- 01: "A verdict needs a message buffer and two reading buffers of 8,256 entries each, and a working buffer of 16,384 entries."
@@ -36,11 +37,8 @@ module _ {m f g w : ℕ} where
   -- Buffers of which none is too short have room.
   pub has-room : (Short m f g w → ⊥) → Room m f g w
   has-room none = record {
-    message = at-least 8256 m (λ h. none (inl h));
-    first = at-least 8256 f (λ h. none (inr (inl h)));
-    second = at-least 8256 g (λ h. none (inr (inr (inl h))));
-    work = at-least 16384 w (λ h. none (inr (inr (inr h))));
+    message = long-enough 8256 m (λ h. none (inl h));
+    first = long-enough 8256 f (λ h. none (inr (inl h)));
+    second = long-enough 8256 g (λ h. none (inr (inr (inl h))));
+    work = long-enough 16384 w (λ h. none (inr (inr (inr h))));
   }
-    where
-      at-least : (a n : ℕ) → (n < a → ⊥) → a ≤ n
-      at-least a n not-below = omega (arith, not-below)

@@ -6,13 +6,14 @@ use Prim.Native.Nat.{ℕ, _+_, _≤_, _<_, min}
 use native.Mathlib.Decide.{decLt}
 use native.Mathlib.Omega.{arith}
 use lib.ListN.{length, take, getD, length-append}
-use lib.Seq.{length-take-le, take-append-seam, drop-append-add, drop-drop, paste}
+use lib.Seq.{paste}
 use borrow.Author.Tests.{eqb-false, ne-eqb}
 use Rattle.code.specs.declared.Word.{Word}
 use Rattle.code.specs.declared.Code.{Code}
 use Rattle.code.specs.declared.Limits.{Limits}
 use Rattle.code.specs.Definitions.Tables.{symbolsOf, noWord, entryOf, tableOf}
 use Rattle.code.specs.Definitions.Operations.{HasUnknown, HasForbidden, written}
+use Rattle.copying.specs.Copies.{paste-behind}
 use Rattle.table.specs.Exactly.{Exactly, exactly-true, exactly-false}
 use Rattle.table.specs.WellFormed.{WordFits, WellFormed}
 use Rattle.encoding.specs.Messages.{messageOf, message-more, message-all, message-part}
@@ -81,10 +82,6 @@ FollowsAt c s k = entryOf c (getD s (k + 1) 0) (getD s k 0) ≡ 1
 abbrev pub FollowsBelow : Code → List ℕ → ℕ → Type 0
 FollowsBelow c s i = (k : ℕ) → k < i → FollowsAt c s k
 
--- A list pasted behind what is written lengthens it.
-written-more : (m b w : List ℕ) (n : ℕ) → n ≤ length w → paste (written m b) (length m) w n ≡ written (m ++ take n w) b
-written-more m b w n h = rw (take-append-seam, drop-append-add, drop-drop, length-append, length-take-le n w h)
-
 module _ (l : Limits) {c : Code} {s : List ℕ} (known : Known l c s) where
   -- Both words of a pair stand within the array.
   pub known-pair : (i : ℕ) → i + 1 < length s → (getD s i 0 < l .words) × (getD s (i + 1) 0 < l .words)
@@ -116,7 +113,7 @@ module _ (l : Limits) {c : Code} {s : List ℕ} (known : Known l c s) where
   pub write-more : (i at : ℕ) (b m m′ : List ℕ) → i < length s → at ≡ length (messageBelow c s i) → m ≡ written (messageBelow c s i) b
       → m′ ≡ paste m at (wordAt c s i .symbols) (wordAt c s i .len) → m′ ≡ written (messageBelow c s (i + 1)) b
   write-more i at b m m′ h e w p =
-      p ∙ rw (w, e, message-on l known i h) (written-more (messageBelow c s i) b (wordAt c s i .symbols) (wordAt c s i .len) (known-room l known i h))
+      p ∙ rw (w, e, message-on l known i h) (paste-behind (messageBelow c s i) b (wordAt c s i .symbols) (wordAt c s i .len) (known-room l known i h))
 
   pub write-whole : (i : ℕ) (b m : List ℕ) → length s ≤ i → m ≡ written (messageBelow c s i) b → m ≡ written (messageOf c s) b
   write-whole i b m h w = rw (← message-all (tableOf c) s i h) w

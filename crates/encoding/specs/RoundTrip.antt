@@ -7,7 +7,6 @@ use Prim.Native.Nat.{ℕ, _<_}
 use native.Mathlib.Decide.{ℕ-discrete}
 use native.Mathlib.Omega.{arith}
 use lib.ListN.{length, take}
-use lib.Seq.{take-append-seam}
 use Rattle.code.specs.declared.Code.{Code}
 use Rattle.code.specs.declared.Limits.{Limits}
 use Rattle.code.specs.declared.SymbolCount.{SymbolCount}
@@ -22,12 +21,9 @@ use Rattle.code.specs.Definitions.Readings.{Reads, OnlyReading, FirstTwo}
 use Rattle.code.specs.Definitions.Sheets.{FromSheet}
 use Rattle.code.specs.Definitions.Answers.{refusalNumber}
 use Rattle.code.specs.Definitions.Operations.{Condition, Lowest, written, Encodes, refused, encoded, readingConditions, ReadsMessage, unreadable, one, two}
+use Rattle.code.specs.Laws.Buffers.{take-written}
 use Rattle.code.specs.Laws.Orders.{lex-transitive}
 use Rattle.encoding.specs.Permitted.{permitted, permitted-known, permitted-follows}
-
--- A list that was written at the start of a buffer stands there.
-pub take-written : (n : ℕ) (m b b′ : List ℕ) → n ≡ length m → b′ ≡ written m b → take n b′ ≡ m
-take-written n m b b′ e w = rw (e, w, take-append-seam)
 
 -- A condition that does not hold is passed over. Here `Holds` is the condition, `First` that its refusal is the lowest, `Later` that a later one is.
 lowest-after : {Holds First Later : Type 0} → (Holds → ⊥) → (Holds × First) ⊎ ((Holds → ⊥) × Later) → Later

@@ -6,6 +6,7 @@ use code::Message;
 use code::Refusal;
 use code::SymbolCount;
 use code::Word;
+use copying::copy_at;
 ghost use mathlib.Core.Path.{_≡_};
 ghost use Prim.Native.Nat.{_+_, _≤_, min};
 ghost use lib.ListN.{length};
@@ -74,11 +75,8 @@ fn write_word(w: Word, message: &mut [u8], at: usize) -> usize
     requires { ⌜ (w .len ≤ limits .symbols) × (at + w .len ≤ length (now message)) ⌝ }
     ensures { λ r. ⌜ (r ≡ at + w .len) × (now (message .exit) ≡ paste (now (message .entry)) at (w .symbols) (w .len)) ⌝ }
 {
-    let mut k: usize = 0;
-    while k < w.len {
-        message[at + k] = w.symbols[k];
-        k += 1;
-    }
+    let symbols = w.symbols;
+    copy_at(message, at, &symbols, w.len);
     at + w.len
 }
 

@@ -3,12 +3,13 @@
 use code::Code;
 use code::Row;
 use code::Word;
+use copying::copy_at;
 ghost use mathlib.Core.Path.{_≡_};
 ghost use Prim.Native.Nat.{_+_, _≤_, _<_};
 ghost use lib.ListN.{length, getD};
 ghost use Rattle.places.specs.Flat.{Laid, symbolAt, ownerAt, endAt, firstAt, mayFollow, wordCount, onward, pairNode, slotsOf, arcFrom};
 ghost use Rattle.places.specs.Steps.{Arrives, startNode};
-ghost use Rattle.places.specs.Writes.{Written, elements, always};
+ghost use Rattle.places.specs.Writes.{Written, always};
 ghost use Rattle.places.specs.Words.{Room, WordLaid};
 ghost use Rattle.places.specs.Whole.{LaidOut};
 ghost use Rattle.code.specs.Definitions.Sheets.{limits};
@@ -176,18 +177,6 @@ pub fn first_pair(places: &[u8], x: usize, y: usize) -> Pair
     pair_of(places, first_place(places, x), first_place(places, y))
 }
 
-// Writes the first `n` entries of `from` into the list from `at` on.
-fn put(places: &mut [u8], at: usize, from: &[u8], n: usize)
-    requires { ⌜ (at + n ≤ length (now places)) × (n ≤ length (now from)) ⌝ }
-    ensures { λ _. ⌜ Written (now (places .entry)) at n (elements (now (from .entry))) (now (places .exit)) ⌝ }
-{
-    let mut k: usize = 0;
-    while k < n {
-        places[at + k] = from[k];
-        k += 1;
-    }
-}
-
 // Writes `n` entries `v` into the list from `at` on.
 fn fill(places: &mut [u8], at: usize, n: usize, v: u8)
     requires { ⌜ at + n ≤ length (now places) ⌝ }
@@ -208,11 +197,11 @@ fn lay_word(places: &mut [u8], at: usize, x: usize, word: Word, row: Row)
     let len = word.len;
     let symbols = word.symbols;
     let entries = row.entries;
-    put(places, at, &symbols, len);
+    copy_at(places, at, &symbols, len);
     fill(places, Layout::OWNER + at, len, x as u8);
     places[Layout::END + (at + len - 1)] = 1;
     places[Layout::FIRST + x] = at as u8;
-    put(
+    copy_at(
         places,
         Layout::FOLLOW + x * Code::WORDS,
         &entries,

@@ -1,5 +1,6 @@
 // Texts put into a buffer one after another. Each function takes the place to put its text at and gives the place after it.
 
+use copying::copy_at;
 ghost use mathlib.Core.Path.{_≡_};
 ghost use mathlib.Core.List.{[], _∷_, map};
 ghost use Prim.Native.Nat.{_+_, _*_, _≤_, _<_};
@@ -15,12 +16,8 @@ pub fn put(out: &mut [u8], at: usize, bytes: &[u8]) -> usize
     requires { ⌜ at + length (now bytes) ≤ length (now out) ⌝ }
     ensures { λ r. ⌜ Puts at (now (bytes .entry)) (now (out .entry)) (now (out .exit)) r ⌝ }
 {
-    let mut i: usize = 0;
-    while i < bytes.len() {
-        out[at + i] = bytes[i];
-        i += 1;
-    }
-    at + i
+    copy_at(out, at, bytes, bytes.len());
+    at + bytes.len()
 }
 
 // The digit of a symbol, as in a sheet.

@@ -1,19 +1,20 @@
 -- A code laid out word by word and row by row: what was laid before stays, and at the end the lists hold the code's table.
 use mathlib.Core.Path.{_≡_, sym, _∙_, ap}
-use mathlib.Core.List.{List, _++_, append-assoc}
+use mathlib.Core.List.{List}
 use Prim.Native.Nat.{ℕ, zero, suc, _+_, _-_, _*_, _≤_, _<_}
 use native.Mathlib.Nat.{add-zero, add-suc}
 use native.Mathlib.Numerals.{add-one}
 use native.Mathlib.Omega.{arith}
 use borrow.Author.Count.{below-none, below-more}
 use lib.Dec.{eqb}
-use lib.ListN.{length, take, drop, getD, set, length-drop, take-append-drop, List·getD-append}
-use lib.Seq.{paste, length-take-le, take-append-le, drop-append-le, take-at, drop-at, getD-take, getD-drop, getD-set-same, getD-set-other}
+use lib.ListN.{length, getD, set}
+use lib.Seq.{paste, getD-set-same, getD-set-other}
 use Rattle.code.specs.declared.Code.{Code}
 use Rattle.code.specs.Definitions.Lists.{table, sum}
 use Rattle.code.specs.Definitions.Tables.{symbolsOf, noWord, noRow, entryOf, tableOf}
 use Rattle.code.specs.Definitions.Sheets.{limits}
 use Rattle.code.specs.Laws.Lists.{sum-more}
+use Rattle.copying.specs.Copies.{paste-before, paste-here, paste-at-here, paste-at-other}
 use Rattle.table.specs.WellFormed.{lenOf, WellFormed}
 use Rattle.table.specs.Words.{size-count, word-symbols}
 use Rattle.reading.specs.Firsts.{by-order}
@@ -29,30 +30,6 @@ pub record LaidWords (c : Code) (x : ℕ) (symbols base : List ℕ) : Type 0 whe
 -- The first x rows do.
 pub record LaidRows (c : Code) (x : ℕ) (follow : List ℕ) : Type 0 where
   pub rows : (k y : ℕ) → k < x → y < stride → getD follow (k * stride + y) 0 ≡ entryOf c k y
-
--- A stretch of the front does not depend on what comes behind it.
-stretch-front : (a b : List ℕ) (p n : ℕ) → p + n ≤ length a → take n (drop p (a ++ b)) ≡ take n (drop p a)
-stretch-front a b p n h = rw (drop-append-le p a b (omega arith)) (take-append-le n (drop p a) b (rw length-drop (omega arith)))
-
-module _ (d s : List ℕ) (at n : ℕ) (within : at + n ≤ length d) (some : n ≤ length s) where
-  front : length (take at d) ≡ at
-  front = length-take-le at d (omega arith)
-
-  -- A copy leaves the stretches before it as they were, and a stretch in its place is the copied one.
-  pub paste-before : (p k : ℕ) → p + k ≤ at → take k (drop p (paste d at s n)) ≡ take k (drop p d)
-  paste-before p k h = rw append-assoc (stretch-front (take at d) (take n s ++ drop (at + n) d) p k (rw front h))
-      ∙ sym (stretch-front (take at d) (drop at d) p k (rw front h)) ∙ rw (take-append-drop at d)
-
-  pub paste-here : take n (drop at (paste d at s n)) ≡ take n s
-  paste-here = rw (append-assoc, drop-at (take at d) (take n s ++ drop (at + n) d) at front) (take-at (take n s) (drop (at + n) d) n (length-take-le n s some))
-
-  -- The same for single entries.
-  pub paste-at-before : (i : ℕ) → i < at → getD (paste d at s n) i 0 ≡ getD d i 0
-  paste-at-before i h = rw append-assoc (List·getD-append (take at d) (take n s ++ drop (at + n) d) 0 i (rw front h)) ∙ getD-take at d i 0 h
-
-  pub paste-at-here : (i : ℕ) → i < n → getD (paste d at s n) (at + i) 0 ≡ getD s i 0
-  paste-at-here i h = rw (append-assoc, ← getD-drop at (take at d ++ (take n s ++ drop (at + n) d)) i 0, drop-at (take at d) (take n s ++ drop (at + n) d) at front)
-      (List·getD-append (take n s) (drop (at + n) d) 0 i (rw (length-take-le n s some) h) ∙ getD-take n s i 0 h)
 
 -- The total of the first words does not pass that of all.
 sum-front : (f : ℕ → ℕ) (k n : ℕ) → k ≤ n → sum (table f k) ≤ sum (table f n)
@@ -134,7 +111,7 @@ rows-more {c} {x} follow laid long within = record { rows = λ k y h hy. by-orde
     entries = getD (c .rows) x noRow .entries
 
     before : (k y : ℕ) → y < stride → k < x → getD (paste follow (x * stride) entries stride) (k * stride + y) 0 ≡ entryOf c k y
-    before k y hy h = paste-at-before follow entries (x * stride) stride within (omega arith) (k * stride + y) (omega arith) ∙ laid .rows k y h hy
+    before k y hy h = paste-at-other follow entries (x * stride) stride within (omega arith) (k * stride + y) (omega arith) ∙ laid .rows k y h hy
 
     here : (y : ℕ) → y < stride → getD (paste follow (x * stride) entries stride) (x * stride + y) 0 ≡ entryOf c x y
     here y hy = paste-at-here follow entries (x * stride) stride within (omega arith) y hy

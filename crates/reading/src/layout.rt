@@ -1,7 +1,7 @@
 // A code laid out flat: the symbols of all words joined, where each word begins, and the follow matrix row by row.
 
-use crate::copies::copy_at;
 use code::Code;
+use copying::copy_at;
 ghost use Prim.Native.Nat.{_*_, _≤_, _<_};
 ghost use lib.ListN.{length};
 ghost use Rattle.code.specs.Definitions.Tables.{tableOf};

@@ -1,6 +1,5 @@
 // Reading a message: whether no, one or several permitted sequences of words have it, and the first two of them.
 
-mod copies;
 pub mod layout;
 mod marks;
 mod walks;

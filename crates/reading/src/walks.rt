@@ -1,11 +1,11 @@
 // The readings that the marks show: the first, and from the last step where another word could be taken, the second.
 
-use crate::copies::copy_at;
 use crate::marks::continues;
 use crate::marks::seek;
 use code::Reading;
 use code::Refusal;
 use code::WordCount;
+use copying::copy_at;
 ghost use mathlib.Core.Path.{_≡_};
 ghost use Prim.Native.Nat.{_+_, _^_, _≤_, _<_};
 ghost use mathlib.Core.List.{_∷_, _++_};

@@ -4,8 +4,8 @@ use mathlib.Core.List.{List, []}
 use mathlib.Core.Logic.{⊎-elim}
 use Prim.Native.Nat.{ℕ, _≤_}
 use native.Mathlib.Omega.{arith}
-use lib.ListN.{length, take, drop, length-append}
-use lib.Seq.{take-at, length-take-le}
+use lib.ListN.{length, drop, length-append}
+use lib.Seq.{length-take-le}
 use Rattle.io.specs.Counts.{Counts}
 use Rattle.code.specs.declared.Code.{Code}
 use Rattle.code.specs.declared.SymbolCount.{SymbolCount}
@@ -22,6 +22,7 @@ use Rattle.code.specs.Definitions.Readings.{Ambiguous}
 use Rattle.code.specs.Definitions.Answers.{VerdictMeans}
 use Rattle.code.specs.Definitions.Operations.{Lowest, verdictConditions, written, Shown, Judges, refused, judged}
 use Rattle.code.specs.Definitions.Sheets.{limits, taken, FromSheet}
+use Rattle.code.specs.Laws.Buffers.{take-written}
 use Rattle.table.specs.Given.{well}
 use Rattle.places.specs.Codes.{code-fits}
 use Rattle.printing.specs.Printed.{printed}
@@ -44,10 +45,7 @@ pub shows-refused : {t : Taken} {sheet : List ℕ} (m f g : List ℕ) {r : Refus
 shows-refused m f g {r} came answer =
     record { message = []; first = []; second = []; right = rw came at answer; printable = plain (Not-judged r) refl m f g; same = refl }
 
--- the start of a buffer that was written to
-start-of : (x m b : List ℕ) (n : ℕ) → b ≡ written x m → length x ≡ n → take n b ≡ x
-start-of x m b n e h = rw e (take-at x (drop (length x) m) n h)
-
+-- A buffer has room for what was written to it.
 start-within : (x m b : List ℕ) (n : ℕ) → b ≡ written x m → length x ≡ n → n ≤ length b
 start-within x m b n e h = omega (arith, ap length e, length-append x (drop (length x) m))
 
@@ -68,7 +66,7 @@ module _ (sheet : List ℕ) (accepted : taken limits sheet .answer ≡ Accepted)
     shows-ambiguous : (a : SymbolCount) (b k : WordCount) → VerdictMeans (tableOf code) x s u (Two-ways a b k) → Shown m f g m′ f′ g′ x s u (Two-ways a b k)
         → Shows sheet m′ f′ g′ (Judged (Two-ways a b k))
     shows-ambiguous a b k means shown =
-        let m-start = start-of x m m′ (a .0) (shown .0) (means .1) in
+        let m-start = take-written (a .0) x m m′ (sym (means .1)) (shown .0) in
         let m-within = start-within x m m′ (a .0) (shown .0) (means .1) in
         let f-within = start-within s f f′ (b .0) (shown .1) (means .2) in
         let g-within = start-within u g g′ (k .0) (shown .2) (means .3) in
@@ -84,7 +82,7 @@ module _ (sheet : List ℕ) (accepted : taken limits sheet .answer ≡ Accepted)
             symbols = rw m-start (ambiguous-symbols code from-sheet x s u (means .0));
             room = omega arith;
           };
-          same = rw (m-start, start-of s f f′ (b .0) (shown .1) (means .2), start-of u g g′ (k .0) (shown .2) (means .3));
+          same = rw (m-start, take-written (b .0) s f f′ (sym (means .2)) (shown .1), take-written (k .0) u g g′ (sym (means .3)) (shown .2));
         }
 
     shows-verdict : (v : Verdict) → VerdictMeans (tableOf code) x s u v → Shown m f g m′ f′ g′ x s u v → Shows sheet m′ f′ g′ (Judged v)

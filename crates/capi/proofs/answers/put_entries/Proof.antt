@@ -2,8 +2,8 @@
 use mathlib.Core.List.{[], _∷_}
 use native.Mathlib.Omega.{arith}
 use lib.ListN.{length-set}
-use Rattle.capi.specs.Stores.{sets-written}
 use borrow.Author.Needs.{needs}
+use Rattle.copying.specs.Runs.{sets-front}
 use Rattle.capi.proofs.answers.put_entries.Statement.{statement}
 use Rattle.capi.proofs.answers.put_entries.Tie as tie
 
@@ -14,7 +14,7 @@ slice-write-answer-3 : tie.Need-slice-write-answer-3
 slice-write-answer-3 c = simp length-set (omega arith)
 
 returns : tie.Need-returns
-returns c = sets-written (c .args .a ∷ c .args .b ∷ c .args .c ∷ c .args .d ∷ []) (c .args .answer .now) (c .pre)
+returns c = sets-front (c .args .a ∷ c .args .b ∷ c .args .c ∷ c .args .d ∷ []) (c .args .answer .now) (c .pre)
 
 pub put-entries-spec : {M : Type 1} → statement M
 put-entries-spec =

@@ -21,22 +21,22 @@ loop-holds : tie.Need-loop-holds Inv-loop μ-loop
 unfolding flatMap
 loop-holds c = search needs
 
-slice-aggregate-put : tie.Need-slice-aggregate-put Inv-loop μ-loop
-slice-aggregate-put c =
-    let well = c .before .before .before .before .before .before .pre .0 in
-    sym (well .row (c .before .before .before .before .loop .k) (omega arith) .array)
+slice-aggregate-copy-at : tie.Need-slice-aggregate-copy-at Inv-loop μ-loop
+slice-aggregate-copy-at c =
+    let well = c .before .before .before .before .before .before .before .pre .0 in
+    sym (well .row (c .before .before .before .before .before .loop .k) (omega arith) .array)
 
-put-requires : tie.Need-put-requires Inv-loop μ-loop
-put-requires c κs =
+copy-at-requires : tie.Need-copy-at-requires Inv-loop μ-loop
+copy-at-requires c κs =
     let l = c .before .before .before .before .before .loop in
     let well = c .before .before .before .before .before .before .before .pre .0 in
-    omega (arith, well .row (l .k) (omega arith) .array)
+    (omega arith, omega (arith, well .row (l .k) (omega arith) .array))
 
 loop-again : tie.Need-loop-again Inv-loop μ-loop
 loop-again c =
     let l = c .before .before .before .before .before .before .before .before .loop in
     let well = c .before .before .before .before .before .before .before .before .before .before .pre .0 in
-    (omega arith, omega arith, rows-next well _ (l .table) _ (l .k) (omega arith) (l .inv .2) (c .before .before .put .ensures))
+    (omega arith, omega arith, rows-next well _ (l .table) _ (l .k) (omega arith) (omega arith) (l .inv .2) (c .before .before .copy-at .ensures))
 
 returns : tie.Need-returns Inv-loop μ-loop
 returns c =
@@ -52,10 +52,10 @@ put-rows-spec =
     loop-holds
     (λ c. search needs)
     (λ c. search needs)
-    slice-aggregate-put
     (λ c. search needs)
     (λ c. search needs)
-    put-requires
+    slice-aggregate-copy-at
+    copy-at-requires
     (λ c. search needs)
     (λ c. search needs)
     loop-again

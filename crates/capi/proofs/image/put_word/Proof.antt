@@ -7,20 +7,20 @@ use Rattle.capi.specs.Packing.{word-stored}
 use Rattle.capi.proofs.image.put_word.Statement.{statement}
 use Rattle.capi.proofs.image.put_word.Tie as tie
 
-put-requires : tie.Need-put-requires
-put-requires c κs = let long : length (c .before .before .before .before .args .w .symbols) ≡ 16 = search needs in omega arith
+copy-at-requires : tie.Need-copy-at-requires
+copy-at-requires c κs = let long : length (c .before .before .before .before .args .w .symbols) ≡ 16 = search needs in (omega arith, omega arith)
 
 returns : tie.Need-returns
 returns c =
     let a = c .before .before .before .before .before .before .before .before .args in
-    word-stored (a .w) (a .table .now) _ (a .at) (search needs) (c .before .before .before .put .ensures)
+    word-stored (a .w) (a .table .now) _ (a .at) (search needs) (search needs) (c .before .before .before .copy-at .ensures)
 
 pub put-word-spec : {M : Type 1} → statement M
 put-word-spec =
     tie.close
     (tie.spec
     (λ c. search needs)
-    put-requires
+    copy-at-requires
     (λ c. search needs)
     (λ c. search needs)
     (λ c. search needs)

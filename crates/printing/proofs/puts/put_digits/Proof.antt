@@ -5,9 +5,9 @@ use mathlib.Core.Path.{_≡_, refl, sym, _∙_}
 use mathlib.Core.List.{map}
 use Prim.Native.Nat.{_≤_, _-_}
 use lib.ListN.{length, take, length-set, length-map, List·getD-map}
-use lib.Seq.{sets}
+use lib.Seq.{sets, take-all}
+use Rattle.copying.specs.Runs.{sets-next}
 use Rattle.table.specs.Digits.{digitOf}
-use Rattle.printing.specs.Puts.{sets-next, sets-all}
 use Rattle.printing.proofs.puts.put_digits.Statement.{statement}
 use Rattle.printing.proofs.puts.put_digits.Tie as tie
 
@@ -36,7 +36,8 @@ same-length c = c .before .loop .inv .1
 returns : tie.Need-returns Inv-loop μ-loop
 returns c = let l = c .before .loop in
     let m = c .before .before .before .before .args .message .now in
-    sets-all (map digitOf m) _ _ _ (l .i) (omega (arith, length-map m digitOf)) (omega (arith, length-map m digitOf)) (l .inv .2)
+    let long = length-map m digitOf in
+    record { end = omega arith; out = rw (take-all (l .i) (map digitOf m) (omega arith)) at (l .inv .2) }
 
 pub put-digits-spec : {M : Type 1} → statement M
 put-digits-spec =

@@ -1,4 +1,4 @@
--- `copies::copy_at` meets its contract. The loop's invariant: the first `i` entries are copied. The measure is what is left.
+-- `copying::copy_at` meets its contract. The loop's invariant: the first `i` entries are copied. The measure is what is left.
 use Prim.Native.Nat.{_-_, _≤_}
 use borrow.Author.Needs.{needs}
 use lib.ListN.{length, length-set}
@@ -6,8 +6,8 @@ use lib.Seq.{paste, paste-zero, paste-suc}
 use mathlib.Core.Path.{_≡_}
 use native.Mathlib.Numerals.{add-one}
 use native.Mathlib.Omega.{arith}
-use Rattle.reading.proofs.copies.copy_at.Statement.{statement}
-use Rattle.reading.proofs.copies.copy_at.Tie as tie
+use Rattle.copying.proofs.copy_at.Statement.{statement}
+use Rattle.copying.proofs.copy_at.Tie as tie
 
 abbrev Inv-loop : tie.InvT-loop
 Inv-loop to₀ at from count i₀ to i = (i ≤ count) × (length to ≡ length to₀) × (to ≡ paste to₀ at from i)

@@ -1,4 +1,4 @@
-// Copying a stretch of entries.
+// Copying a stretch of bytes from one slice into another.
 
 ghost use mathlib.Core.Path.{_≡_};
 ghost use Prim.Native.Nat.{_+_, _≤_};
