@@ -1,103 +1,56 @@
--- One transition of the search over pairs: what the function promises, and a lemma for each way through it.
+-- One step of the search over pairs: a slot is followed; or a pair is popped, and the one below passes the slot that led to it. A lemma for
+-- each way through the function.
 use mathlib.Core.Path.{_≡_}
 use mathlib.Core.List.{List}
 use Prim.Native.Nat.{ℕ, _+_, _-_, _≤_, _<_}
 use native.Mathlib.Omega.{arith}
-use lib.ListN.{length, getD, set}
+use lib.ListN.{getD, set}
+use lib.Seq.{getD-set-same}
 use Rattle.places.specs.declared.Pair.{Pair}
-use Rattle.places.specs.Flat.{Laid, slotsOf, arcFrom, pairGraph}
-use Rattle.places.specs.Nodes.{slots-few}
-use Rattle.places.specs.Steps.{Arrives}
-use Rattle.graph.specs.Cells.{total-le}
-use Rattle.graph.specs.Graph.{Edge, Endless}
-use Rattle.delay.specs.declared.Progress.{Progress}
-use Rattle.delay.specs.declared.Progress.the-variants.{Depth, Cycle}
-use Rattle.delay.specs.Pairs.{TwoPlaces, nodeOf, arc-of, leads}
-use Rattle.delay.specs.Marks.{stacked, stacked-le}
-use Rattle.delay.specs.State.{State, Stepped, top, top-on, top-inside, has-room, pass, push, pop, cycle}
-use Rattle.delay.specs.Height.{Passed, HeightFound}
+use Rattle.places.specs.Flat.{slotsOf, pairGraph}
+use Rattle.places.specs.Onward.{arc-past}
+use Rattle.delay.specs.declared.Progress.the-variants.{Depth}
+use Rattle.delay.specs.Entries.{heightAt}
+use Rattle.delay.specs.Pairs.{TwoPlaces, nodeOf, arc-of}
+use Rattle.delay.specs.State.{top}
+use Rattle.delay.specs.Transitions.{Stepped, stepped-on, pop, below-next}
+use Rattle.delay.specs.Search.{top-numbers, Searching, Advanced, moved}
+use Rattle.delay.specs.Pass.{Passing, Passed, passed}
+use Rattle.delay.specs.Follow.{Following}
 
--- A search is under way and its stack is not empty. The last five say in numbers what the function's indices and sums rest on.
-pub record Searching (f xs sk : List ℕ) (d : ℕ) : Type 0 where
-  pub laid : Laid f
-  pub state : State (pairGraph f) xs sk d
-  pub some : 1 ≤ d
-  pub deep : d ≤ length sk
-  pub size : length xs ≡ 16384
-  pub node : top sk d < 16384
-  pub met : 1 ≤ getD xs (top sk d) 0
-  pub low : getD xs (top sk d) 0 ≤ 33
-
-pub searching : {f xs sk : List ℕ} {d : ℕ} → Laid f → State (pairGraph f) xs sk d → 1 ≤ d → Searching f xs sk d
-searching {f} {xs} l s some =
-    let o = top-on s some in
+-- The pair p, number u, is on top and has n slots. One of them is left.
+pub following : {f xs sk : List ℕ} {d n u : ℕ} {p : Pair} → Searching f xs sk d → u ≡ top sk d → nodeOf p ≡ u → TwoPlaces p
+    → n ≡ slotsOf f (p .low) (p .high) → getD xs u 0 - 1 < n → Following f xs sk d p (getD xs u 0 - 1)
+following s on e i c l =
     record {
-      laid = l;
-      state = s;
-      some = some;
-      deep = omega (arith, s .stack .room, s .wide, s .marks .size, total-le (stacked (pairGraph f)) xs (stacked-le (pairGraph f)));
-      size = s .marks .size;
-      node = omega (arith, top-inside s some, s .marks .size);
-      met = o .0;
-      low = o .1;
+      searching = s;
+      pair = i;
+      node = cc;
+      slot = rw on (omega (arith, s .numbers .met));
+      within = omega arith;
     }
 
--- A transition of the state; or a cycle is closed, so that there are walks of every length.
-pub data Advanced (f xs xs′ sk′ : List ℕ) : Progress → Type 0 where
-  moved : {d : ℕ} → Stepped (pairGraph f) xs xs′ sk′ d → Advanced f xs xs′ sk′ (Depth d)
-  closed : Endless (pairGraph f) → Advanced f xs xs′ sk′ Cycle
+-- None is left: the pair is finished.
+module _ {f xs xs₁ sk : List ℕ} {d n u : ℕ} {p : Pair} (s : Searching f xs sk d) (m : xs₁ ≡ set xs (top sk d) (heightAt sk (d - 1) + 34))
+    (on : u ≡ top sk d) (e : nodeOf p ≡ u) (i : TwoPlaces p) (c : n ≡ slotsOf f (p .low) (p .high)) (l : n ≤ getD xs u 0 - 1) where
+  nowhere : (j : ℕ) → getD xs (top sk d) 0 - 1 ≤ j → 16384 ≤ pairGraph f .arc (top sk d) j
+  nowhere j k = rw (← on, ← e, arc-of f p i j, arc-past f (p .low) (p .high) j (omega (arith, rw on at l))) (omega arith)
 
--- The pair p is on top and has n slots.
-module _ {f xs sk : List ℕ} {d n : ℕ} {p : Pair} (s : Searching f xs sk d) (i : TwoPlaces p) (e : nodeOf p ≡ top sk d)
-    (c : n ≡ slotsOf f (p .low) (p .high)) where
-  -- No slot is left: the height of the pair can be worked out, and the pair is finished.
-  pub all-passed : n ≤ getD xs (top sk d) 0 - 1 → Passed f xs p
-  all-passed h =
-      record {
-        laid = s .laid;
-        pair = i;
-        marks = s .state .marks;
-        size = s .size;
-        slots = λ j l a.
-            rw (← arc-of f p i j, e) (s .state .marks .passed (top sk d) j (s .low) (omega (arith, s .met)) (rw (← e, arc-of f p i j) a));
-      }
+  popped : Stepped (pairGraph f) xs xs₁ sk (d - 1)
+  popped = rw m (pop (s .state) (s .numbers .some) nowhere)
 
-  pub advance-pop : {h : ℕ} → HeightFound f xs p h → Advanced f xs (set xs (top sk d) (h + 34)) sk (Depth (d - 1))
-  advance-pop {h} t = moved (pop (s .state) (s .some) h (rw e at (t .height)) (t .low))
+  -- It was the last on the stack.
+  pub advance-last : Advanced f xs xs₁ sk (Depth (d - 1))
+  advance-last = moved popped
 
-  -- A slot is left.
-  module _ {next : Pair} (l : getD xs (top sk d) 0 - 1 < n) (a : Arrives (arcFrom f (p .low) (p .high) (getD xs (top sk d) 0 - 1)) next) where
-    low-mark : getD xs (top sk d) 0 ≤ 32
-    low-mark = omega (arith, slots-few (s .laid) (p .low) (p .high), s .met)
+  -- The pair below passes the slot that led to it.
+  done : 34 ≤ getD xs₁ u 0
+  done = rw (m, on, getD-set-same xs (top sk d) (heightAt sk (d - 1) + 34) 0 (omega (arith, s .numbers .node, s .numbers .size))) (omega arith)
 
-    target : nodeOf next ≡ pairGraph f .arc (top sk d) (getD xs (top sk d) 0 - 1)
-    target = rw e at (leads f (getD xs (top sk d) 0 - 1) i a)
+  pub advance-below : (d - 1 ≡ 0 → ⊥) → Passing xs₁ sk (d - 1) u
+  advance-below more = record { numbers = top-numbers f (popped .state) (omega arith); node = omega (arith, s .numbers .node); done = done }
 
-    -- It leads nowhere.
-    pub advance-nowhere : 128 ≤ next .low → Advanced f xs (set xs (top sk d) (getD xs (top sk d) 0 + 1)) sk (Depth d)
-    advance-nowhere h = moved (pass (s .state) (s .some) low-mark (λ q. absurd (omega (arith, target))))
-
-    module _ {m : ℕ} (h : next .low < 128) (w : m ≡ nodeOf next) where
-      edge : Edge (pairGraph f) (top sk d) m
-      edge =
-          record {
-            slot = getD xs (top sk d) 0 - 1;
-            within = omega (arith, low-mark, s .met);
-            leads = cc (w, target);
-            node = omega (arith, a .high);
-          }
-
-      -- It leads to a finished pair.
-      pub advance-pass : 34 ≤ getD xs m 0 → Advanced f xs (set xs (top sk d) (getD xs (top sk d) 0 + 1)) sk (Depth d)
-      advance-pass q = moved (pass (s .state) (s .some) low-mark (λ _. rw (← target, ← w) q))
-
-      -- It leads to a pair not met before, for which there is room on the stack.
-      pub advance-room : getD xs m 0 ≡ 0 → d < length sk
-      advance-room q = has-room (s .state) m (edge .node) q
-
-      pub advance-push : getD xs m 0 ≡ 0 → Advanced f xs (set xs m 1) (set sk d m) (Depth (d + 1))
-      advance-push q = moved (push (s .state) (s .some) m edge q)
-
-      -- It leads to a pair on the stack.
-      pub advance-cycle : {xs′ sk′ : List ℕ} → (getD xs m 0 ≡ 0 → ⊥) → getD xs m 0 < 34 → Advanced f xs xs′ sk′ Cycle
-      advance-cycle q r = closed (cycle (s .state) (s .some) m edge (omega arith, omega arith))
+  pub advance-pop : {xs′ sk′ : List ℕ} → (d - 1 ≡ 0 → ⊥) → Passed xs₁ sk (d - 1) u xs′ sk′ → Advanced f xs xs′ sk′ (Depth (d - 1))
+  advance-pop more r =
+      let led = below-next (s .state) (s .numbers .some) (omega arith) (heightAt sk (d - 1) + 34) in
+      moved (stepped-on popped (passed f (popped .state) (omega arith) (rw (m, on) led) done r))

@@ -12,10 +12,12 @@ use Rattle.graph.specs.Heights.{Height}
 use Rattle.delay.specs.declared.Extent.the-variants.{Finite, Unbounded}
 use Rattle.delay.specs.declared.Progress.{Progress}
 use Rattle.delay.specs.declared.Progress.the-variants.{Depth, Cycle}
+use Rattle.delay.specs.Entries.{node-alone, height-alone}
 use Rattle.delay.specs.Answer.{Answer, finite, unbounded}
 use Rattle.delay.specs.Marks.{finished, left}
-use Rattle.delay.specs.State.{Idle, State, Stepped, begun, ended, all-finished}
-use Rattle.delay.specs.Advance.{Advanced, moved, closed}
+use Rattle.delay.specs.State.{Idle, State, begun, ended, all-finished}
+use Rattle.delay.specs.Transitions.{Stepped}
+use Rattle.delay.specs.Search.{Advanced, moved, closed}
 
 -- No search is under way; v is a root.
 pub record AtRoot (f xs sk : List ℕ) (v : ℕ) : Type 0 where
@@ -48,7 +50,7 @@ running {xs = xs} {sk = sk} {v = v} r new e s =
     rw (e, s)
     record {
       laid = r .laid;
-      state = begun (r .idle) sk v (r .wide) (r .node) (r .root) new;
+      state = begun (r .idle) sk v v (node-alone v (r .node)) (height-alone v (r .node)) (r .wide) (r .node) (r .root) new;
       met = rw (getD-set-same xs v 1 0 (omega (arith, r .size, r .node))) (omega arith);
       node = r .node;
       size = simp length-set (r .size);

@@ -1,12 +1,13 @@
 -- What `longest` asks and what its answer means; how its loop begins and ends.
-use mathlib.Core.Path.{_≡_, refl}
+use mathlib.Core.Path.{_≡_}
 use mathlib.Core.List.{List}
-use Prim.Native.Nat.{ℕ, zero, suc, _≤_}
+use Prim.Native.Nat.{ℕ, _≤_}
 use native.Mathlib.Omega.{arith}
-use lib.ListN.{length, getD, replicate, length-replicate}
+use lib.ListN.{length, replicate, length-replicate}
 use Rattle.places.specs.Flat.{Laid, wordCount, pairGraph}
 use Rattle.places.specs.Roots.{Numbered}
 use Rattle.graph.specs.Graph.{Graph, Longest, Endless}
+use Rattle.graph.specs.Cells.{zeros}
 use Rattle.delay.specs.declared.Extent.{Extent}
 use Rattle.delay.specs.declared.Extent.the-variants.{Finite, Unbounded}
 use Rattle.delay.specs.Answer.{Answer, finite, unbounded, was-finite}
@@ -38,11 +39,6 @@ pub extent-unbounded : {f : List ℕ} {t : Extent} → ExtentOf f t → t ≡ Un
 extent-unbounded (finite p) q = let z : _≡_ {A = ℕ} 0 1 = cc in absurd (omega arith)
 extent-unbounded (unbounded u) q = u
 
-clear-mark : (n v : ℕ) → _≡_ {A = ℕ} (getD (replicate n 0) v 0) 0
-clear-mark zero v = refl
-clear-mark (suc n) zero = refl
-clear-mark (suc n) (suc v) = clear-mark n v
-
 -- Clear marks are right: no node is met.
 clear-idle : (g : Graph) (xs : List ℕ) → xs ≡ replicate (g .nodes) 0 → Idle g xs
 clear-idle g xs e =
@@ -50,12 +46,11 @@ clear-idle g xs e =
     record {
       marks = record {
         size = length-replicate (g .nodes) 0;
-        reached = λ v h. absurd (omega (arith, clear-mark (g .nodes) v));
-        passed = λ v i h l. absurd (omega (arith, clear-mark (g .nodes) v));
-        height = λ v h. absurd (omega (arith, clear-mark (g .nodes) v));
-        low = λ v h. absurd (omega (arith, clear-mark (g .nodes) v));
+        reached = λ v h. absurd (omega (arith, zeros (g .nodes) v));
+        height = λ v h. absurd (omega (arith, zeros (g .nodes) v));
+        low = λ v h. absurd (omega (arith, zeros (g .nodes) v));
       };
-      none = λ v o. omega (arith, o .0, clear-mark (g .nodes) v);
+      none = λ v o. omega (arith, o .0, zeros (g .nodes) v);
     }
 
 -- No first pair is counted yet.

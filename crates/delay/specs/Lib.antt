@@ -1,10 +1,15 @@
+pub mod Entries
 pub mod Marks
 pub mod Stack
+pub mod Height
 pub mod State
+pub mod Transitions
 pub mod Bound
 pub mod Pairs
 pub mod Answer
-pub mod Height
+pub mod Search
+pub mod Pass
+pub mod Follow
 pub mod Advance
 pub mod Explore
 pub mod Roots

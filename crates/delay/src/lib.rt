@@ -1,16 +1,18 @@
 // The longest walk over the pairs of a code, from which its delay follows: a depth-first search with heights. Every pair has a mark and,
-// while the search goes through its successors, an entry on the stack; the caller lends both buffers. A slot of a pair is looked up at most
-// three times: when it is reached, when the search returns from where it leads, and for the height.
+// while the search goes through its successors, an entry on the stack; the caller lends both buffers. Each slot of a pair is looked up once:
+// what it adds to the height is kept on the entry.
 
 use places::Layout;
 use places::Pair;
 ghost use mathlib.Core.Path.{_≡_};
-ghost use Prim.Native.Nat.{_+_, _-_, _≤_, _<_};
+ghost use Prim.Native.Nat.{_+_, _-_, _^_, _≤_, _<_, max};
 ghost use lib.ListN.{length, getD, set};
-ghost use Rattle.places.specs.Flat.{slotsOf};
 ghost use Rattle.delay.specs.Pairs.{TwoPlaces, nodeOf};
-ghost use Rattle.delay.specs.Height.{Passed, HeightSoFar, HeightFound};
-ghost use Rattle.delay.specs.Advance.{Searching, Advanced};
+ghost use Rattle.delay.specs.Entries.{entryOf, nodeIn, heightIn, heightAt};
+ghost use Rattle.delay.specs.State.{top};
+ghost use Rattle.delay.specs.Search.{Top, Searching, Advanced};
+ghost use Rattle.delay.specs.Pass.{Passing, Passed};
+ghost use Rattle.delay.specs.Follow.{Following};
 ghost use Rattle.delay.specs.Explore.{AtRoot, Running, Explored};
 ghost use Rattle.delay.specs.Answer.{Answer};
 ghost use Rattle.delay.specs.Visit.{Counting, Visiting};
@@ -36,7 +38,7 @@ impl Mark {
     const FINISHED: u16 = 34;
 }
 
-// The number of a pair: its entry on the stack, and the index of its mark.
+// The number of a pair: the index of its mark, and its entry on the stack while its height is 0.
 fn pack(pair: Pair) -> usize
     requires { ⌜ TwoPlaces pair ⌝ }
     ensures { λ r. ⌜ r ≡ nodeOf pair ⌝ }
@@ -64,55 +66,72 @@ fn height_at(marks: &[u16], node: usize) -> usize
     (marks[node] - Mark::FINISHED) as usize
 }
 
-// The height of a pair through its slots up to `slot`, from its height through those before.
-fn height_with(places: &[u8], marks: &[u16], pair: Pair, slot: usize, height: usize) -> usize
-    requires { ⌜ Passed (now places) (now marks) pair × (slot < slotsOf (now places) (pair .low) (pair .high)) × HeightSoFar (now places) (now marks) pair slot height ⌝ }
-    ensures { λ r. ⌜ HeightSoFar (now (places .entry)) (now (marks .entry)) pair (slot + 1) r ⌝ }
+// The entry of a pair on the stack: its number in the lowest 14 bits, and above them its height through the slots passed.
+fn entry_of(node: usize, height: usize) -> u64
+    requires { ⌜ (node < 16384) × (height < 2 ^ 50) ⌝ }
+    ensures { λ r. ⌜ r ≡ entryOf node height ⌝ }
 {
-    let next = places::successor(places, pair.low, pair.high, slot);
-    if Layout::PLACES <= next.low {
-        return height;
-    }
-    let below = height_at(marks, pack(next));
-    if height <= below {
-        return below + 1;
-    }
-    height
+    ((height << 14) + node) as u64
 }
 
-// The height of a pair whose successors are all finished.
-fn height_of(places: &[u8], marks: &[u16], pair: Pair) -> usize
-    requires { ⌜ Passed (now places) (now marks) pair ⌝ }
-    ensures { λ r. ⌜ HeightFound (now (places .entry)) (now (marks .entry)) pair r ⌝ }
+// The number of a pair, from its entry.
+fn node_in(entry: u64) -> usize
+    ensures { λ r. ⌜ (r ≡ nodeIn entry) × (r < 16384) ⌝ }
 {
-    let count = places::slots(places, pair.low, pair.high);
-    let mut height: usize = 0;
-    let mut slot: usize = 0;
-    while slot < count {
-        height = height_with(places, marks, pair, slot, height);
-        slot += 1;
-    }
-    height
+    (entry - ((entry >> 14) << 14)) as usize
 }
 
-// One transition. The next slot of the pair on top is passed, or leads to a pair that is pushed; with no slot left the pair is finished
-// and popped.
-fn advance(places: &[u8], marks: &mut [u16], stack: &mut [u64], depth: usize) -> Progress
-    requires { ⌜ Searching (now places) (now marks) (now stack) depth ⌝ }
+// The height of a pair through the slots passed, from its entry.
+fn height_in(entry: u64) -> usize
+    ensures { λ r. ⌜ (r ≡ heightIn entry) × (r < 2 ^ 50) ⌝ }
+{
+    (entry >> 14) as usize
+}
+
+// The greater of two heights.
+fn greater(a: usize, b: usize) -> usize
+    ensures { λ r. ⌜ r ≡ max a b ⌝ }
+{
+    if a < b { b } else { a }
+}
+
+// Finishes the pair on top: from now on its mark has the height on its entry.
+fn finish(marks: &mut [u16], stack: &[u64], depth: usize)
+    requires { ⌜ Top (now marks) (now stack) depth ⌝ }
+    ensures { λ _. ⌜ now (marks .exit) ≡ set (now (marks .entry)) (top (now (stack .entry)) depth) (heightAt (now (stack .entry)) (depth - 1) + 34) ⌝ }
+{
+    let entry = stack[depth - 1];
+    marks[node_in(entry)] = height_in(entry) as u16 + Mark::FINISHED;
+}
+
+// Passes the next slot of the pair on top, which leads to the finished pair `target`.
+fn pass(marks: &mut [u16], stack: &mut [u64], depth: usize, target: usize)
+    requires { ⌜ Passing (now marks) (now stack) depth target ⌝ }
+    ensures { λ _. ⌜ Passed (now (marks .entry)) (now (stack .entry)) depth target (now (marks .exit)) (now (stack .exit)) ⌝ }
+{
+    let entry = stack[depth - 1];
+    let node = node_in(entry);
+    let height = greater(height_in(entry), height_at(marks, target) + 1);
+    marks[node] = marks[node] + 1;
+    stack[depth - 1] = entry_of(node, height);
+}
+
+// Follows the next slot of the pair on top: it is passed, or leads to a pair that is pushed.
+fn follow(
+    places: &[u8],
+    marks: &mut [u16],
+    stack: &mut [u64],
+    depth: usize,
+    pair: Pair,
+    slot: usize,
+) -> Progress
+    requires { ⌜ Following (now places) (now marks) (now stack) depth pair slot ⌝ }
     ensures { λ r. ⌜ Advanced (now (places .entry)) (now (marks .entry)) (now (marks .exit)) (now (stack .exit)) r ⌝ }
 {
-    let node = stack[depth - 1] as usize;
-    let pair = unpack(node);
-    let mark = marks[node];
-    let slot = mark as usize - 1;
-    if places::slots(places, pair.low, pair.high) <= slot {
-        let height = height_of(places, marks, pair);
-        marks[node] = height as u16 + Mark::FINISHED;
-        return Progress::Depth(depth - 1);
-    }
     let next = places::successor(places, pair.low, pair.high, slot);
     if Layout::PLACES <= next.low {
-        marks[node] = mark + 1;
+        let node = pack(pair);
+        marks[node] = marks[node] + 1;
         return Progress::Depth(depth);
     }
     let target = pack(next);
@@ -124,8 +143,29 @@ fn advance(places: &[u8], marks: &mut [u16], stack: &mut [u64], depth: usize) ->
     if marks[target] < Mark::FINISHED {
         return Progress::Cycle;
     }
-    marks[node] = mark + 1;
+    pass(marks, stack, depth, target);
     Progress::Depth(depth)
+}
+
+// One transition: the next slot of the pair on top is followed. With no slot left the pair is finished and popped, and the pair below
+// passes the slot that led to it.
+fn advance(places: &[u8], marks: &mut [u16], stack: &mut [u64], depth: usize) -> Progress
+    requires { ⌜ Searching (now places) (now marks) (now stack) depth ⌝ }
+    ensures { λ r. ⌜ Advanced (now (places .entry)) (now (marks .entry)) (now (marks .exit)) (now (stack .exit)) r ⌝ }
+{
+    let rest = depth - 1;
+    let node = node_in(stack[rest]);
+    let pair = unpack(node);
+    let slot = marks[node] as usize - 1;
+    if slot < places::slots(places, pair.low, pair.high) {
+        return follow(places, marks, stack, depth, pair, slot);
+    }
+    finish(marks, stack, depth);
+    if rest == 0 {
+        return Progress::Depth(rest);
+    }
+    pass(marks, stack, rest, node);
+    Progress::Depth(rest)
 }
 
 // Puts a root on the empty stack.

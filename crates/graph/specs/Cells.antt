@@ -1,11 +1,11 @@
 -- Lists of numbers as rows of cells: what holds of every cell after one store, and sums over the cells.
-use mathlib.Core.Path.{_≡_}
+use mathlib.Core.Path.{_≡_, refl}
 use mathlib.Core.List.{List, [], _∷_}
 use Prim.Native.Nat.{ℕ, zero, suc, _+_, _≤_, _<_, zero-le}
 use native.Mathlib.Nat.{le-of-suc-le-suc}
 use native.Mathlib.Decide.{ℕ-discrete, decLt}
 use native.Mathlib.Omega.{arith}
-use lib.ListN.{length, getD, set, List·getD-eq-default}
+use lib.ListN.{length, getD, set, replicate, List·getD-eq-default}
 use lib.Seq.{getD-set-same, getD-set-other}
 
 -- What holds of the value stored, and of every other cell before the store, holds of every cell after it.
@@ -16,6 +16,17 @@ on-set xs i y h P new old j = go (ℕ-discrete j i)
     go : Dec (j ≡ i) → P j (getD (set xs i y) j 0)
     go (yes e) = rw e (rw (getD-set-same xs i y 0 h) new)
     go (no ne) = rw (getD-set-other xs i j y 0 ne) (old j ne)
+
+-- What holds of the value stored in cell n, and of the cells below it, holds of all up to n.
+pub on-push : (xs : List ℕ) (n y : ℕ) → n < length xs → (P : ℕ → ℕ → Type 0) → P n y → ((i : ℕ) → i < n → P i (getD xs i 0))
+    → (i : ℕ) → i < n + 1 → P i (getD (set xs n y) i 0)
+on-push xs n y h P new old = on-set xs n y h (λ i x. i < n + 1 → P i x) (λ _. new) (λ i ne l. old i (omega arith))
+
+-- Every cell of a list of zeros is 0, also past its end.
+pub zeros : (n i : ℕ) → _≡_ {A = ℕ} (getD (replicate n 0) i 0) 0
+zeros zero i = refl
+zeros (suc n) zero = refl
+zeros (suc n) (suc i) = zeros n i
 
 -- A cell that is not 0 stands in the list.
 pub inside : (xs : List ℕ) (i : ℕ) → 1 ≤ getD xs i 0 → i < length xs

@@ -2,7 +2,7 @@
 -- the heights of the roots.
 use mathlib.Core.Path.{_≡_, refl}
 use mathlib.Core.Bool.{true}
-use Prim.Native.Nat.{ℕ, zero, suc, _+_, _≤_, _<_, zero-le}
+use Prim.Native.Nat.{ℕ, zero, suc, _+_, _≤_, _<_, max, zero-le}
 use native.Mathlib.Decide.{decLt}
 use native.Mathlib.Omega.{arith}
 use borrow.Author.Count.{below-more}
@@ -31,19 +31,20 @@ module _ {g : Graph} where
   pub up-to-nowhere : {v j h : ℕ} → HeightUpTo g v j h → g .nodes ≤ g .arc v j → HeightUpTo g v (j + 1) h
   up-to-nowhere {v} {j} {h} t l = record { some = t .some; none = below-more (NoneThrough g v h) j (t .none) (λ n. absurd (omega arith)) }
 
-  -- Nor does a successor of a height below h.
-  pub up-to-lower : {v j h : ℕ} (k : ℕ) → HeightUpTo g v j h → Height g (g .arc v j) k → k < h → HeightUpTo g v (j + 1) h
-  up-to-lower {v} {j} {h} k t e l =
-      record { some = t .some; none = below-more (NoneThrough g v h) j (t .none) (λ _ p. e .none (shorter (suc k) l p)) }
-
-  -- Any other successor leaves v one higher than itself.
-  pub up-to-higher : {v j h : ℕ} (k : ℕ) → HeightUpTo g v j h → j < g .slots → g .arc v j < g .nodes → Height g (g .arc v j) k → h ≤ k
-      → HeightUpTo g v (j + 1) (suc k)
-  up-to-higher {v} {j} {h} k t s n e l =
+  -- A successor of height k leaves v at least one higher than itself.
+  pub up-to-edge : {v j h : ℕ} (k : ℕ) → HeightUpTo g v j h → j < g .slots → g .arc v j < g .nodes → Height g (g .arc v j) k
+      → HeightUpTo g v (j + 1) (max h (k + 1))
+  up-to-edge {v} {j} {h} k t s n e =
       record {
-        some = along (record { slot = j; within = s; leads = refl; node = n }) (e .some);
-        none = below-more (NoneThrough g v (suc k)) j (λ i q m p. t .none i q m (shorter h (omega arith) p)) (λ _. e .none);
+        some = go (decLt k h);
+        none =
+            below-more (NoneThrough g v (max h (k + 1))) j (λ i q m p. t .none i q m (shorter h (omega arith) p))
+            (λ _ p. e .none (shorter (suc k) (omega arith) p));
       }
+    where
+      go : Dec (k < h) → PathFrom g (max h (k + 1)) v
+      go (yes l) = let z : max h (k + 1) ≡ h = omega arith in rw z (t .some)
+      go (no l) = let z : max h (k + 1) ≡ suc k = omega arith in rw z (along (record { slot = j; within = s; leads = refl; node = n }) (e .some))
 
   no-edge : {v w j h : ℕ} → HeightUpTo g v j h → ((i : ℕ) → j ≤ i → g .nodes ≤ g .arc v i) → Edge g v w → PathFrom g h w → ⊥
   no-edge {j = j} t far s p = go (decLt (s .slot) j)
