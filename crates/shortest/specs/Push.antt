@@ -8,7 +8,7 @@ use native.Mathlib.Omega.{arith}
 use lib.ListN.{length, getD, set, length-set}
 use lib.Seq.{getD-set-same, getD-set-other}
 use Rattle.graph.specs.Graph.{Graph}
-use Rattle.graph.specs.Cells.{on-set, total, total-set}
+use Rattle.graph.specs.Cells.{on-set, on-push, total, total-set}
 use Rattle.shortest.specs.Links.{Link, link-node}
 use Rattle.shortest.specs.Entries.{nodeOf, fromOf, nodeAt, fromAt}
 use Rattle.shortest.specs.Queue.{mark, key, Queued, Met, Origin, Queue, IsGroup, Stage, from-early}
@@ -16,11 +16,6 @@ use Rattle.shortest.specs.Queue.{mark, key, Queued, Met, Origin, Queue, 
 -- A store at the queue's tail leaves the entries before it.
 pub entry-old : (q : List ℕ) (tail e i : ℕ) → i < tail → getD (set q tail e) i 0 ≡ getD q i 0
 entry-old q tail e i h = getD-set-other q tail i e 0 (λ z. omega arith)
-
--- What holds of the old entries and of the new one holds of all.
-on-push : (q : List ℕ) (tail e : ℕ) → tail < length q → (P : ℕ → ℕ → Type 0) → P tail e → ((i : ℕ) → i < tail → P i (getD q i 0))
-    → (i : ℕ) → i < tail + 1 → P i (getD (set q tail e) i 0)
-on-push q tail e h P p r = on-set q tail e h (λ i x. i < tail + 1 → P i x) (λ l. p) (λ i ne l. r i (omega arith))
 
 pub met-old : (q : List ℕ) (tail e : ℕ) {i w : ℕ} → Met q tail i w → Met (set q tail e) (tail + 1) i w
 met-old q tail e m =

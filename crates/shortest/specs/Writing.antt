@@ -2,11 +2,11 @@
 use mathlib.Core.Path.{_≡_, refl, ap, _∙_}
 use mathlib.Core.List.{List, _∷_, _++_, append-assoc, reverse, reverse-cons}
 use Prim.Native.Nat.{ℕ, suc, _+_, _-_, _≤_, _<_}
-use native.Mathlib.Decide.{decLt}
 use native.Mathlib.Numerals.{add-one}
 use native.Mathlib.Omega.{arith}
-use lib.ListN.{length, getD, drop, set, replicate, length-set, length-reverse, length-replicate, getD-replicate, List·getD-eq-default}
+use lib.ListN.{length, getD, drop, set, replicate, length-set, length-reverse, length-replicate}
 use lib.Seq.{drop-cons, drop-set-lt, getD-set-same}
+use Rattle.graph.specs.Cells.{zeros}
 use Rattle.graph.specs.Goals.{NoGoal}
 use Rattle.places.specs.declared.Pair.{Pair}
 use Rattle.places.specs.Flat.{Laid, pairGraph}
@@ -58,13 +58,6 @@ module _ {f q : List ℕ} {a t : ℕ} (m : GoalNext f q a t) where
       }
 
 -- What `shortest` starts from.
-zeros : (n v : ℕ) → _≡_ {A = ℕ} (getD (replicate n 0) v 0) 0
-zeros n v = go (decLt v n)
-  where
-    go : Dec (v < n) → _≡_ {A = ℕ} (getD (replicate n 0) v 0) 0
-    go (yes l) = getD-replicate n v 0 0 l
-    go (no h) = List·getD-eq-default {A = ℕ} (replicate n 0) 0 (let e = length-replicate {A = ℕ} n 0 in omega arith)
-
 pub seeded : (q : List ℕ) {e : ℕ} → 16384 ≤ length q → e ≡ entryOf 0 16384 → Seeded (set q 0 e)
 seeded q {e} l d =
     record {
