@@ -7,7 +7,6 @@ use Rattle.code.specs.declared.Code.{Code}
 use Rattle.code.specs.declared.Verdict.{Verdict}
 use Rattle.code.specs.Definitions.Answers.{VerdictMeans}
 use Rattle.code.specs.Definitions.Operations.{zeroed, Shown}
-use Rattle.code.specs.Definitions.Sheets.{limits}
 use Rattle.code.specs.Definitions.Tables.{tableOf}
 use Rattle.pairs.specs.Searches.{shows}
 use Rattle.places.specs.Whole.{LaidOut}

@@ -8,7 +8,7 @@ use borrow.Author.Count.{below-more}
 use lib.ListN.{getD}
 use Rattle.graph.specs.Graph.{Graph}
 use Rattle.places.specs.declared.Pair.{Pair}
-use Rattle.places.specs.Flat.{Laid, pairGraph}
+use Rattle.places.specs.Flat.{Laid}
 use Rattle.places.specs.Roots.{Numbered}
 use Rattle.shortest.specs.declared.Progress.{Progress}
 use Rattle.shortest.specs.declared.Progress.the-variants.{Tail}

@@ -132,9 +132,6 @@ module _ {t : Table} where
     right = h .left;
   }
 
-  pub first-swap : {p q : Place} → FirstPair t p q → FirstPair t q p
-  first-swap f = one-symbol .0 (compatible-swap (one-symbol .1 (f, refl))) .0
-
   pub common-swap : {p q p′ q′ : Place} → CommonStep t p q p′ q′ → CommonStep t q p q′ p′
   common-swap h = record { left = h .right; right = h .left; same = sym (h .same) }
 
