@@ -1,5 +1,6 @@
 // The lent buffers: what they hold before, and whether they hold it after.
 
+use code::Message;
 use libc::STDOUT_FILENO;
 
 // What every entry of a lent buffer holds before. No symbol and no word has this number.
@@ -8,25 +9,13 @@ pub const BEFORE: u8 = 200;
 pub const WORK_BEFORE: u64 = 200;
 
 // The greatest length that a buffer can be lent at: some more than the longest message needs.
-pub const ROOM: usize = 16400;
+pub const ROOM: usize = Message::SYMBOLS + 16;
 
 // Whether all entries from `from` on hold what they held before.
 pub fn is_kept(buffer: &[u8], from: usize) -> bool {
     let mut i = from;
     while i < buffer.len() {
         if buffer[i] != BEFORE {
-            return false;
-        }
-        i += 1;
-    }
-    true
-}
-
-// Whether all entries are `value`.
-fn is_all(work: &[u64], value: u64) -> bool {
-    let mut i: usize = 0;
-    while i < work.len() {
-        if work[i] != value {
             return false;
         }
         i += 1;
@@ -45,11 +34,11 @@ pub fn write_kept(kept: bool) {
 
 // Writes what became of the working buffer.
 pub fn write_work(work: &[u64]) {
-    if is_all(work, WORK_BEFORE) {
+    if trying::is_all(work, WORK_BEFORE) {
         io::write_all(STDOUT_FILENO, b"; work kept");
         return;
     }
-    if is_all(work, 0) {
+    if trying::is_all(work, 0) {
         io::write_all(STDOUT_FILENO, b"; work zero");
         return;
     }

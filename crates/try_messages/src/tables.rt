@@ -3,6 +3,7 @@
 use crate::fields;
 use code::Code;
 use code::Row;
+use code::Sheet;
 use code::Word;
 ghost use Prim.Native.Nat.{_<_};
 
@@ -13,15 +14,8 @@ fn from_sheet(sheet: &[u8]) -> Code {
 
 // The table of the sheet in a file.
 fn from_file(path: &[u8]) -> Code {
-    let file = os::open_read(path);
-    if file < 0 {
-        os::fail(path);
-        return from_sheet(b"");
-    }
-    // one byte more than a sheet may have
-    let mut bytes = [0u8; 4097];
-    let n = io::read_full(file, &mut bytes);
-    libc::close(file);
+    let mut bytes = [0u8; Sheet::BYTES + 1];
+    let n = trying::read_file(path, &mut bytes);
     from_sheet(&bytes[..n])
 }
 

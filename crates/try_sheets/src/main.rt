@@ -2,6 +2,7 @@
 // digits with its row.
 use code::Code;
 use code::Row;
+use code::Sheet;
 use code::SheetAnswer;
 use code::Word;
 use libc::STDOUT_FILENO;
@@ -10,7 +11,7 @@ ghost use Prim.Native.Nat.{_<_};
 const DIGITS: [u8; 16] = *b"0123456789ABCDEF";
 
 fn digit(symbol: u8) -> u8 {
-    if symbol < 16 {
+    if symbol < Word::ALPHABET {
         let at = symbol as usize;
         return DIGITS[at];
     }
@@ -75,15 +76,8 @@ fn write_answer(sheet: &[u8]) {
 fn try_file(path: &[u8]) {
     io::write_all(STDOUT_FILENO, path);
     io::write_all(STDOUT_FILENO, b": ");
-    let file = os::open_read(path);
-    if file < 0 {
-        os::fail(path);
-        return;
-    }
-    // one byte more than a sheet may have
-    let mut bytes = [0u8; 4097];
-    let n = io::read_full(file, &mut bytes);
-    libc::close(file);
+    let mut bytes = [0u8; Sheet::BYTES + 1];
+    let n = trying::read_file(path, &mut bytes);
     write_answer(&bytes[..n]);
 }
 

@@ -25,25 +25,13 @@ pub fn is_kept(buffer: &[u8], from: usize) -> bool {
     check::same(&buffer[from..n], &before[from..n])
 }
 
-// Whether all entries are `value`.
-fn is_all(work: &[u64], value: u64) -> bool {
-    let mut i: usize = 0;
-    while i < work.len() {
-        if work[i] != value {
-            return false;
-        }
-        i += 1;
-    }
-    true
-}
-
 // Writes what became of the working buffer.
 pub fn write_work(work: &[u64]) {
-    if is_all(work, WORK_BEFORE) {
+    if trying::is_all(work, WORK_BEFORE) {
         io::write_all(STDOUT_FILENO, b", work kept\r\n");
         return;
     }
-    if is_all(work, 0) {
+    if trying::is_all(work, 0) {
         io::write_all(STDOUT_FILENO, b", work zero\r\n");
         return;
     }

@@ -6,6 +6,7 @@ mod buffers;
 mod trials;
 
 use code::Code;
+use code::Sheet;
 use libc::STDOUT_FILENO;
 use trials::Lent;
 use trials::try_table;
@@ -43,15 +44,8 @@ fn write_name(name: &[u8]) {
 
 fn try_file(path: &[u8]) {
     write_name(path);
-    let file = os::open_read(path);
-    if file < 0 {
-        os::fail(path);
-        return;
-    }
-    // one byte more than a sheet may have
-    let mut bytes = [0u8; 4097];
-    let n = io::read_full(file, &mut bytes);
-    libc::close(file);
+    let mut bytes = [0u8; Sheet::BYTES + 1];
+    let n = trying::read_file(path, &mut bytes);
     try_sheet(&bytes[..n]);
 }
 

@@ -1,0 +1,33 @@
+// What the programs that try the operations share: the bytes of a file, and whether a working buffer holds one number throughout.
+
+ghost use Rattle.io.specs.Counts.{Counts};
+ghost use Rattle.table.specs.Exactly.{Exactly};
+ghost use Rattle.trying.specs.All.{All};
+
+// The bytes of a file, as many as there is room for. Of one that cannot be opened the error is told, and it counts as empty.
+pub fn read_file(path: &[u8], bytes: &mut [u8]) -> usize
+    ensures { λ r. ⌜ Counts r (now (bytes .exit)) ⌝ }
+{
+    let file = os::open_read(path);
+    if file < 0 {
+        os::fail(path);
+        return 0;
+    }
+    let n = io::read_full(file, bytes);
+    libc::close(file);
+    n
+}
+
+// Whether all entries are `value`.
+pub fn is_all(work: &[u64], value: u64) -> bool
+    ensures { λ r. ⌜ Exactly r (All (now (work .entry)) value) ⌝ }
+{
+    let mut i: usize = 0;
+    while i < work.len() {
+        if work[i] != value {
+            return false;
+        }
+        i += 1;
+    }
+    true
+}
