@@ -7,10 +7,10 @@ use lib.ListN.{length, getD, drop}
 use Rattle.places.specs.declared.Pair.{Pair}
 use Rattle.graph.specs.Goals.{NoGoal, LeastGoal}
 use Rattle.places.specs.Flat.{symbolAt, pairGraph}
-use Rattle.shortest.specs.declared.Arrival.{Arrival}
-use Rattle.shortest.specs.declared.Arrival.the-variants.{Passed, Fresh, Goal as Final}
-use Rattle.shortest.specs.declared.Progress.{Progress}
-use Rattle.shortest.specs.declared.Progress.the-variants.{Goal, Tail}
+use Rattle.shortest.specs.declared.slots.Arrival.{Arrival}
+use Rattle.shortest.specs.declared.slots.Arrival.the-variants.{Passed, Fresh, Goal as Final}
+use Rattle.shortest.specs.declared.groups.Progress.{Progress}
+use Rattle.shortest.specs.declared.groups.Progress.the-variants.{Goal, Tail}
 use Rattle.shortest.specs.declared.Expansion.{Expansion}
 use Rattle.shortest.specs.declared.Expansion.the-variants.{Goal as Ended, Next}
 use Rattle.shortest.specs.declared.Exploration.{Exploration}

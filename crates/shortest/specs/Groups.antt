@@ -6,8 +6,8 @@ use native.Mathlib.Omega.{arith}
 use lib.ListN.{getD}
 use Rattle.places.specs.Flat.{Laid, pairGraph}
 use Rattle.places.specs.Roots.{Numbered}
-use Rattle.shortest.specs.declared.Progress.{Progress}
-use Rattle.shortest.specs.declared.Progress.the-variants.{Goal, Tail}
+use Rattle.shortest.specs.declared.groups.Progress.{Progress}
+use Rattle.shortest.specs.declared.groups.Progress.the-variants.{Goal, Tail}
 use Rattle.shortest.specs.declared.Expansion.{Expansion}
 use Rattle.shortest.specs.declared.Expansion.the-variants.{Goal as Ended, Next}
 use Rattle.shortest.specs.declared.Exploration.the-variants.{Goal as Reached, Exhausted}

@@ -7,8 +7,8 @@ use lib.ListN.{length, getD}
 use Rattle.places.specs.declared.Pair.{Pair}
 use Rattle.places.specs.Flat.{Laid}
 use Rattle.places.specs.Roots.{Numbered}
-use Rattle.shortest.specs.declared.Progress.{Progress}
-use Rattle.shortest.specs.declared.Progress.the-variants.{Goal, Tail}
+use Rattle.shortest.specs.declared.groups.Progress.{Progress}
+use Rattle.shortest.specs.declared.groups.Progress.the-variants.{Goal, Tail}
 use Rattle.shortest.specs.Contracts.{PlacesOf, Stands, Ready, GoalNext, Progressed, met, went}
 use Rattle.shortest.specs.Entries.{nodeOf, nodeAt}
 use Rattle.shortest.specs.Pairs.{width, pair-slots}

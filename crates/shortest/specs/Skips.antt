@@ -8,8 +8,8 @@ use lib.ListN.{getD}
 use Rattle.places.specs.declared.Pair.{Pair}
 use Rattle.places.specs.Flat.{symbolAt, firstAt, wordCount, pairGraph}
 use Rattle.places.specs.Nodes.{node-of}
-use Rattle.shortest.specs.declared.Progress.{Progress}
-use Rattle.shortest.specs.declared.Progress.the-variants.{Tail}
+use Rattle.shortest.specs.declared.groups.Progress.{Progress}
+use Rattle.shortest.specs.declared.groups.Progress.the-variants.{Tail}
 use Rattle.shortest.specs.Contracts.{PlacesOf, Stands, Progressed}
 use Rattle.shortest.specs.Entries.{nodeOf, nodeAt}
 use Rattle.shortest.specs.Pairs.{toward, toward-source, firstFrom, first-words, first-disorder, first-past, arrival-symbol}

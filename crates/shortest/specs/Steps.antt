@@ -8,9 +8,9 @@ use Rattle.places.specs.declared.Pair.{Pair}
 use Rattle.places.specs.Flat.{Laid, pairGraph}
 use Rattle.places.specs.Roots.{Numbered}
 use Rattle.places.specs.Steps.{Arrives}
-use Rattle.shortest.specs.declared.Arrival.{Arrival}
-use Rattle.shortest.specs.declared.Arrival.the-variants.{Passed, Fresh, Goal as Final}
-use Rattle.shortest.specs.declared.Progress.the-variants.{Goal, Tail}
+use Rattle.shortest.specs.declared.slots.Arrival.{Arrival}
+use Rattle.shortest.specs.declared.slots.Arrival.the-variants.{Passed, Fresh, Goal as Final}
+use Rattle.shortest.specs.declared.groups.Progress.the-variants.{Goal, Tail}
 use Rattle.shortest.specs.Contracts.{PlacesOf, IsFresh, IsGoal, Seen, passed, fresh, final, Stands, Ready, Progressed, met, went}
 use Rattle.shortest.specs.Entries.{entryOf, nodeOf, nodeAt, node-entry, from-entry}
 use Rattle.shortest.specs.Frontier.{first-goal}

@@ -10,8 +10,8 @@ use Rattle.graph.specs.Graph.{Graph}
 use Rattle.places.specs.declared.Pair.{Pair}
 use Rattle.places.specs.Flat.{Laid}
 use Rattle.places.specs.Roots.{Numbered}
-use Rattle.shortest.specs.declared.Progress.{Progress}
-use Rattle.shortest.specs.declared.Progress.the-variants.{Tail}
+use Rattle.shortest.specs.declared.groups.Progress.{Progress}
+use Rattle.shortest.specs.declared.groups.Progress.the-variants.{Tail}
 use Rattle.shortest.specs.Contracts.{PlacesOf, Stands, Progressed}
 use Rattle.shortest.specs.Entries.{nodeOf, nodeAt}
 use Rattle.shortest.specs.Leaves.{width-none}
