@@ -1,3 +1,4 @@
+-- The loop keeps that each entry passed may be followed by the next.
 use Prim.Native.Nat.{_≤_, _-_}
 use native.Mathlib.Omega.{arith}
 use lib.ListN.{length}
@@ -7,8 +8,6 @@ use Rattle.code.specs.Definitions.Sheets.{limits}
 use Rattle.encoding.specs.Passes.{FollowsBelow, known-pair, forbidden-here, forbidden-nowhere}
 use Rattle.encoding.proofs.has_forbidden.Statement.{statement}
 use Rattle.encoding.proofs.has_forbidden.Tie as tie
-
--- The loop keeps that each entry passed may be followed by the next.
 
 abbrev Inv-loop : tie.InvT-loop
 Inv-loop words code i₀ i = (i ≤ length words) × FollowsBelow code words i

@@ -1,3 +1,4 @@
+-- The loop keeps that the entries passed are words of the code.
 use Prim.Native.Nat.{_≤_, _-_}
 use native.Mathlib.Omega.{arith}
 use lib.ListN.{length}
@@ -6,8 +7,6 @@ use borrow.Author.Needs.{needs}
 use Rattle.encoding.specs.Passes.{WordsBelow, unknown-here, unknown-nowhere}
 use Rattle.encoding.proofs.has_unknown.Statement.{statement}
 use Rattle.encoding.proofs.has_unknown.Tie as tie
-
--- The loop keeps that the entries passed are words of the code.
 
 abbrev Inv-loop : tie.InvT-loop
 Inv-loop code words i₀ i = (i ≤ length words) × WordsBelow code words i

@@ -18,7 +18,10 @@ returns-2 c = rw (c .before .before .before .before .before .before .verdict2 .g
 
 returns-3 : tie.Need-returns-3
 unfolding join
-returns-3 c = rw (c .before .before .before .before .before .enum-told .given .1) (starts (c .before .before .put .ensures) (omega (arith, c .before .before .before .before .before .before .before .before .before .before .before .pre .room)))
+returns-3 c =
+    let told = c .before .before .before .before .before in
+    let start = told .before .before .before .before .before .before in
+    rw (told .enum-told .given .1) (starts (c .before .before .put .ensures) (omega (arith, start .pre .room)))
 
 pub put-verdict-spec : {M : Type 1} → statement M
 put-verdict-spec =

@@ -10,9 +10,13 @@ returns : tie.Need-returns
 returns c = search shows-refused
 
 returns-2 : tie.Need-returns-2
-returns-2 c = let p = c .before .before .before .before .before .before .before .before .before .before .before .before .before .before .before .before .before .before .before .pre in
-    shows-judged (c .before .before .before .before .before .before .before .before .before .before .before .before .before .before .take-in .ensures) (c .before .before .before .before .before .before .before .before .before .before .before .before .enum-told .given .1) (p .0) (p .1) (p .2) refl (omega arith) (omega arith) (omega arith)
-    (c .before .before .before .before .before .before .before .verdict .ensures)
+returns-2 c =
+    let after-verdict = c .before .before .before .before .before .before .before in
+    let accepted = after-verdict .before .before .before .before .before in
+    let after-take-in = accepted .before .before in
+    let start = after-take-in .before .before .before .before .before in
+    shows-judged (after-take-in .take-in .ensures) (accepted .enum-told .given .1) (start .pre .0) (start .pre .1) (start .pre .2)
+    refl (omega arith) (omega arith) (omega arith) (after-verdict .verdict .ensures)
 
 pub judge-spec : {M : Type 1} → statement M
 judge-spec =
