@@ -1,14 +1,14 @@
 // The longest walk over the pairs of a code, from which its delay follows: a depth-first search with heights. Every pair has a mark and,
 // while the search goes through its successors, an entry on the stack; the caller lends both buffers. Each slot of a pair is looked up once:
-// what it adds to the height is kept on the entry.
+// its height through the slots passed stands above the pair in its entry.
 
 use places::Layout;
 use places::Pair;
+use places::entries;
 ghost use mathlib.Core.Path.{_≡_};
-ghost use Prim.Native.Nat.{_+_, _-_, _^_, _≤_, _<_, max};
+ghost use Prim.Native.Nat.{_+_, _-_, _≤_, _<_, max};
 ghost use lib.ListN.{length, getD, set};
-ghost use Rattle.delay.specs.Pairs.{TwoPlaces, nodeOf};
-ghost use Rattle.delay.specs.Entries.{entryOf, nodeIn, heightIn, heightAt};
+ghost use Rattle.places.specs.Entries.{aboveAt};
 ghost use Rattle.delay.specs.State.{top};
 ghost use Rattle.delay.specs.Search.{Top, Searching, Advanced};
 ghost use Rattle.delay.specs.Pass.{Passing, Passed};
@@ -38,54 +38,12 @@ impl Mark {
     const FINISHED: u16 = 34;
 }
 
-// The number of a pair: the index of its mark, and its entry on the stack while its height is 0.
-fn pack(pair: Pair) -> usize
-    requires { ⌜ TwoPlaces pair ⌝ }
-    ensures { λ r. ⌜ r ≡ nodeOf pair ⌝ }
-{
-    (pair.low << 7) + pair.high
-}
-
-// The pair of a number.
-fn unpack(node: usize) -> Pair
-    requires { ⌜ node < 16384 ⌝ }
-    ensures { λ r. ⌜ TwoPlaces r × (nodeOf r ≡ node) ⌝ }
-{
-    let low = node >> 7;
-    Pair {
-        low: low,
-        high: node - (low << 7),
-    }
-}
-
 // The height of a finished pair, from its mark.
 fn height_at(marks: &[u16], node: usize) -> usize
     requires { ⌜ (node < length (now marks)) × (34 ≤ getD (now marks) node 0) ⌝ }
     ensures { λ r. ⌜ (r ≡ getD (now (marks .entry)) node 0 - 34) × (r < 65536) ⌝ }
 {
     (marks[node] - Mark::FINISHED) as usize
-}
-
-// The entry of a pair on the stack: its number in the lowest 14 bits, and above them its height through the slots passed.
-fn entry_of(node: usize, height: usize) -> u64
-    requires { ⌜ (node < 16384) × (height < 2 ^ 50) ⌝ }
-    ensures { λ r. ⌜ r ≡ entryOf node height ⌝ }
-{
-    ((height << 14) + node) as u64
-}
-
-// The number of a pair, from its entry.
-fn node_in(entry: u64) -> usize
-    ensures { λ r. ⌜ (r ≡ nodeIn entry) × (r < 16384) ⌝ }
-{
-    (entry - ((entry >> 14) << 14)) as usize
-}
-
-// The height of a pair through the slots passed, from its entry.
-fn height_in(entry: u64) -> usize
-    ensures { λ r. ⌜ (r ≡ heightIn entry) × (r < 2 ^ 50) ⌝ }
-{
-    (entry >> 14) as usize
 }
 
 // The greater of two heights.
@@ -98,10 +56,10 @@ fn greater(a: usize, b: usize) -> usize
 // Finishes the pair on top: from now on its mark has the height on its entry.
 fn finish(marks: &mut [u16], stack: &[u64], depth: usize)
     requires { ⌜ Top (now marks) (now stack) depth ⌝ }
-    ensures { λ _. ⌜ now (marks .exit) ≡ set (now (marks .entry)) (top (now (stack .entry)) depth) (heightAt (now (stack .entry)) (depth - 1) + 34) ⌝ }
+    ensures { λ _. ⌜ now (marks .exit) ≡ set (now (marks .entry)) (top (now (stack .entry)) depth) (aboveAt (now (stack .entry)) (depth - 1) + 34) ⌝ }
 {
     let entry = stack[depth - 1];
-    marks[node_in(entry)] = height_in(entry) as u16 + Mark::FINISHED;
+    marks[entries::node_in(entry)] = entries::above_in(entry) as u16 + Mark::FINISHED;
 }
 
 // Passes the next slot of the pair on top, which leads to the finished pair `target`.
@@ -110,10 +68,10 @@ fn pass(marks: &mut [u16], stack: &mut [u64], depth: usize, target: usize)
     ensures { λ _. ⌜ Passed (now (marks .entry)) (now (stack .entry)) depth target (now (marks .exit)) (now (stack .exit)) ⌝ }
 {
     let entry = stack[depth - 1];
-    let node = node_in(entry);
-    let height = greater(height_in(entry), height_at(marks, target) + 1);
+    let node = entries::node_in(entry);
+    let height = greater(entries::above_in(entry), height_at(marks, target) + 1);
     marks[node] = marks[node] + 1;
-    stack[depth - 1] = entry_of(node, height);
+    stack[depth - 1] = entries::entry(height, node);
 }
 
 // Follows the next slot of the pair on top: it is passed, or leads to a pair that is pushed.
@@ -130,11 +88,11 @@ fn follow(
 {
     let next = places::successor(places, pair.low, pair.high, slot);
     if Layout::PLACES <= next.low {
-        let node = pack(pair);
+        let node = entries::node(pair);
         marks[node] = marks[node] + 1;
         return Progress::Depth(depth);
     }
-    let target = pack(next);
+    let target = entries::node(next);
     if marks[target] == 0 {
         marks[target] = 1;
         stack[depth] = target as u64;
@@ -154,8 +112,8 @@ fn advance(places: &[u8], marks: &mut [u16], stack: &mut [u64], depth: usize) ->
     ensures { λ r. ⌜ Advanced (now (places .entry)) (now (marks .entry)) (now (marks .exit)) (now (stack .exit)) r ⌝ }
 {
     let rest = depth - 1;
-    let node = node_in(stack[rest]);
-    let pair = unpack(node);
+    let node = entries::node_in(stack[rest]);
+    let pair = entries::pair_of(node);
     let slot = marks[node] as usize - 1;
     if slot < places::slots(places, pair.low, pair.high) {
         return follow(places, marks, stack, depth, pair, slot);
@@ -224,7 +182,7 @@ fn visit(
     if Layout::PLACES <= first.low {
         return Extent::Finite(most);
     }
-    match explore(places, marks, stack, pack(first)) {
+    match explore(places, marks, stack, entries::node(first)) {
         Extent::Finite(count) => {
             if most < count {
                 return Extent::Finite(count);

@@ -10,3 +10,4 @@ pub mod Words
 pub mod Layouts
 pub mod Whole
 pub mod Codes
+pub mod Entries

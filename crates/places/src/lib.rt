@@ -1,5 +1,7 @@
 // The places of a code laid out flat, and the successors of a pair of places.
 
+pub mod entries;
+
 use code::Code;
 use code::Row;
 use code::Word;

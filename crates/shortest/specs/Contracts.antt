@@ -4,7 +4,6 @@ use mathlib.Core.Bool.{true, false}
 use mathlib.Core.List.{List, _∷_, reverse, _++_}
 use Prim.Native.Nat.{ℕ, _+_, _*_, _%_, _≤_, _<_}
 use lib.ListN.{length, getD, drop}
-use Rattle.places.specs.declared.Pair.{Pair}
 use Rattle.graph.specs.Goals.{NoGoal, LeastGoal}
 use Rattle.places.specs.Flat.{symbolAt, pairGraph}
 use Rattle.shortest.specs.declared.slots.Arrival.{Arrival}
@@ -17,20 +16,15 @@ use Rattle.shortest.specs.declared.Exploration.{Exploration}
 use Rattle.shortest.specs.declared.Exploration.the-variants.{Goal as Reached, Exhausted}
 use Rattle.shortest.specs.declared.Search.{Search}
 use Rattle.shortest.specs.declared.Search.the-variants.{Found, Nothing}
-use Rattle.shortest.specs.Entries.{nodeOf, fromOf, nodeAt, fromAt}
+use Rattle.places.specs.Entries.{nodeIn, aboveIn, nodeAt, aboveAt}
 use Rattle.shortest.specs.Labels.{Label, Labelled}
 use Rattle.shortest.specs.Pairs.{toward}
 use Rattle.shortest.specs.Queue.{Between}
 use Rattle.shortest.specs.Slots.{SlotStage}
 
--- The two places of a number, a node's or the source's.
-pub record PlacesOf (v : ℕ) (r : Pair) : Type 0 where
-  pub node : r .low * 128 + r .high ≡ v
-  pub high : r .high < 128
-
 -- The key of an entry.
 abbrev pub keyOf : List ℕ → ℕ → ℕ
-keyOf f e = fromOf e * 16 + symbolAt f (nodeOf e % 128)
+keyOf f e = aboveIn e * 16 + symbolAt f (nodeIn e % 128)
 
 -- Number v is a node of symbol t that is no goal and not marked.
 pub record IsFresh (f ms : List ℕ) (v t : ℕ) : Type 0 where
@@ -90,7 +84,7 @@ pub data Explored (f q : List ℕ) : Exploration → Type 0 where
 -- The source stands at the front of the queue.
 pub record Seeded (q : List ℕ) : Type 0 where
   pub node : nodeAt q 0 ≡ 16384
-  pub from : fromAt q 0 ≡ 0
+  pub from : aboveAt q 0 ≡ 0
 
 -- No pair is marked.
 pub record Clear (ms : List ℕ) : Type 0 where

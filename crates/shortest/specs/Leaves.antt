@@ -6,11 +6,12 @@ use Prim.Native.Nat.{ℕ, _+_, _*_, _/_, _%_, _≤_, _<_}
 use native.Mathlib.Omega.{arith}
 use lib.ListN.{getD}
 use borrow.Author.Tests.{eq-eqb, ne-eqb}
+use Rattle.places.specs.Entries.{PlacesOf}
 use Rattle.places.specs.declared.Pair.{Pair}
 use Rattle.places.specs.Flat.{Laid, symbolAt, endAt, wordCount, slotsOf, arcFrom, pairGraph}
 use Rattle.places.specs.Steps.{Arrives, startNode, nowhere}
 use Rattle.shortest.specs.declared.slots.Arrival.the-variants.{Passed, Fresh, Goal}
-use Rattle.shortest.specs.Contracts.{PlacesOf, Seen, passed, fresh, final}
+use Rattle.shortest.specs.Contracts.{Seen, passed, fresh, final}
 use Rattle.shortest.specs.Pairs.{firstFrom, toward, innerOf, width, toward-node, toward-source, width-on, width-off, width-source}
 use Rattle.shortest.specs.Pairs.{first-words, first-disorder, first-past}
 

@@ -10,8 +10,8 @@ use Rattle.places.specs.Flat.{symbolAt, firstAt, wordCount, pairGraph}
 use Rattle.places.specs.Nodes.{node-of}
 use Rattle.shortest.specs.declared.groups.Progress.{Progress}
 use Rattle.shortest.specs.declared.groups.Progress.the-variants.{Tail}
-use Rattle.shortest.specs.Contracts.{PlacesOf, Stands, Progressed}
-use Rattle.shortest.specs.Entries.{nodeOf, nodeAt}
+use Rattle.shortest.specs.Contracts.{Stands, Progressed}
+use Rattle.places.specs.Entries.{PlacesOf, nodeIn, nodeAt}
 use Rattle.shortest.specs.Pairs.{toward, toward-source, firstFrom, first-words, first-disorder, first-past, arrival-symbol}
 use Rattle.shortest.specs.Parts.{was-tail}
 use Rattle.shortest.specs.Queue.{Met}
@@ -43,12 +43,12 @@ skips-word {f} low high t c {x} {s} {d} l e z n o =
     }
 
 -- What is passed over is done.
-pub skipped : {f ms q : List ℕ} {tail a b t k c d e : ℕ} {p : Pair} → Stands f ms q tail a b t k c → PlacesOf (nodeOf e) p → getD q k 0 ≡ e
+pub skipped : {f ms q : List ℕ} {tail a b t k c d e : ℕ} {p : Pair} → Stands f ms q tail a b t k c → PlacesOf (nodeIn e) p → getD q k 0 ≡ e
     → Skips f (p .low * 128 + p .high) t c d → Stands f ms q tail a b t k d
 skipped {f} {ms} {q} {tail} {a} {b} {t} {k} {c} {d} {e} {p} s u z r = record { stage = s .stage; now = now }
   where
     same : p .low * 128 + p .high ≡ nodeAt q k
-    same = u .node ∙ sym (ap nodeOf z)
+    same = u .node ∙ sym (ap nodeIn z)
 
     now : (j : ℕ) → j < d → toward f (nodeAt q k) j < 16384 → pairGraph f .symbol (toward f (nodeAt q k) j) ≡ t → Met q tail k (toward f (nodeAt q k) j)
     now j l h i = by (decLt j c)
@@ -58,6 +58,6 @@ skipped {f} {ms} {q} {tail} {a} {b} {t} {k} {c} {d} {e} {p} s u z r = record { s
         by (no m) = absurd (r .none j (omega arith) l (rw same h) (rw same i))
 
 -- After a slot, the next one that may lead on; the member's entry is still e.
-pub slot-next : {f ms q : List ℕ} {a b t k c d e m n : ℕ} {p : Pair} {r : Progress} → Progressed f ms q a b t k c r → r ≡ Tail n → PlacesOf (nodeOf e) p
+pub slot-next : {f ms q : List ℕ} {a b t k c d e m n : ℕ} {p : Pair} {r : Progress} → Progressed f ms q a b t k c r → r ≡ Tail n → PlacesOf (nodeIn e) p
     → getD q k 0 ≡ m → m ≡ e → Skips f (p .low * 128 + p .high) t c d → Stands f ms q n a b t k d
 slot-next h d u y z = skipped (was-tail h d) u (y ∙ z)

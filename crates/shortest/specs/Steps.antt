@@ -11,8 +11,8 @@ use Rattle.places.specs.Steps.{Arrives}
 use Rattle.shortest.specs.declared.slots.Arrival.{Arrival}
 use Rattle.shortest.specs.declared.slots.Arrival.the-variants.{Passed, Fresh, Goal as Final}
 use Rattle.shortest.specs.declared.groups.Progress.the-variants.{Goal, Tail}
-use Rattle.shortest.specs.Contracts.{PlacesOf, IsFresh, IsGoal, Seen, passed, fresh, final, Stands, Ready, Progressed, met, went}
-use Rattle.shortest.specs.Entries.{entryOf, nodeOf, nodeAt, node-entry, from-entry}
+use Rattle.shortest.specs.Contracts.{IsFresh, IsGoal, Seen, passed, fresh, final, Stands, Ready, Progressed, met, went}
+use Rattle.places.specs.Entries.{PlacesOf, entryOf, nodeIn, nodeAt, node-entry, above-entry}
 use Rattle.shortest.specs.Frontier.{first-goal}
 use Rattle.shortest.specs.Labels.{label-of}
 use Rattle.shortest.specs.Links.{Link}
@@ -43,7 +43,7 @@ module _ {f ms : List ℕ} {v t : ℕ} where
   was-final (final h) e = h
 
 module _ {f ms q : List ℕ} {tail a b t k c : ℕ} (laid : Laid f) (n : Numbered f) (s : Stands f ms q tail a b t k c) (r : Ready ms q tail a b t k) {p o : Pair}
-    (u : PlacesOf (nodeOf (getD q k 0)) p) (d : Arrives (toward f (p .low * 128 + p .high) c) o) where
+    (u : PlacesOf (nodeIn (getD q k 0)) p) (d : Arrives (toward f (p .low * 128 + p .high) c) o) where
   -- The slot leads to the pair o.
   leads : toward f (nodeAt q k) c ≡ o .low * 128 + o .high
   leads = ap (λ (v : ℕ). toward f v c) (sym (u .node)) ∙ sym (d .node)
@@ -81,7 +81,7 @@ module _ {f ms q : List ℕ} {tail a b t k c : ℕ} (laid : Laid f) (n : Numbere
       rw z
       (went
       (push s v e (let g = r .few in let g′ = r .wide in omega arith) (r .member) (link l) (m .symbol) (m .plain) (m .clear)
-      (rw w (node-entry (a + 1) v (omega arith))) (rw w (from-entry (a + 1) v (omega arith))) leads))
+      (rw w (node-entry (a + 1) v (omega arith))) (rw w (above-entry (a + 1) v (omega arith))) leads))
 
   -- The member's entry is not changed.
   pub member-kept : (e : ℕ) → getD (set q tail e) k 0 ≡ getD q k 0

@@ -12,8 +12,8 @@ use Rattle.places.specs.Flat.{Laid}
 use Rattle.places.specs.Roots.{Numbered}
 use Rattle.shortest.specs.declared.groups.Progress.{Progress}
 use Rattle.shortest.specs.declared.groups.Progress.the-variants.{Tail}
-use Rattle.shortest.specs.Contracts.{PlacesOf, Stands, Progressed}
-use Rattle.shortest.specs.Entries.{nodeOf, nodeAt}
+use Rattle.shortest.specs.Contracts.{Stands, Progressed}
+use Rattle.places.specs.Entries.{PlacesOf, nodeIn, nodeAt}
 use Rattle.shortest.specs.Leaves.{width-none}
 use Rattle.shortest.specs.Links.{Link}
 use Rattle.shortest.specs.Pairs.{innerOf, width, pair-slots}
@@ -46,7 +46,7 @@ module _ {f q : List ℕ} {a t : ℕ} where
   pub none-led-begin : {u : ℕ} → t ≤ u → NoneLed f q a a t u
   none-led-begin o = record { order = o; none = λ i l h. absurd (omega arith) }
 
-  pub none-led-more : {k u n : ℕ} {p : Pair} → NoneLed f q a k t u → PlacesOf (nodeOf (getD q k 0)) p → NotLed f (p .low * 128 + p .high) t n → n ≤ u
+  pub none-led-more : {k u n : ℕ} {p : Pair} → NoneLed f q a k t u → PlacesOf (nodeIn (getD q k 0)) p → NotLed f (p .low * 128 + p .high) t n → n ≤ u
       → NoneLed f q a (k + 1) t n
   none-led-more {k} {u} {n} r d x l =
       record {

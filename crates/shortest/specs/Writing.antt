@@ -14,9 +14,9 @@ use Rattle.places.specs.Roots.{Numbered}
 use Rattle.shortest.specs.declared.Exploration.{Exploration}
 use Rattle.shortest.specs.declared.Exploration.the-variants.{Goal as Reached, Exhausted}
 use Rattle.shortest.specs.declared.Search.the-variants.{Nothing}
-use Rattle.shortest.specs.Contracts.{PlacesOf, GoalNext, Explored, reached, exhausted, Seeded, Clear, Message, Answers, nothing}
+use Rattle.shortest.specs.Contracts.{GoalNext, Explored, reached, exhausted, Seeded, Clear, Message, Answers, nothing}
 use Rattle.shortest.specs.Depth.{Depth, HasDepth, label-depth, depth-unique}
-use Rattle.shortest.specs.Entries.{entryOf, nodeOf, fromOf, node-entry, from-entry}
+use Rattle.places.specs.Entries.{PlacesOf, entryOf, nodeIn, aboveIn, node-entry, above-entry}
 use Rattle.shortest.specs.Leaves.{places-symbol}
 use Rattle.shortest.specs.Pairs.{pair-bounded}
 use Rattle.shortest.specs.Queue.{Between}
@@ -28,7 +28,7 @@ module _ {f q o p : List ℕ} {start count index at : ℕ} (laid : Laid f) (t : 
   pub fill-within : length p ≡ length o → at - 1 < length p
   fill-within e = let h = fill-some t l in let k = t .within in let n = t .room in omega arith
 
-  pub fill-store : {r : ℕ} {d : Pair} → PlacesOf (nodeOf (getD q index 0)) d → r ≡ fromOf (getD q index 0)
+  pub fill-store : {r : ℕ} {d : Pair} → PlacesOf (nodeIn (getD q index 0)) d → r ≡ aboveIn (getD q index 0)
       → Filled (pairGraph f) q start count o (r - 1) (at - 1) (set p (at - 1) (getD f (d .high) 0))
   fill-store u e = fill-next t e l (places-symbol f u)
 
@@ -61,8 +61,8 @@ module _ {f q : List ℕ} {a t : ℕ} (m : GoalNext f q a t) where
 pub seeded : (q : List ℕ) {e : ℕ} → 16384 ≤ length q → e ≡ entryOf 0 16384 → Seeded (set q 0 e)
 seeded q {e} l d =
     record {
-      node = ap nodeOf (getD-set-same q 0 e 0 (omega arith) ∙ d) ∙ node-entry 0 16384 (omega arith);
-      from = ap fromOf (getD-set-same q 0 e 0 (omega arith) ∙ d) ∙ from-entry 0 16384 (omega arith);
+      node = ap nodeIn (getD-set-same q 0 e 0 (omega arith) ∙ d) ∙ node-entry 0 16384 (omega arith);
+      from = ap aboveIn (getD-set-same q 0 e 0 (omega arith) ∙ d) ∙ above-entry 0 16384 (omega arith);
     }
 
 -- A list of zeros has no mark.

@@ -2,7 +2,6 @@
 
 use crate::entries::entry;
 use crate::entries::key;
-use crate::entries::node;
 use crate::entries::pair_of;
 use crate::slots::Arrival;
 use crate::slots::inner;
@@ -13,6 +12,7 @@ use crate::slots::width;
 use code::Word;
 use places::Layout;
 use places::Pair;
+use places::entries::node;
 ghost use mathlib.Core.Path.{_≡_};
 ghost use Prim.Native.Nat.{_+_, _*_, _≤_, _<_};
 ghost use lib.ListN.{length, getD};

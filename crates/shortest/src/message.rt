@@ -1,7 +1,7 @@
 // The message of a group, read off the entries back to front.
 
-use crate::entries::from_of;
 use crate::entries::pair_of;
+use places::entries::above_in;
 ghost use Prim.Native.Nat.{_≤_, _<_};
 ghost use lib.ListN.{length};
 ghost use Rattle.places.specs.Flat.{Laid, pairGraph};
@@ -17,7 +17,7 @@ fn depth(queue: &[u64], start: usize) -> usize
     let mut index = start;
     let mut count: usize = 0;
     while 0 < index {
-        index = from_of(queue[index]) - 1;
+        index = above_in(queue[index]) - 1;
         count += 1;
     }
     count
@@ -39,7 +39,7 @@ fn fill(places: &[u8], queue: &[u64], message: &mut [u8], start: usize, count: u
         let high = pair.high;
         at -= 1;
         message[at] = places[high];
-        index = from_of(entry) - 1;
+        index = above_in(entry) - 1;
     }
 }
 

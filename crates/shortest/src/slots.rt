@@ -1,8 +1,8 @@
 // The slots of a pair and of the source of all walks: how many may lead on by a symbol, where each leads, and what stands there.
 
-use crate::entries::node;
 use places::Layout;
 use places::Pair;
+use places::entries::node;
 ghost use mathlib.Core.Path.{_≡_};
 ghost use Prim.Native.Nat.{_+_, _*_, _≤_, _<_};
 ghost use lib.ListN.{length};
