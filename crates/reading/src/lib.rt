@@ -21,7 +21,7 @@ ghost use Rattle.reading.specs.Public.{Short, FindsAll};
 
 // Reads a message by a code that is laid out flat: the symbols of all words, where each of the `n` words begins, and the follow matrix. The marks
 // stand in the working buffer, which is cleared before and after.
-fn read_by_marks(
+pub fn read_core(
     symbols: &[u8],
     base: &[usize],
     follow: &[u8],
@@ -43,36 +43,6 @@ fn read_by_marks(
     r
 }
 
-// The same with a working buffer of any length: what the marks of this message do not need is cleared once.
-pub fn read_core(
-    symbols: &[u8],
-    base: &[usize],
-    follow: &[u8],
-    n: usize,
-    message: &[u8],
-    first: &mut [u8],
-    second: &mut [u8],
-    work: &mut [u64],
-) -> Reading
-    requires { ⌜ Ready (now symbols) (now base) (now follow) n (now message) (now work)
-        × (length (now message) ≤ length (now first)) × (length (now message) ≤ length (now second)) ⌝ }
-    ensures { λ r. ⌜ ReadsFlat (now (symbols .entry)) (now (base .entry)) (now (follow .entry)) n (now (message .entry))
-        (now (first .entry)) (now (second .entry)) (now (work .entry)) (now (first .exit)) (now (second .exit)) (now (work .exit)) r ⌝ }
-{
-    let used = message.len() + 1;
-    bits::clear(&mut work[used..]);
-    read_by_marks(
-        symbols,
-        base,
-        follow,
-        n,
-        message,
-        first,
-        second,
-        &mut work[..used],
-    )
-}
-
 // Reads a message by a code that an accepted sheet gives, in buffers that are long enough.
 pub fn find_readings(
     code: Code,
@@ -90,6 +60,9 @@ pub fn find_readings(
     let mut base = [0usize; Code::WORDS + 1];
     let mut follow = [0u8; Code::WORDS * Code::WORDS];
     layout::lay(code, &mut symbols, &mut base, &mut follow);
+    // What the marks do not need is cleared once.
+    let used = message.len() + 1;
+    bits::clear(&mut work[used..]);
     read_core(
         &symbols,
         &base,
@@ -98,7 +71,7 @@ pub fn find_readings(
         message,
         first,
         second,
-        work,
+        &mut work[..used],
     )
 }
 

@@ -1,48 +1,48 @@
--- `read_core` meets its contract: what follows the used part is cleared, and reading leaves the used part clear.
+-- `read_core` meets its contract: a clear table is marked down to the end (`clear-marked`), full marks can be walked (`marked-walkable`), and what they show
+-- is what every table that the lists hold has (`answer-finds`).
 use borrow.Author.Needs.{needs}
-use mathlib.Core.Path.{sym}
-use native.Mathlib.Omega.{arith}
-use Prim.Native.Nat.{_+_}
 use lib.ListN.{length}
-use Rattle.reading.specs.Parts.{used-length, all-zero}
+use mathlib.Core.Path.{_≡_}
+use native.Mathlib.Omega.{arith}
+use Rattle.reading.specs.Marking.{ready-kept}
+use Rattle.reading.specs.Core.{clear-marked, marked-walkable, answer-finds}
 use Rattle.reading.proofs.read_core.Statement.{statement}
 use Rattle.reading.proofs.read_core.Tie as tie
 
-aggregate : tie.Need-slice-aggregate-read-by-marks
-aggregate c =
-    let after-clear = c .before .before .before .before .before in
+mark-all-requires : tie.Need-mark-all-requires
+mark-all-requires c κs =
+    let after-clear = c .before .before .before in
     let start = after-clear .before .before .before .before .before .before .before .before .before in
-    sym (used-length (start .args .work .now) _ (after-clear .clear .last .0) (omega arith) (after-clear .clear .ensures))
+    let p = start .pre in
+    (ready-kept (p .0) (omega arith), clear-marked (p .0) (after-clear .clear .ensures))
 
-read-by-marks-requires : tie.Need-read-by-marks-requires
-read-by-marks-requires c κs =
-    let after-clear = c .before .before .before .before .before in
-    let start = after-clear .before .before .before .before .before .before .before .before .before in
-    let n = length (start .args .message .now) + 1 in
-    let used = used-length (start .args .work .now) n (after-clear .clear .last .0) (omega arith) (after-clear .clear .ensures) in
-    (record { flat = start .pre .0 .flat; long = omega arith; near = start .pre .0 .near }, start .pre .1, start .pre .2)
+first-readings-requires : tie.Need-first-readings-requires
+first-readings-requires c κs =
+    let after-mark-all = c .before .before .before .before .before in
+    let start = after-mark-all .before .before .before .before .before .before .before .before .before .before .before .before .before in
+    let p = start .pre in
+    (marked-walkable (ready-kept (p .0) (omega arith)) (after-mark-all .mark-all .ensures), p .1, p .2)
 
 returns : tie.Need-returns
 returns c =
-    let after-read = c .before .before .before .before .before .before in
-    let after-clear = after-read .before .before .before .before .before .before in
-    let start = after-clear .before .before .before .before .before .before .before .before .before in
-    let r = after-read .read-by-marks .ensures in
-    record { finds = r .finds; work = all-zero (start .args .work .now) _ (after-clear .clear .last .0) (omega arith) (after-clear .clear .ensures) _ (r .work) }
+    let after-first-readings = c .before .before .before .before .before .before .before .before in
+    let after-mark-all = after-first-readings .before .before .before .before .before .before in
+    let start = after-mark-all .before .before .before .before .before .before .before .before .before .before .before .before .before in
+    let p = start .pre in
+    let e : length (after-mark-all .mark-all .last .1 .1 .1 .1 .1 .0) ≡ length (start .args .work .now) = omega arith in
+    record {
+      finds = λ t l. answer-finds (p .0 .flat) (after-mark-all .mark-all .ensures) l (after-first-readings .first-readings .ensures);
+      work = rw e at (c .before .before .clear2 .ensures);
+    }
 
 pub read-core-spec : {M : Type 1} → statement M
 read-core-spec =
     tie.close
     (tie.spec
-    (λ c. search needs)
-    (λ c. search needs)
-    (λ c. search needs)
-    (λ c. search needs)
-    (λ c. search needs)
     (λ c κs. search needs)
-    (λ c. search needs)
-    aggregate
-    read-by-marks-requires
+    mark-all-requires
+    first-readings-requires
+    (λ c κs. search needs)
     (λ c. search needs)
     (λ c. search needs)
     (λ c. search needs)
