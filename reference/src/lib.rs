@@ -8,9 +8,11 @@
 //! and suits every code.
 //!
 //! [`generate`] makes random and damaged inputs, and [`compare`] holds another
-//! program's [`operations`] against the reference on them.
+//! program's [`operations`] against the reference on them. [`cases`] has the
+//! codes that the papers give.
 
 pub mod brute;
+pub mod cases;
 pub mod code;
 pub mod compare;
 pub mod encode;

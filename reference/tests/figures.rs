@@ -1,22 +1,19 @@
 //! Figures 2 and 3 of Gönenç: ambiguous messages of code T, testing table of code U.
 
+use reference::brute::{by_prefixes, readings};
+use reference::cases::{code_t, code_u, figure_2, FIGURE_3_LONGEST_PATH};
 use reference::code::Code;
 use reference::encode::encode;
 use reference::pairs::{explore, Places};
 use reference::read::{read, Readings};
+use reference::verdict::Verdict;
 
 #[test]
 fn figure_2_ambiguous_messages_of_code_t() {
-    let code = Code::free(&["0", "10", "01", "101"]);
-    let (a, b, c, d) = (0, 1, 2, 3);
-    let rows: [(&[u8], [u8; 2], [u8; 2]); 4] = [
-        (&[0, 1, 0], [a, b], [c, a]),
-        (&[0, 1, 0, 1], [a, d], [c, c]),
-        (&[1, 0, 1, 0], [b, b], [d, a]),
-        (&[1, 0, 1, 0, 1], [b, d], [d, c]),
-    ];
-    for (message, first, second) in rows {
+    let code = code_t();
+    for (message, first, second) in figure_2() {
         assert_eq!(read(&code, message), Ok(Readings::Two(first.to_vec(), second.to_vec())));
+        assert_eq!(readings(&code, message), [first, second]);
         assert_eq!(encode(&code, &first).as_deref(), Ok(message));
         assert_eq!(encode(&code, &second).as_deref(), Ok(message));
     }
@@ -36,7 +33,7 @@ fn name(code: &Code, places: &Places, place: u8) -> String {
 
 #[test]
 fn figure_3_testing_table_of_code_u() {
-    let code = Code::of(&["0", "10", "01", "101"], &["1100", "1111", "1100", "1111"]);
+    let code = code_u();
     let places = Places::new(&code);
     let graph = explore(&code);
     let named = |number: u32| {
@@ -56,5 +53,6 @@ fn figure_3_testing_table_of_code_u() {
         graph.steps.iter().map(|&(from, symbol, to)| format!("{} -{symbol}- {}", named(from), named(to))).collect();
     table.sort();
     assert_eq!(table, ["B1 D1 -0- QB D2", "QA C1 -1- QC B1", "QA C1 -1- QC D1", "QB D2 -1- QD B1", "QB D2 -1- QD D1"]);
-    assert_eq!(graph.longest_path(), Some(3));
+    assert_eq!(graph.longest_path(), Some(FIGURE_3_LONGEST_PATH));
+    assert_eq!(by_prefixes(&code, 1_000), Some(Verdict::Delay(FIGURE_3_LONGEST_PATH + 1)));
 }

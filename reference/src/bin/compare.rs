@@ -30,7 +30,7 @@ fn main() -> io::Result<()> {
         *met.entry(kind(&expected)).or_default() += 1;
     }
     met.iter().for_each(|(kind, times)| println!("{times} {kind}"));
-    println!("all the same");
+    println!("all the same: {count} sheets, start {start}");
     Ok(())
 }
 

@@ -33,7 +33,7 @@ fn main() {
     short_buffers(start, rounds).unwrap_or_else(|difference| fail(&difference));
     println!("short images and answers: refused with 13, nothing changed");
     // A round has a sheet and three inputs for its table, three for a damaged image, and three for a short buffer.
-    println!("all the same: {} inputs in {} s", 10 * rounds, clock.elapsed().as_secs());
+    println!("all the same: {} inputs in {} s, start {start}", 10 * rounds, clock.elapsed().as_secs());
 }
 
 fn fail<T>(difference: &str) -> T {
