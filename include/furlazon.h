@@ -21,7 +21,8 @@
  *   13  a buffer that is too short
  *   14  no permitted sequence has this message
  *
- * One rule is of these functions alone: a `table` or an `answer` that is too short gets 13 before anything else is looked at.
+ * One rule is of these functions alone: a `table` that is read or an `answer` gets 13 before anything else is looked at, if it is too
+ * short.
  * A refusal changes no buffer, except that 14 leaves `work` all zero. A result leaves the whole of `work` zero, and in every
  * other buffer what stands past the written part as it was.
  */

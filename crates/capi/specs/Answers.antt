@@ -2,8 +2,6 @@
 -- of a lent buffer, 0 where there is nothing to say.
 use mathlib.Core.List.{List, [], _∷_}
 use Prim.Native.Nat.{ℕ}
-use Rattle.code.specs.declared.SheetAnswer.{SheetAnswer}
-use Rattle.code.specs.declared.SheetAnswer.the-variants.{Accepted, Refused as Not-accepted}
 use Rattle.code.specs.declared.Encoding.{Encoding}
 use Rattle.code.specs.declared.Encoding.the-variants.{Encoded, Refused as Not-encoded}
 use Rattle.code.specs.declared.Reading.{Reading}
@@ -13,10 +11,6 @@ use Rattle.code.specs.declared.Verdict.the-variants.{Ambiguous, Finite, Unbound
 use Rattle.code.specs.declared.Judgement.{Judgement}
 use Rattle.code.specs.declared.Judgement.the-variants.{Judged, Refused as Not-judged}
 use Rattle.code.specs.Definitions.Answers.{refusalNumber}
-
-abbrev pub sheetNumber : SheetAnswer → ℕ
-sheetNumber Accepted = 0
-sheetNumber (Not-accepted r) = refusalNumber r
 
 -- entries of an answer
 abbrev pub answerLength : ℕ

@@ -1,5 +1,5 @@
--- What each exported function promises, for every input: the number it returns, and what each lent buffer then holds. A table's image and an answer that are
--- too short are found first, and get 13; all else is the operation's own answer.
+-- What each exported function promises, for every input: the number it returns, and what each lent buffer then holds. A table's image that is to be read and an
+-- answer that are too short are found first, and get 13; all else is the operation's own answer.
 use mathlib.Core.Path.{_≡_}
 use mathlib.Core.List.{List}
 use mathlib.Core.Logic.{_⊎_}
@@ -18,20 +18,25 @@ use Rattle.code.specs.Definitions.Lists.{if_then_else_}
 use Rattle.code.specs.Definitions.Operations.{written, Encodes, ReadsMessage, Judges}
 use Rattle.code.specs.Definitions.Sheets.{limits, taken}
 use Rattle.capi.specs.Image.{imageLength, imageOf, codeIn}
-use Rattle.capi.specs.Answers.{answerLength, sheetNumber, encodingNumber, encodingEntries, readingNumber, readingEntries, judgementNumber, judgementEntries}
+use Rattle.capi.specs.Answers.{answerLength, encodingNumber, encodingEntries, readingNumber, readingEntries, judgementNumber, judgementEntries}
 
 abbrev pub shortNumber : ℕ
 shortNumber = refusalNumber ShortBuffer
 
+-- The sheet's own refusals, 1 to 7, come before 13, which the buffer of an accepted sheet's table gets where it is too short.
+abbrev pub sheetNumber : SheetAnswer → List ℕ → ℕ
+sheetNumber Accepted b = if ltb (length b) imageLength then shortNumber else 0
+sheetNumber (Refused r) b = refusalNumber r
+
 -- An accepted sheet's table is written as its image; a refusal changes nothing.
 abbrev pub afterSheet : SheetAnswer → Code → List ℕ → List ℕ
-afterSheet Accepted c b = written (imageOf c) b
+afterSheet Accepted c b = if ltb (length b) imageLength then b else written (imageOf c) b
 afterSheet (Refused r) c b = b
 
 -- Taking in the sheet s, with the buffer b for the table.
 pub record TakesIn (s b b′ : List ℕ) (r : ℕ) : Type 0 where
-  pub number : r ≡ (if ltb (length b) imageLength then shortNumber else sheetNumber (taken limits s .answer))
-  pub table : b′ ≡ (if ltb (length b) imageLength then b else afterSheet (taken limits s .answer) (taken limits s .code) b)
+  pub number : r ≡ sheetNumber (taken limits s .answer) b
+  pub table : b′ ≡ afterSheet (taken limits s .answer) (taken limits s .code) b
 
 -- Fewer bytes than an image has, or fewer entries than an answer.
 abbrev pub Short : (image answer : ℕ) → Type 0

@@ -13,8 +13,7 @@ use Rattle.code.specs.declared.SheetAnswer.the-variants.{Accepted, Refused}
 use Rattle.code.specs.Definitions.Answers.{refusalNumber}
 use Rattle.code.specs.Definitions.Sheets.{limits, taken}
 use Rattle.capi.specs.Image.{imageLength, imageOf, codeIn}
-use Rattle.capi.specs.Answers.{sheetNumber}
-use Rattle.capi.specs.Calls.{TakesIn}
+use Rattle.capi.specs.Calls.{sheetNumber, TakesIn}
 use Rattle.capi.specs.RoundTrip.{image-holds}
 use Rattle.capi.specs.Ways.{accepted-well}
 
@@ -34,19 +33,14 @@ some-number MessageSymbol = omega arith
 some-number ShortBuffer = omega arith
 some-number NoReading = omega arith
 
-accepted : (a : SheetAnswer) → 0 ≡ sheetNumber a → a ≡ Accepted
-accepted Accepted e = refl
-accepted (Refused r) e = absurd (omega (arith, some-number r))
+accepted : (a : SheetAnswer) (b : List ℕ) → 0 ≡ sheetNumber a b → Dec (length b < imageLength) → (a ≡ Accepted) × (imageLength ≤ length b)
+accepted Accepted b e (yes h) = let n = rw (lt-ltb (length b) imageLength h) at e in absurd (omega arith)
+accepted Accepted b e (no h) = (refl, omega arith)
+accepted (Refused r) b e d = absurd (omega (arith, some-number r))
 
-module _ (s b b′ : List ℕ) (call : TakesIn s b b′ 0) where
-  by-length : Dec (length b < imageLength) → (taken limits s .answer ≡ Accepted) × (codeIn b′ ≡ taken limits s .code)
-  by-length (yes h) = let n = rw (lt-ltb (length b) imageLength h) at (call .number) in absurd (omega arith)
-  by-length (no h) =
-      let long = le-ltb (length b) imageLength (omega arith) in
-      let a = accepted (taken limits s .answer) (rw long at (call .number)) in
-      let image = rw (long, a) at (call .table) in
-      (a, rw image (image-holds (accepted-well s b (taken limits s) refl a) (drop (length (imageOf (taken limits s .code))) b)))
-
-  -- After a 0, the sheet was accepted, and the buffer holds its code.
-  pub sheet-held : (taken limits s .answer ≡ Accepted) × (codeIn b′ ≡ taken limits s .code)
-  sheet-held = by-length (decLt (length b) imageLength)
+-- After a 0, the sheet was accepted, and the buffer holds its code.
+pub sheet-held : (s b b′ : List ℕ) → TakesIn s b b′ 0 → (taken limits s .answer ≡ Accepted) × (codeIn b′ ≡ taken limits s .code)
+sheet-held s b b′ call =
+    let a = accepted (taken limits s .answer) b (call .number) (decLt (length b) imageLength) in
+    let image = rw (a .0, le-ltb (length b) imageLength (a .1)) at (call .table) in
+    (a .0, rw image (image-holds (accepted-well s b (taken limits s) refl (a .0)) (drop (length (imageOf (taken limits s .code))) b)))

@@ -42,19 +42,18 @@ module _ {t : Bool} {image answer : ℕ} (tested : Exactly t (Short image answer
 
 -- Taking in a sheet
 
-pub sheet-short : (s b : List ℕ) (n : ℕ) → length b < imageLength → n ≡ shortNumber → TakesIn s b b n
-sheet-short s b n h e = let t = lt-ltb (length b) imageLength h in record { number = rw t e; table = rw t }
-
 module _ (s b : List ℕ) (t : Taken) (gives : t ≡ taken limits s) where
   pub accepted-well : t .answer ≡ Accepted → WellFormed limits (t .code)
   accepted-well a = well (record { sheet = s; gives = sym gives ∙ rw a })
 
-  module _ (room : imageLength ≤ length b) where
-    pub sheet-accepted : (b′ : List ℕ) → t .answer ≡ Accepted → b′ ≡ written (imageOf (t .code)) b → TakesIn s b b′ 0
-    sheet-accepted b′ a e = let l = le-ltb (length b) imageLength room in record { number = rw (l, ← gives, a); table = rw (l, ← gives, a) e }
+  pub sheet-short : (n : ℕ) → t .answer ≡ Accepted → length b < imageLength → n ≡ shortNumber → TakesIn s b b n
+  sheet-short n a h e = let l = lt-ltb (length b) imageLength h in record { number = rw (← gives, a, l) e; table = rw (← gives, a, l) }
 
-    pub sheet-refused : (r : Refusal) (n : ℕ) → t .answer ≡ Refused r → n ≡ refusalNumber r → TakesIn s b b n
-    sheet-refused r n a e = let l = le-ltb (length b) imageLength room in record { number = rw (l, ← gives, a) e; table = rw (l, ← gives, a) }
+  pub sheet-accepted : (b′ : List ℕ) → t .answer ≡ Accepted → imageLength ≤ length b → b′ ≡ written (imageOf (t .code)) b → TakesIn s b b′ 0
+  sheet-accepted b′ a h e = let l = le-ltb (length b) imageLength h in record { number = rw (← gives, a, l); table = rw (← gives, a, l) e }
+
+  pub sheet-refused : (r : Refusal) (n : ℕ) → t .answer ≡ Refused r → n ≡ refusalNumber r → TakesIn s b b n
+  sheet-refused r n a e = record { number = rw (← gives, a) e; table = rw (← gives, a) }
 
 -- Encoding
 

@@ -17,7 +17,7 @@ use image::unpack;
 ghost use Rattle.table.specs.Exactly.{Exactly};
 ghost use Rattle.capi.specs.Calls.{Short, TakesIn, EncodeCall, ReadCall, VerdictCall};
 
-// Whether an image or an answer, by their lengths, is too short.
+// Whether an image that is read or an answer, by their lengths, is too short.
 fn is_short(image: usize, answer: usize) -> bool
     ensures { λ r. ⌜ Exactly r (Short image answer) ⌝ }
 {
@@ -32,13 +32,13 @@ fn is_short(image: usize, answer: usize) -> bool
 pub extern "C" fn furlazon_take_in(sheet: &[u8], table: &mut [u8]) -> u64
     ensures { λ r. ⌜ TakesIn (now (sheet .entry)) (now (table .entry)) (now (table .exit)) r ⌝ }
 {
-    if table.len() < Image::LENGTH {
-        return number(Refusal::ShortBuffer);
-    }
     let taken = sheet::take_in(sheet);
     let answer = taken.answer;
     match answer {
         SheetAnswer::Accepted => {
+            if table.len() < Image::LENGTH {
+                return number(Refusal::ShortBuffer);
+            }
             let code = taken.code;
             pack(code, table);
             0

@@ -6,7 +6,7 @@ use furlazon::linked::Linked;
 use furlazon::{image, ANSWER_ENTRIES, TABLE_BYTES};
 use reference::code::{Code, Refusal};
 use reference::compare::{compare, on_table, Met};
-use reference::operations::{VERDICT_ENTRIES, VERDICT_WORKING};
+use reference::operations::{Operations, Reference, VERDICT_ENTRIES, VERDICT_WORKING};
 use reference::random::Random;
 use reference::table::Table;
 use reference::{encode, generate};
@@ -31,7 +31,7 @@ fn main() {
     let met = images(start, rounds).unwrap_or_else(|difference| fail(&difference));
     println!("damaged images: {}", told(&met));
     short_buffers(start, rounds).unwrap_or_else(|difference| fail(&difference));
-    println!("short images and answers: refused with 13, nothing changed");
+    println!("short images and answers: refused, nothing changed");
     // A round has a sheet and three inputs for its table, three for a damaged image, and three for a short buffer.
     println!("all the same: {} inputs in {} s, start {start}", 10 * rounds, clock.elapsed().as_secs());
 }
@@ -69,7 +69,7 @@ fn images(start: u64, rounds: usize) -> Result<Met, String> {
     Ok(met)
 }
 
-/// An image or an answer that is too short is refused with 13, and nothing changes.
+/// An image or an answer that is too short is refused with 13, unless the sheet for the image is refused itself, and nothing changes.
 fn short_buffers(start: u64, rounds: usize) -> Result<(), String> {
     let mut random = Random(start);
     let mut work = Lent::new();
@@ -108,18 +108,20 @@ impl Lent {
     fn all_refused(&mut self, random: &mut Random, code: &Code, image: &[u8], answer: usize) -> bool {
         let sequence = generate::permitted_sequence(random, code, 10);
         let joined = encode::joined(code, &sequence);
-        let sheet = generate::sheet(random);
+        let sheet = if random.one_in(2) { generate::sheet(random) } else { generate::damaged_sheet(random) };
         let [message, first, second] = &mut self.bytes;
         let (work, answer) = (&mut self.work, &mut self.answer[..answer]);
-        let mut numbers = vec![
+        let short = u64::from(Refusal::BufferTooShort.number());
+        let numbers = [
             furlazon::encode(image, &sequence, message, answer),
             furlazon::read(image, &joined, first, second, work, answer),
             furlazon::verdict(image, message, first, second, work, answer),
         ];
-        if image.len() < TABLE_BYTES {
-            numbers.push(furlazon::take_in(&sheet, &mut message[..image.len()]));
-        }
-        numbers.iter().all(|&number| number == u64::from(Refusal::BufferTooShort.number())) && self.unchanged()
+        // A sheet's own refusal comes first.
+        let sheet_number = Reference.take_in(&sheet).0.map_or(short, |refusal| u64::from(refusal.number()));
+        let taken =
+            image.len() == TABLE_BYTES || furlazon::take_in(&sheet, &mut message[..image.len()]) == sheet_number;
+        numbers == [short; 3] && taken && self.unchanged()
     }
 
     fn unchanged(&self) -> bool {
