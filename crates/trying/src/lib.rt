@@ -1,10 +1,11 @@
 // What the programs that try the operations share: the bytes of a file, and whether a working buffer holds one number throughout.
 
+use streams::Input;
 ghost use Rattle.io.specs.Counts.{Counts};
 ghost use Rattle.table.specs.Exactly.{Exactly};
 ghost use Rattle.trying.specs.All.{All};
 
-// The bytes of a file, as many as there is room for. Of one that cannot be opened the error is told, and it counts as empty.
+// The bytes of a file, as many as there is room for. Of one that cannot be opened or read the error is told, and it counts as empty.
 pub fn read_file(path: &[u8], bytes: &mut [u8]) -> usize
     ensures { λ r. ⌜ Counts r (now (bytes .exit)) ⌝ }
 {
@@ -13,7 +14,12 @@ pub fn read_file(path: &[u8], bytes: &mut [u8]) -> usize
         os::fail(path);
         return 0;
     }
-    let n = io::read_full(file, bytes);
+    let read = streams::read_input(file, bytes);
+    let Input::Bytes(n) = read else {
+        os::fail(path);
+        libc::close(file);
+        return 0;
+    };
     libc::close(file);
     n
 }

@@ -4,9 +4,11 @@ use code::Judgement;
 use code::Sheet;
 use code::SheetAnswer;
 use decipher::Pairs;
+use libc::STDERR_FILENO;
 use libc::STDIN_FILENO;
 use libc::STDOUT_FILENO;
 use printing::Lengths;
+use streams::Input;
 ghost use Prim.Native.Nat.{_<_};
 ghost use mathlib.Core.Path.{_≡_};
 ghost use lib.ListN.{length};
@@ -58,10 +60,22 @@ fn answer_input(input: &[u8], n: usize, out: &mut [u8]) -> usize
     answer(&input[..n], out)
 }
 
+// The answer to standard input on standard output. What cannot be read or written is told on standard error, and a sheet that was not read whole gets no
+// answer.
 fn main() {
+    if 1 < os::arg_count() {
+        io::write_all(STDERR_FILENO, b"usage: verdict < SHEET.csv\n");
+        return;
+    }
     let mut input = [0u8; Sheet::BYTES + 1];
-    let n = io::read_full(STDIN_FILENO, &mut input);
+    let read = streams::read_input(STDIN_FILENO, &mut input);
+    let Input::Bytes(n) = read else {
+        os::fail(b"verdict: standard input");
+        return;
+    };
     let mut out = [0u8; Output::BYTES];
     let k = answer_input(&input, n, &mut out);
-    io::write_all(STDOUT_FILENO, &out[..k]);
+    if !io::write_all(STDOUT_FILENO, &out[..k]) {
+        os::fail(b"verdict: standard output");
+    }
 }

@@ -1,0 +1,54 @@
+-- The loop keeps that the words and rows passed are read.
+use mathlib.Core.Path.{refl}
+use Prim.Native.Nat.{_-_}
+use native.Mathlib.Omega.{arith}
+use borrow.Author.Needs.{needs}
+use Rattle.code.specs.Definitions.Lists.{table as filling}
+use Rattle.furlazon.specs.Image.{countPlace}
+use Rattle.furlazon.specs.Unpacking.{Unpacked, unpacked-next, unpacked-all}
+use Rattle.furlazon.proofs.image.unpack.Statement.{statement}
+use Rattle.furlazon.proofs.image.unpack.Tie as tie
+
+abbrev Inv-loop : tie.InvT-loop
+Inv-loop table code₀ k₀ code k = Unpacked table code k
+
+abbrev μ-loop : tie.MeasureT-loop
+μ-loop table code₀ k₀ code k = 32 - k
+
+cast-t14 : tie.Need-cast-t14 Inv-loop μ-loop
+cast-t14 c = omega (arith, c .shared-slice-known2 .given countPlace)
+
+loop-holds : tie.Need-loop-holds Inv-loop μ-loop
+unfolding filling
+loop-holds c = record { most = omega arith; words-long = refl; rows-long = refl; words = refl; rows = refl; count = refl }
+
+loop-again : tie.Need-loop-again Inv-loop μ-loop
+loop-again c =
+    let l = c .before .before .before .loop in
+    unpacked-next _ (l .code) (l .k) _ _ (l .inv) (omega arith) (c .before .word-in .ensures) (c .row-in .ensures)
+
+returns : tie.Need-returns Inv-loop μ-loop
+returns c = let l = c .before .loop in unpacked-all _ (l .code) (l .k) (l .inv) (omega arith)
+
+pub unpack-spec : {M : Type 1} → statement M
+unpack-spec =
+    tie.close
+    (tie.spec
+    Inv-loop
+    μ-loop
+    (λ c. search needs)
+    cast-t14
+    loop-holds
+    (λ c. search needs)
+    (λ c κs. search needs)
+    (λ c. search needs)
+    (λ c. search needs)
+    (λ c κs. search needs)
+    (λ c. search needs)
+    (λ c. search needs)
+    (λ c. search needs)
+    (λ c. search needs)
+    (λ c. search needs)
+    (λ c. search needs)
+    loop-again
+    returns)

@@ -1,0 +1,72 @@
+-- What each exported function promises, for every input: the number it returns, and what each lent buffer then holds. A table's image that is too short to be
+-- read gets 13 by itself. Where the answer is too short, 13 holds beside the operation's own refusals, and no buffer changes. All else is the operation's answer.
+use mathlib.Core.Path.{_≡_}
+use mathlib.Core.List.{List, [], _∷_, _++_}
+use Prim.Native.Nat.{ℕ, _≤_, _<_}
+use lib.Dec.{ltb}
+use lib.ListN.{length}
+use Rattle.code.specs.declared.Code.{Code}
+use Rattle.code.specs.declared.Refusal.{Refusal}
+use Rattle.code.specs.declared.Refusal.the-variants.{ShortBuffer}
+use Rattle.code.specs.declared.SheetAnswer.{SheetAnswer}
+use Rattle.code.specs.declared.SheetAnswer.the-variants.{Accepted, Refused}
+use Rattle.code.specs.declared.Encoding.{Encoding}
+use Rattle.code.specs.declared.Reading.{Reading}
+use Rattle.code.specs.declared.Judgement.{Judgement}
+use Rattle.code.specs.Definitions.Answers.{refusalNumber}
+use Rattle.code.specs.Definitions.Lists.{if_then_else_}
+use Rattle.code.specs.Definitions.Operations.{Condition, Lowest, written, encodingConditions, readingConditions, verdictConditions, Encodes, ReadsMessage, Judges}
+use Rattle.code.specs.Definitions.Sheets.{limits, taken}
+use Rattle.furlazon.specs.Image.{imageLength, imageOf, codeIn}
+use Rattle.furlazon.specs.Answers.{answerLength, encodingNumber, encodingEntries, readingNumber, readingEntries, judgementNumber, judgementEntries}
+
+abbrev pub shortNumber : ℕ
+shortNumber = refusalNumber ShortBuffer
+
+-- The sheet's own refusals, 1 to 7, come before 13, which the buffer of an accepted sheet's table gets where it is too short.
+abbrev pub sheetNumber : SheetAnswer → List ℕ → ℕ
+sheetNumber Accepted b = if ltb (length b) imageLength then shortNumber else 0
+sheetNumber (Refused r) b = refusalNumber r
+
+-- An accepted sheet's table is written as its image; a refusal changes nothing.
+abbrev pub afterSheet : SheetAnswer → Code → List ℕ → List ℕ
+afterSheet Accepted c b = if ltb (length b) imageLength then b else written (imageOf c) b
+afterSheet (Refused r) c b = b
+
+-- Taking in the sheet s, with the buffer b for the table.
+pub record TakesIn (s b b′ : List ℕ) (r : ℕ) : Type 0 where
+  pub number : r ≡ sheetNumber (taken limits s .answer) b
+  pub table : b′ ≡ afterSheet (taken limits s .answer) (taken limits s .code) b
+
+-- The answer is too short to be told, whatever the other buffers are.
+abbrev pub noAnswer : Condition
+noAnswer = record { refusal = ShortBuffer; holds = Unit }
+
+-- The number of the lowest refusal where the answer is too short: the operation's own below 13, or 13.
+pub record Untold (conditions : List Condition) (r : ℕ) : Type 0 where
+  pub refusal : Refusal
+  pub lowest : Lowest (conditions ++ (noAnswer ∷ [])) refusal
+  pub number : r ≡ refusalNumber refusal
+
+-- Encoding the sequence s by the table in t into the buffer m, with the buffer a for the answer.
+pub data EncodeCall (t s m a m′ a′ : List ℕ) (r : ℕ) : Type 0 where
+  unread : length t < imageLength → r ≡ shortNumber → m′ ≡ m → a′ ≡ a → EncodeCall t s m a m′ a′ r
+  untold : imageLength ≤ length t → length a < answerLength → Untold (encodingConditions limits (codeIn t) s []) r → m′ ≡ m → a′ ≡ a → EncodeCall t s m a m′ a′ r
+  answered : {e : Encoding} → imageLength ≤ length t → answerLength ≤ length a → Encodes limits (codeIn t) s m m′ e → r ≡ encodingNumber e
+      → a′ ≡ written (encodingEntries e) a → EncodeCall t s m a m′ a′ r
+
+-- Reading the message m by the table in t into the buffers f and g, with the working buffer w and the buffer a for the answer.
+pub data ReadCall (t m f g w a f′ g′ w′ a′ : List ℕ) (r : ℕ) : Type 0 where
+  unread : length t < imageLength → r ≡ shortNumber → f′ ≡ f → g′ ≡ g → w′ ≡ w → a′ ≡ a → ReadCall t m f g w a f′ g′ w′ a′ r
+  untold : imageLength ≤ length t → length a < answerLength → Untold (readingConditions limits (codeIn t) m [] [] []) r → f′ ≡ f → g′ ≡ g → w′ ≡ w → a′ ≡ a
+      → ReadCall t m f g w a f′ g′ w′ a′ r
+  answered : {e : Reading} → imageLength ≤ length t → answerLength ≤ length a → ReadsMessage limits (codeIn t) m f g w f′ g′ w′ e → r ≡ readingNumber e
+      → a′ ≡ written (readingEntries e) a → ReadCall t m f g w a f′ g′ w′ a′ r
+
+-- The verdict on the table in t, with the message buffer m, the reading buffers f and g, the working buffer w and the buffer a for the answer.
+pub data VerdictCall (t m f g w a m′ f′ g′ w′ a′ : List ℕ) (r : ℕ) : Type 0 where
+  unread : length t < imageLength → r ≡ shortNumber → m′ ≡ m → f′ ≡ f → g′ ≡ g → w′ ≡ w → a′ ≡ a → VerdictCall t m f g w a m′ f′ g′ w′ a′ r
+  untold : imageLength ≤ length t → length a < answerLength → Untold (verdictConditions limits (codeIn t) [] [] [] []) r → m′ ≡ m → f′ ≡ f → g′ ≡ g → w′ ≡ w → a′ ≡ a
+      → VerdictCall t m f g w a m′ f′ g′ w′ a′ r
+  answered : {e : Judgement} → imageLength ≤ length t → answerLength ≤ length a → Judges limits (codeIn t) m f g w m′ f′ g′ w′ e → r ≡ judgementNumber e
+      → a′ ≡ written (judgementEntries e) a → VerdictCall t m f g w a m′ f′ g′ w′ a′ r

@@ -1,0 +1,73 @@
+-- The ways through the exported functions, one for each end of a call.
+use mathlib.Core.Path.{_≡_, refl, sym, _∙_}
+use mathlib.Core.List.{List, []}
+use Prim.Native.Nat.{ℕ, _≤_, _<_}
+use lib.ListN.{length}
+use borrow.Author.Tests.{lt-ltb, le-ltb}
+use Rattle.code.specs.declared.Code.{Code}
+use Rattle.code.specs.declared.Taken.{Taken}
+use Rattle.code.specs.declared.Refusal.{Refusal}
+use Rattle.code.specs.declared.SheetAnswer.the-variants.{Accepted, Refused}
+use Rattle.code.specs.declared.Encoding.{Encoding}
+use Rattle.code.specs.declared.Reading.{Reading}
+use Rattle.code.specs.declared.Judgement.{Judgement}
+use Rattle.code.specs.Definitions.Answers.{refusalNumber}
+use Rattle.code.specs.Definitions.Operations.{written, encodingConditions, readingConditions, verdictConditions, Encodes, ReadsMessage, Judges}
+use Rattle.code.specs.Definitions.Sheets.{limits, taken}
+use Rattle.table.specs.Given.{well}
+use Rattle.table.specs.WellFormed.{WellFormed}
+use Rattle.furlazon.specs.Image.{imageLength, imageOf, codeIn}
+use Rattle.furlazon.specs.Answers.{answerLength, encodingNumber, encodingEntries, readingNumber, readingEntries, judgementNumber, judgementEntries}
+use Rattle.furlazon.specs.Calls.{shortNumber, TakesIn, Untold, EncodeCall, ReadCall, VerdictCall}
+
+-- Taking in a sheet
+
+module _ (s b : List ℕ) (t : Taken) (gives : t ≡ taken limits s) where
+  pub accepted-well : t .answer ≡ Accepted → WellFormed limits (t .code)
+  accepted-well a = well (record { sheet = s; gives = sym gives ∙ rw a })
+
+  pub sheet-short : (n : ℕ) → t .answer ≡ Accepted → length b < imageLength → n ≡ shortNumber → TakesIn s b b n
+  sheet-short n a h e = let l = lt-ltb (length b) imageLength h in record { number = rw (← gives, a, l) e; table = rw (← gives, a, l) }
+
+  pub sheet-accepted : (b′ : List ℕ) → t .answer ≡ Accepted → imageLength ≤ length b → b′ ≡ written (imageOf (t .code)) b → TakesIn s b b′ 0
+  sheet-accepted b′ a h e = let l = le-ltb (length b) imageLength h in record { number = rw (← gives, a, l); table = rw (← gives, a, l) e }
+
+  pub sheet-refused : (r : Refusal) (n : ℕ) → t .answer ≡ Refused r → n ≡ refusalNumber r → TakesIn s b b n
+  sheet-refused r n a e = record { number = rw (← gives, a) e; table = rw (← gives, a) }
+
+-- The other operations: an image that is too short to be read, an answer that is too short to be told, and the operation's answer
+
+module _ {t s m a : List ℕ} where
+  pub encode-unread : {n : ℕ} → length t < imageLength → n ≡ shortNumber → EncodeCall t s m a m a n
+  encode-unread h e = EncodeCall.unread h e refl refl
+
+  pub encode-untold : {n : ℕ} {c : Code} → imageLength ≤ length t → length a < answerLength → c ≡ codeIn t → Untold (encodingConditions limits c s []) n
+      → EncodeCall t s m a m a n
+  encode-untold h l u e = EncodeCall.untold h l (rw u at e) refl refl
+
+  pub encode-answered : {m′ a′ : List ℕ} {n : ℕ} {e : Encoding} {c : Code} → imageLength ≤ length t → answerLength ≤ length a → c ≡ codeIn t → Encodes limits c s m m′ e
+      → (n ≡ encodingNumber e) × (a′ ≡ written (encodingEntries e) a) → EncodeCall t s m a m′ a′ n
+  encode-answered h l u r w = EncodeCall.answered h l (rw u at r) (w .0) (w .1)
+
+module _ {t m f g w a : List ℕ} where
+  pub read-unread : {n : ℕ} → length t < imageLength → n ≡ shortNumber → ReadCall t m f g w a f g w a n
+  read-unread h e = ReadCall.unread h e refl refl refl refl
+
+  pub read-untold : {n : ℕ} {c : Code} → imageLength ≤ length t → length a < answerLength → c ≡ codeIn t → Untold (readingConditions limits c m [] [] []) n
+      → ReadCall t m f g w a f g w a n
+  read-untold h l u e = ReadCall.untold h l (rw u at e) refl refl refl refl
+
+  pub read-answered : {f′ g′ w′ a′ : List ℕ} {n : ℕ} {e : Reading} {c : Code} → imageLength ≤ length t → answerLength ≤ length a → c ≡ codeIn t
+      → ReadsMessage limits c m f g w f′ g′ w′ e → (n ≡ readingNumber e) × (a′ ≡ written (readingEntries e) a) → ReadCall t m f g w a f′ g′ w′ a′ n
+  read-answered h l u r e = ReadCall.answered h l (rw u at r) (e .0) (e .1)
+
+  pub verdict-unread : {n : ℕ} → length t < imageLength → n ≡ shortNumber → VerdictCall t m f g w a m f g w a n
+  verdict-unread h e = VerdictCall.unread h e refl refl refl refl refl
+
+  pub verdict-untold : {n : ℕ} {c : Code} → imageLength ≤ length t → length a < answerLength → c ≡ codeIn t → Untold (verdictConditions limits c [] [] [] []) n
+      → VerdictCall t m f g w a m f g w a n
+  verdict-untold h l u e = VerdictCall.untold h l (rw u at e) refl refl refl refl refl
+
+  pub verdict-answered : {m′ f′ g′ w′ a′ : List ℕ} {n : ℕ} {e : Judgement} {c : Code} → imageLength ≤ length t → answerLength ≤ length a → c ≡ codeIn t
+      → Judges limits c m f g w m′ f′ g′ w′ e → (n ≡ judgementNumber e) × (a′ ≡ written (judgementEntries e) a) → VerdictCall t m f g w a m′ f′ g′ w′ a′ n
+  verdict-answered h l u r e = VerdictCall.answered h l (rw u at r) (e .0) (e .1)

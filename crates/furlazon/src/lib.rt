@@ -1,0 +1,114 @@
+// The operations for C and for Rust. A table crosses as its image, a flat run of bytes; an answer crosses as the number returned, 0 for a result or the
+// refusal's, and as entries of a lent buffer. include/furlazon.h declares these functions for C.
+
+pub mod answers;
+pub mod image;
+pub mod untold;
+
+use answers::Answer;
+use answers::number;
+use answers::put_encoding;
+use answers::put_judgement;
+use answers::put_reading;
+use code::Refusal;
+use code::SheetAnswer;
+use image::Image;
+use image::pack;
+use image::unpack;
+use untold::untold_encoding;
+use untold::untold_reading;
+use untold::untold_verdict;
+ghost use Rattle.furlazon.specs.Calls.{TakesIn, EncodeCall, ReadCall, VerdictCall};
+
+// Takes in a sheet. 0: accepted, and the table's image stands at the start of `table`. Else the refusal's number, and `table` is as it was.
+#[no_mangle]
+pub extern "C" fn furlazon_take_in(sheet: &[u8], table: &mut [u8]) -> u64
+    ensures { λ r. ⌜ TakesIn (now (sheet .entry)) (now (table .entry)) (now (table .exit)) r ⌝ }
+{
+    let taken = sheet::take_in(sheet);
+    let answer = taken.answer;
+    match answer {
+        SheetAnswer::Accepted => {
+            if table.len() < Image::LENGTH {
+                return number(Refusal::ShortBuffer);
+            }
+            let code = taken.code;
+            pack(code, table);
+            0
+        }
+        SheetAnswer::Refused(r) => number(r),
+    }
+}
+
+// Encodes a sequence of word numbers. 0: the message stands at the start of `message`, and `answer` has its length. Else the refusal's number, and
+// both are as they were.
+#[no_mangle]
+pub extern "C" fn furlazon_encode(
+    table: &[u8],
+    words: &[u8],
+    message: &mut [u8],
+    answer: &mut [u64],
+) -> u64
+    ensures { λ r. ⌜ EncodeCall (now (table .entry)) (now (words .entry)) (now (message .entry)) (now (answer .entry))
+        (now (message .exit)) (now (answer .exit)) r ⌝ }
+{
+    if table.len() < Image::LENGTH {
+        return number(Refusal::ShortBuffer);
+    }
+    let code = unpack(table);
+    if answer.len() < Answer::LENGTH {
+        return untold_encoding(code, words);
+    }
+    let e = encoding::encode(code, words, message);
+    put_encoding(e, answer)
+}
+
+// Reads a message. 0: the only reading or the first two stand at the start of `first` and `second`; `answer` has 1 or 2, and their lengths. Else the
+// refusal's number, and the buffers are as they were, except that 14 leaves `work` all zero.
+#[no_mangle]
+pub extern "C" fn furlazon_read(
+    table: &[u8],
+    message: &[u8],
+    first: &mut [u8],
+    second: &mut [u8],
+    work: &mut [u64],
+    answer: &mut [u64],
+) -> u64
+    ensures { λ r. ⌜ ReadCall (now (table .entry)) (now (message .entry)) (now (first .entry)) (now (second .entry)) (now (work .entry))
+        (now (answer .entry)) (now (first .exit)) (now (second .exit)) (now (work .exit)) (now (answer .exit)) r ⌝ }
+{
+    if table.len() < Image::LENGTH {
+        return number(Refusal::ShortBuffer);
+    }
+    let code = unpack(table);
+    if answer.len() < Answer::LENGTH {
+        return untold_reading(code, message);
+    }
+    let e = reading::read(code, message, first, second, work);
+    put_reading(e, answer)
+}
+
+// Gives the verdict on a table. 0: `answer` has 1, 2 or 3 for ambiguous, decipherable with a delay, or without bound, and the lengths or the delay. For
+// an ambiguous code the message and its first two readings stand at the start of their buffers. Else the refusal's number, and nothing is changed.
+#[no_mangle]
+pub extern "C" fn furlazon_verdict(
+    table: &[u8],
+    message: &mut [u8],
+    first: &mut [u8],
+    second: &mut [u8],
+    work: &mut [u64],
+    answer: &mut [u64],
+) -> u64
+    ensures { λ r. ⌜ VerdictCall (now (table .entry)) (now (message .entry)) (now (first .entry)) (now (second .entry)) (now (work .entry))
+        (now (answer .entry)) (now (message .exit)) (now (first .exit)) (now (second .exit)) (now (work .exit)) (now (answer .exit)) r ⌝ }
+{
+    if table.len() < Image::LENGTH {
+        return number(Refusal::ShortBuffer);
+    }
+    let code = unpack(table);
+    if answer.len() < Answer::LENGTH {
+        return untold_verdict(code);
+    }
+    let e = decipher::verdict(code, message, first, second, work);
+    put_judgement(e, answer)
+}

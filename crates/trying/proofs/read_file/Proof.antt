@@ -1,0 +1,28 @@
+-- What was read lies within the buffer.
+use Rattle.streams.specs.Inputs.{holds-bytes}
+use borrow.Author.Needs.{needs}
+use Rattle.trying.proofs.read_file.Statement.{statement}
+use Rattle.trying.proofs.read_file.Tie as tie
+
+returns-3 : tie.Need-returns-3
+returns-3 c =
+    let told = c .before .before in
+    holds-bytes _ (told .read .given .1) (told .before .before .before .before .read-input .ensures)
+
+pub read-file-spec : {M : Type 1} → statement M
+read-file-spec =
+    tie.close
+    (tie.spec
+    (λ c κs. search needs)
+    (λ c κs. search needs)
+    (λ c. search needs)
+    (λ c κs. search needs)
+    (λ c. search needs)
+    (λ c. search needs)
+    (λ c κs. search needs)
+    (λ c κs. search needs)
+    (λ c. search needs)
+    (λ c. search needs)
+    (λ c κs. search needs)
+    (λ c. search needs)
+    returns-3)
