@@ -1,30 +1,16 @@
 /* Codes with forbidden successors: taking in a sheet, encoding, reading, and the verdict.
  *
  * The functions are proved for every input that this file allows: pointers to as many entries as the length beside them says,
- * no two of them overlapping where one is written, none of them NULL, and 8-byte alignment for uint64_t. Nothing else is asked.
+ * no two of them overlapping where one is written, and 8-byte alignment for uint64_t. Nothing else is asked. Where a length is 0
+ * the pointer may be NULL: nothing is read or written through it, and the buffer is an empty one.
  * docs/LINKING.md tells how to link them.
  *
- * Every function returns 0 for a result and otherwise the number of a refusal, the lowest that holds:
+ * Every function returns 0 for a result and otherwise the number of a refusal, the lowest that holds. A `table` that is too short
+ * to be read is refused FURLAZON_REFUSED_SHORT_BUFFER by itself, since nothing can be tested without it; every other buffer that is
+ * too short, `answer` too, gets that number in its place among the others.
  *
- *    1  sheet of 0 bytes or over 4,096
- *    2  a byte other than 0-9, A-F, comma, CR, LF; a CR without LF next; an LF without CR before
- *    3  more than 32 records
- *    4  a first field that is empty or has over 16 digits
- *    5  over 128 symbols in all
- *    6  a record that has not one field more than there are records
- *    7  a row entry other than the single digit 0 or 1
- *    8  a table that no accepted sheet gives
- *    9  a word number that is not in the table
- *   10  a neighbouring pair that is not permitted
- *   11  a message of over 16,384 symbols
- *   12  a message symbol above 15
- *   13  a buffer that is too short
- *   14  no permitted sequence has this message
- *
- * One rule is of these functions alone: a `table` that is read or an `answer` gets 13 before anything else is looked at, if it is too
- * short.
- * A refusal changes no buffer, except that 14 leaves `work` all zero. A result leaves the whole of `work` zero, and in every
- * other buffer what stands past the written part as it was.
+ * A refusal changes no buffer, except that FURLAZON_REFUSED_NO_READING leaves `work` all zero. A result leaves the whole of `work`
+ * zero, and in every other buffer what stands past the written part as it was.
  */
 #ifndef FURLAZON_H
 #define FURLAZON_H
@@ -36,6 +22,30 @@
 extern "C" {
 #endif
 
+/* Limits. */
+#define FURLAZON_ALPHABET 16           /* a symbol is a number below it */
+#define FURLAZON_CODE_WORDS 32         /* words of a code */
+#define FURLAZON_WORD_SYMBOLS 16       /* symbols of a word */
+#define FURLAZON_CODE_SYMBOLS 128      /* symbols of all words together */
+#define FURLAZON_SHEET_BYTES 4096      /* bytes of a sheet */
+#define FURLAZON_MESSAGE_SYMBOLS 16384 /* symbols of a message, for encoding and reading */
+
+/* Refusals. */
+#define FURLAZON_REFUSED_SHEET_LENGTH 1    /* a sheet of 0 bytes or over FURLAZON_SHEET_BYTES */
+#define FURLAZON_REFUSED_SHEET_BYTES 2     /* a byte other than 0-9, A-F, comma, CR, LF; a CR without LF next; an LF without CR before */
+#define FURLAZON_REFUSED_RECORD_COUNT 3    /* more than FURLAZON_CODE_WORDS records */
+#define FURLAZON_REFUSED_WORD_LENGTH 4     /* a first field that is empty or has over FURLAZON_WORD_SYMBOLS digits */
+#define FURLAZON_REFUSED_CODE_LENGTH 5     /* over FURLAZON_CODE_SYMBOLS symbols in all */
+#define FURLAZON_REFUSED_FIELD_COUNT 6     /* a record that has not one field more than there are records */
+#define FURLAZON_REFUSED_ROW_ENTRY 7       /* a row entry other than the single digit 0 or 1 */
+#define FURLAZON_REFUSED_NOT_FROM_SHEET 8  /* a table that no accepted sheet gives */
+#define FURLAZON_REFUSED_UNKNOWN_WORD 9    /* a word number that is not in the table */
+#define FURLAZON_REFUSED_FORBIDDEN_PAIR 10 /* a neighbouring pair that is not permitted */
+#define FURLAZON_REFUSED_MESSAGE_LENGTH 11 /* a message of over FURLAZON_MESSAGE_SYMBOLS symbols */
+#define FURLAZON_REFUSED_MESSAGE_SYMBOL 12 /* a message symbol that is not below FURLAZON_ALPHABET */
+#define FURLAZON_REFUSED_SHORT_BUFFER 13   /* a buffer that is too short */
+#define FURLAZON_REFUSED_NO_READING 14     /* no permitted sequence has this message */
+
 /* Bytes of a table's image. For each of the 32 words its 16 symbols and then its length; then row 0 to row 31, with 32 entries
  * each; then the number of words. Entry Y of row X is 1 if word X may come immediately after word Y, else 0. All that stands past
  * a word's length or past the number of words is zero. */
@@ -43,9 +53,6 @@ extern "C" {
 
 /* Entries of an answer. */
 #define FURLAZON_ANSWER_ENTRIES 4
-
-/* Symbols a message has at most, for encoding and reading. */
-#define FURLAZON_MESSAGE_SYMBOLS 16384
 
 /* Entries that a verdict needs: in `message`, `first` and `second` each, and in `work`. */
 #define FURLAZON_VERDICT_ENTRIES 8256

@@ -64,18 +64,21 @@ fn answer_input(input: &[u8], n: usize, out: &mut [u8]) -> usize
 // answer.
 fn main() {
     if 1 < os::arg_count() {
-        io::write_all(STDERR_FILENO, b"usage: verdict < SHEET.csv\n");
+        io::write_all(
+            STDERR_FILENO,
+            b"verdict takes no argument; usage: verdict < SHEET.csv\n",
+        );
         return;
     }
     let mut input = [0u8; Sheet::BYTES + 1];
     let read = streams::read_input(STDIN_FILENO, &mut input);
     let Input::Bytes(n) = read else {
-        os::fail(b"verdict: standard input");
+        os::fail(b"verdict: cannot read standard input");
         return;
     };
     let mut out = [0u8; Output::BYTES];
     let k = answer_input(&input, n, &mut out);
     if !io::write_all(STDOUT_FILENO, &out[..k]) {
-        os::fail(b"verdict: standard output");
+        os::fail(b"verdict: cannot write standard output");
     }
 }

@@ -4,7 +4,8 @@
 #include <inttypes.h>
 #include <stdio.h>
 
-static uint8_t sheet[4097];
+/* One byte past the limit is enough to see that a sheet is too long. */
+static uint8_t sheet[FURLAZON_SHEET_BYTES + 1];
 static uint8_t table[FURLAZON_TABLE_BYTES];
 static uint8_t message[FURLAZON_VERDICT_ENTRIES];
 static uint8_t first[FURLAZON_VERDICT_ENTRIES];
@@ -36,8 +37,11 @@ static void print_verdict(void) {
 }
 
 int main(void) {
-    /* One byte past the limit is enough to see that a sheet is too long. */
     size_t length = fread(sheet, 1, sizeof sheet, stdin);
+    if (ferror(stdin)) {
+        perror("standard input");
+        return 1;
+    }
     uint64_t refused = furlazon_take_in(sheet, length, table, sizeof table);
     if (refused == 0) {
         refused = furlazon_verdict(table, sizeof table, message, sizeof message, first, sizeof first, second, sizeof second,

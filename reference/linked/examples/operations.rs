@@ -1,7 +1,9 @@
-//! The verdict on code U, from a sheet in memory, with the only reading of a
-//! message and the message again from the reading.
+//! Code U from a sheet in memory: its verdict, the only reading of a message,
+//! the message again from the reading, a sequence that is refused, and the
+//! empty message. Prints what `operations.c` prints.
 
 use furlazon::{ANSWER_ENTRIES, TABLE_BYTES};
+use reference::code::Refusal;
 use reference::operations::{VERDICT_ENTRIES, VERDICT_WORKING};
 
 fn main() {
@@ -21,4 +23,11 @@ fn main() {
 
     let refused = furlazon::encode(&table, &reading, &mut message, &mut answer);
     println!("its message: refusal {refused}, symbols {:?}", &message[..answer[0] as usize]);
+
+    let refused = furlazon::encode(&table, &[2, 0], &mut message, &mut answer);
+    let forbidden = refused == u64::from(Refusal::PairNotPermitted.number());
+    println!("word 0 after word 2: {}", if forbidden { "forbidden" } else { "not forbidden" });
+
+    let refused = furlazon::read(&table, &[], &mut [], &mut [], &mut work[..1], &mut answer);
+    println!("reading of the empty message: refusal {refused}, answer {answer:?}");
 }

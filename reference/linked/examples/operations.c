@@ -1,0 +1,57 @@
+/* Code U from a sheet in memory: its verdict, the only reading of a message, the message again from the reading, a sequence that is
+ * refused, and the empty message. Prints what examples/operations.rs prints. */
+#include "furlazon.h"
+
+#include <inttypes.h>
+#include <stdio.h>
+
+static const char sheet[] = "0,1,1,0,0\r\n10,1,1,1,1\r\n01,1,1,0,0\r\n101,1,1,1,1\r\n";
+static uint8_t table[FURLAZON_TABLE_BYTES];
+static uint8_t message[FURLAZON_VERDICT_ENTRIES];
+static uint8_t first[FURLAZON_VERDICT_ENTRIES];
+static uint8_t second[FURLAZON_VERDICT_ENTRIES];
+static uint64_t work[FURLAZON_VERDICT_WORK];
+static uint64_t answer[FURLAZON_ANSWER_ENTRIES];
+
+static void print_entries(const char *name, const uint8_t *entries, uint64_t count) {
+    printf(", %s [", name);
+    for (uint64_t i = 0; i < count; i++) {
+        printf("%s%u", i == 0 ? "" : ", ", (unsigned)entries[i]);
+    }
+    printf("]\n");
+}
+
+static void print_answer(const char *name, uint64_t refused) {
+    printf("%s: refusal %" PRIu64 ", answer [%" PRIu64 ", %" PRIu64 ", %" PRIu64 ", %" PRIu64 "]", name, refused, answer[0], answer[1],
+           answer[2], answer[3]);
+}
+
+int main(void) {
+    if (furlazon_take_in((const uint8_t *)sheet, sizeof sheet - 1, table, sizeof table) != 0) {
+        return 1;
+    }
+    uint64_t refused = furlazon_verdict(table, sizeof table, message, sizeof message, first, sizeof first, second, sizeof second, work,
+                                        FURLAZON_VERDICT_WORK, answer, FURLAZON_ANSWER_ENTRIES);
+    print_answer("verdict", refused);
+    printf("\n");
+
+    const uint8_t symbols[] = {0, 1, 1, 0, 1};
+    refused = furlazon_read(table, sizeof table, symbols, sizeof symbols, first, sizeof first, second, sizeof second, work,
+                            FURLAZON_VERDICT_WORK, answer, FURLAZON_ANSWER_ENTRIES);
+    print_answer("reading of 01101", refused);
+    print_entries("words", first, answer[1]);
+
+    refused = furlazon_encode(table, sizeof table, first, answer[1], message, sizeof message, answer, FURLAZON_ANSWER_ENTRIES);
+    printf("its message: refusal %" PRIu64, refused);
+    print_entries("symbols", message, answer[0]);
+
+    const uint8_t forbidden[] = {2, 0};
+    refused = furlazon_encode(table, sizeof table, forbidden, sizeof forbidden, message, sizeof message, answer, FURLAZON_ANSWER_ENTRIES);
+    printf("word 0 after word 2: %s\n", refused == FURLAZON_REFUSED_FORBIDDEN_PAIR ? "forbidden" : "not forbidden");
+
+    /* An empty buffer may be NULL. */
+    refused = furlazon_read(table, sizeof table, NULL, 0, NULL, 0, NULL, 0, work, 1, answer, FURLAZON_ANSWER_ENTRIES);
+    print_answer("reading of the empty message", refused);
+    printf("\n");
+    return 0;
+}

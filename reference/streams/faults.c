@@ -1,0 +1,22 @@
+/* Makes reads of standard input fail as the letters of the environment variable FAULTS say, one for each read: i, it is interrupted;
+ * e, an error of the device; b, it gives three bytes at most. Reads after the last letter are left alone. For LD_PRELOAD. */
+#define _GNU_SOURCE
+#include <errno.h>
+#include <stdlib.h>
+#include <sys/syscall.h>
+#include <unistd.h>
+
+static size_t reads;
+
+ssize_t read(int fd, void *bytes, size_t count) {
+    const char *faults = fd == STDIN_FILENO ? getenv("FAULTS") : NULL;
+    if (faults != NULL && faults[reads] != '\0') {
+        char fault = faults[reads++];
+        if (fault != 'b') {
+            errno = fault == 'i' ? EINTR : EIO;
+            return -1;
+        }
+        count = count < 3 ? count : 3;
+    }
+    return syscall(SYS_read, fd, bytes, count);
+}
