@@ -5,9 +5,9 @@ use lib.ListN.{length}
 use borrow.Author.Needs.{needs}
 use borrow.Author.Count.{below-none, below-more}
 use Rattle.code.specs.Definitions.Sheets.{limits}
-use Rattle.encoding.specs.Passes.{FollowsBelow, known-pair, forbidden-here, forbidden-nowhere}
-use Rattle.encoding.proofs.has_forbidden.Statement.{statement}
-use Rattle.encoding.proofs.has_forbidden.Tie as tie
+use Rattle.encoding.specs.Passes.{FollowsBelow, known-pair, barred-here, barred-nowhere}
+use Rattle.encoding.proofs.has_barred.Statement.{statement}
+use Rattle.encoding.proofs.has_barred.Tie as tie
 
 abbrev Inv-loop : tie.InvT-loop
 Inv-loop words code i₀ i = (i ≤ length words) × FollowsBelow code words i
@@ -46,16 +46,16 @@ element-copy-out-if1 c =
 returns : tie.Need-returns Inv-loop μ-loop
 returns c =
     let loop = c .before .before .before .before .before .before .loop in
-    forbidden-here limits (c .before .before .before .before .before .before .before .pre) (loop .i) (omega arith) (c .if1 .taken)
+    barred-here limits (c .before .before .before .before .before .before .before .pre) (loop .i) (omega arith) (c .if1 .taken)
 
 loop-again : tie.Need-loop-again Inv-loop μ-loop
 loop-again c = (search needs, below-more _ _ (c .before .before .before .before .before .before .loop .inv .1) (c .if1 .left))
 
 returns-2 : tie.Need-returns-2 Inv-loop μ-loop
-returns-2 c = search (forbidden-nowhere limits)
+returns-2 c = search (barred-nowhere limits)
 
-pub has-forbidden-spec : {M : Type 1} → statement M
-has-forbidden-spec =
+pub has-barred-spec : {M : Type 1} → statement M
+has-barred-spec =
     tie.close
     (tie.spec
     Inv-loop
