@@ -1,13 +1,14 @@
 -- The passes of encoding over a sequence: each keeps what it knows of the entries passed, and one entry more is one lemma.
 use mathlib.Core.Path.{_≡_, sym, ap, _∙_}
-use mathlib.Core.Bool.{Bool, true, false}
+use mathlib.Core.Bool.{Bool, true, false, not, false≢true}
 use mathlib.Core.List.{List, _++_}
 use Prim.Native.Nat.{ℕ, _+_, _≤_, _<_, min}
 use native.Mathlib.Decide.{decLt}
 use native.Mathlib.Omega.{arith}
 use lib.ListN.{length, take, getD, length-append}
 use lib.Seq.{paste}
-use borrow.Author.Tests.{eqb-false, ne-eqb}
+use lib.Dec.{eqb}
+use borrow.Author.Tests.{eqb-false, ne-eqb, not-true, not-false}
 use Rattle.code.specs.declared.Word.{Word}
 use Rattle.code.specs.declared.Code.{Code}
 use Rattle.code.specs.declared.Limits.{Limits}
@@ -93,6 +94,9 @@ module _ {t : Table} {s : List ℕ} {a : Bool} (opening : Exactly a (CannotBegin
       none : b ≡ false → HasForbidden t s → ⊥
       none h (HasForbidden.opening l f) = opening .no e (l, f)
       none h (HasForbidden.pair i l f) = pairs .no h (record { at = i; within = l; barred = f })
+
+pub opening-tested : (c : Code) (s : List ℕ) → 0 < length s → Exactly (not (eqb (getD (c .begins) (getD s 0 0) 0) 1)) (CannotBegin (tableOf c) s)
+opening-tested c s h = record { yes = λ e. (h, not-true _ e); no = λ e o. false≢true (sym (o .1) ∙ not-false _ e) }
 
 -- Entry k + 1 of s may come immediately after entry k.
 abbrev pub FollowsAt : Code → List ℕ → ℕ → Type 0

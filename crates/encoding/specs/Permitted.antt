@@ -13,13 +13,17 @@ use Rattle.code.specs.Definitions.Tables.{Table, size, Linked, none, one, more,
 use Rattle.code.specs.Definitions.Operations.{HasUnknown, HasForbidden, opening, pair}
 use Rattle.code.specs.Laws.Sequences.{first-word, second-follows, rest-linked, permitted-linked, first-begins}
 
+-- Each entry of s may come immediately after the one before it.
+abbrev Follows : Table → List ℕ → Type 0
+Follows t s = (i : ℕ) → suc i < length s → t .follow (getD s (suc i) 0) (getD s i 0) ≡ true
+
 module _ {t : Table} where
   known-at : (s : List ℕ) → Linked t s → (i : ℕ) → i < length s → getD s i 0 < size t
   known-at [] p i h = absurd (omega arith)
   known-at (x ∷ s) p zero h = first-word p
   known-at (x ∷ s) p (suc i) h = known-at s (rest-linked p) i (omega arith)
 
-  follows-at : (s : List ℕ) → Linked t s → (i : ℕ) → suc i < length s → t .follow (getD s (suc i) 0) (getD s i 0) ≡ true
+  follows-at : (s : List ℕ) → Linked t s → Follows t s
   follows-at [] p i h = absurd (omega arith)
   follows-at (x ∷ []) p i h = absurd (omega arith)
   follows-at (y ∷ x ∷ s) p zero h = second-follows p
@@ -45,16 +49,12 @@ module _ {t : Table} where
   known-rest : {x : ℕ} {s : List ℕ} → (HasUnknown t (x ∷ s) → ⊥) → HasUnknown t s → ⊥
   known-rest k u = k (record { at = suc (u .at); within = omega (arith, u .within); unknown = u .unknown })
 
-  -- Every neighbouring pair of s may follow one another.
-  abbrev Follows : List ℕ → Type 0
-  Follows s = (i : ℕ) → suc i < length s → t .follow (getD s (suc i) 0) (getD s i 0) ≡ true
-
-  linked : (s : List ℕ) → (HasUnknown t s → ⊥) → Follows s → Linked t s
+  linked : (s : List ℕ) → (HasUnknown t s → ⊥) → Follows t s → Linked t s
   linked [] k f = none
   linked (x ∷ []) k f = one (known-head k (decLt x (size t)))
   linked (y ∷ x ∷ s) k f = more (known-head k (decLt y (size t))) (f 0 (omega arith)) (linked (x ∷ s) (known-rest k) (λ i h. f (suc i) (omega arith)))
 
-  follows-all : {s : List ℕ} → (HasForbidden t s → ⊥) → Follows s
+  follows-all : {s : List ℕ} → (HasForbidden t s → ⊥) → Follows t s
   follows-all {s} f i h = by (t .follow (getD s (suc i) 0) (getD s i 0)) refl
     where
       by : (b : Bool) → t .follow (getD s (suc i) 0) (getD s i 0) ≡ b → t .follow (getD s (suc i) 0) (getD s i 0) ≡ true
