@@ -1,7 +1,7 @@
 -- The sets that go along with the position, from the last to the first: the tails, the words after which reading can go on, and the marks of the positions
 -- behind. Shown is that a step of the tails, the union of the rows of the words that begin and one entry more keep them right.
-use mathlib.Core.Path.{_≡_, refl, sym, _∙_}
-use mathlib.Core.Bool.{Bool, true}
+use mathlib.Core.Path.{_≡_, refl, _∙_}
+use mathlib.Core.Bool.{Bool}
 use mathlib.Core.List.{List, []}
 use Prim.Native.Nat.{ℕ, _+_, _-_, _^_, _≤_, _<_}
 use native.Mathlib.Decide.{decLt, ℕ-discrete}

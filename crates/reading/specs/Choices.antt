@@ -1,8 +1,8 @@
--- What the bits of a position tell of the words that open a reading there: whether there is one, the lowest, the next above it. Where the bits are right, the
+-- What the marks of a position tell of the words that open a reading there: whether there is one, the lowest, the next above it. Where the marks are right, the
 -- least usable word from a number on is the least that opens a reading.
 use mathlib.Core.Path.{_≡_, sym, _∙_}
 use mathlib.Core.Bool.{Bool, true, false, false≢true, _&&_, and-eq-true-iff}
-use mathlib.Core.List.{List, [], _∷_}
+use mathlib.Core.List.{List, []}
 use Prim.Native.Nat.{ℕ, _+_, _/_, _^_, _≤_, _<_}
 use native.Mathlib.Decide.{decLt}
 use native.Mathlib.Omega.{arith}
@@ -10,22 +10,22 @@ use borrow.Author.Tests.{lt-ltb, le-ltb}
 use lib.Dec.{ltb}
 use lib.ListN.{length, getD}
 use Rattle.table.specs.Exactly.{Exactly, exactly-true, exactly-false}
-use Rattle.reading.specs.Firsts.{by-order}
-use Rattle.marking.specs.Text.{Text, From, done, word, Can, Begins, Opens, opens-of, opens-can}
-use Rattle.reading.specs.FirstWords.{Lowest, Highest, Next}
 use Rattle.bits.specs.Lowest.{LowestOf, lowest-in, lowest-between}
-use Rattle.bits.specs.Bits.{bit-out}
+use Rattle.bits.specs.Bits.{width, bit-out}
 use Rattle.sets.specs.Sets.{mayAfter}
+use Rattle.marking.specs.Text.{Text, From, done, word, Can, Begins, Opens, opens-of, opens-can}
 use Rattle.marking.specs.Marks.{markAt}
 use Rattle.marking.specs.Message.{textOf}
+use Rattle.reading.specs.Firsts.{by-order}
+use Rattle.reading.specs.FirstWords.{Lowest, Highest, Next}
 
--- Word x has its bit on at position p, and may come after y.
+-- Word x is marked at position p, and may come after y.
 unfoldable pub usable : (work rows : List ℕ) (p y x : ℕ) → Bool
 usable work rows p y x = markAt work p x && mayAfter rows x y
 
 -- What asking for the words usable at position p after y needs.
 pub record Asks (work rows : List ℕ) (n p y : ℕ) : Type 0 where
-  pub small : n < 64
+  pub small : n < width
   pub rowed : n ≤ length rows
   pub room : p < length work
   pub bound : getD work p 0 < 2 ^ n
@@ -47,7 +47,7 @@ pub data Continues (work rows : List ℕ) (n end p y : ℕ) : Type 0 where
   at-end : p ≡ end → Continues work rows n end p y
   by-word : (x : ℕ) → x < n → usable work rows p y x ≡ true → Continues work rows n end p y
 
--- The bits of position p are right for the text.
+-- The marks of position p are right for the text.
 pub record Tells (K : Text) (work rows : List ℕ) (n p : ℕ) : Type 0 where
   pub opens : (y x : ℕ) → x < n → usable work rows p y x ≡ true → Opens K p y x
   pub known : (y x : ℕ) → Opens K p y x → x < n
@@ -94,7 +94,7 @@ sought-continues {work} {rows} {n} {end} {p} {y} {r} ne s = by (decLt r n)
     by (no h) = rw (le-ltb r n (omega arith)) (exactly-false (not-yet (omega arith)))
 
 module _ {K : Text} {work rows : List ℕ} {n p : ℕ} (tells : Tells K work rows n p) where
-  -- The bits let the message be read on just where it can be.
+  -- The marks let the message be read on just where it can be.
   pub continues-can : {y : ℕ} → Continues work rows n (K .end) p y → Can K p y
   continues-can (at-end e) = record { rest = []; reads = done e }
   continues-can {y} (by-word x h u) = opens-can (tells .opens y x h u)
@@ -132,7 +132,7 @@ module _ {K : Text} {work rows : List ℕ} {n p : ℕ} (tells : Tells K work row
   pub sought-highest : {y x z : ℕ} → Sought work rows n p y (x + 1) z → n ≤ z → Highest K p y x
   sought-highest {y} s h v a o = sought-none s v (omega arith) (omega (arith, tells .known y v o)) o
 
--- Bits that are on just where a word begins are right.
+-- Marks that are just the words that begin are right.
 pub tells-where : (lengths : List ℕ) {rows work : List ℕ} {n end p : ℕ} {stands : ℕ → ℕ → Type 0}
     → ((x : ℕ) → x < n → markAt work p x ≡ true → Begins (textOf rows lengths n stands end) p x)
     → ((x : ℕ) → Begins (textOf rows lengths n stands end) p x → markAt work p x ≡ true)

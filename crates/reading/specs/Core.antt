@@ -1,4 +1,4 @@
--- What reading by flat lists promises, for every table that they hold, and how marks and walks give it.
+-- What reading by the sets of a code's words promises, for every table whose sets they are, and how marks and walks give it.
 use mathlib.Core.Path.{_≡_}
 use mathlib.Core.List.{List}
 use Prim.Native.Nat.{ℕ, _^_, _<_}
@@ -11,12 +11,12 @@ use Rattle.code.specs.declared.WordCount.{WordCount}
 use Rattle.code.specs.Definitions.Tables.{Table}
 use Rattle.code.specs.Definitions.Readings.{Reads, NoReading, OnlyReading, FirstTwo}
 use Rattle.code.specs.Definitions.Operations.{written, zeroed}
-use Rattle.reading.specs.Firsts.{Only, FirstPair}
-use Rattle.marking.specs.Text.{From}
 use Rattle.sets.specs.Sets.{SetsOf, Lays}
+use Rattle.marking.specs.Text.{From}
 use Rattle.marking.specs.Message.{text}
-use Rattle.reading.specs.Readings.{from-reads, reads-from}
 use Rattle.marking.specs.Marks.{Marked}
+use Rattle.reading.specs.Firsts.{Only, FirstPair}
+use Rattle.reading.specs.Readings.{from-reads, reads-from}
 use Rattle.reading.specs.Shown.{shown, from-shown, shown-from, marked-sure}
 use Rattle.reading.specs.Steps.{Walkable}
 use Rattle.reading.specs.Answers as Answers
@@ -28,23 +28,24 @@ pub data Finds (t : Table) (m f g f′ g′ : List ℕ) : Reading → Type 0 whe
   two : {c d : WordCount} {s u : List ℕ} → FirstTwo t m s u → c .0 ≡ length s → d .0 ≡ length u → f′ ≡ written s f → g′ ≡ written u g
       → Finds t m f g f′ g′ (Two c d)
 
--- Reading m by flat lists: the readings in every table that the lists hold, and the working buffer zero.
+-- Reading m by sets: the readings in every table whose sets they are, and the working buffer zero.
 pub record ReadsSets (having ends rows lengths : List ℕ) (n longest : ℕ) (m f g w f′ g′ w′ : List ℕ) (r : Reading) : Type 0 where
   pub finds : (t : Table) → Lays t having ends rows lengths n longest → Finds t m f g f′ g′ r
   pub work : w′ ≡ zeroed w
 
 module _ {having ends rows lengths m : List ℕ} {n longest : ℕ} where
   -- Full marks can be walked.
-  pub marked-walkable : {work : List ℕ} → SetsOf having ends rows lengths n longest → length m < length work → length m < 2 ^ 32 → Marked (text having rows lengths n m) n work 0 → Walkable rows lengths work n (length m)
-  marked-walkable f long near k = record { shaped = f .shaped; long = long; near = near; sure = marked-sure f k; bound = λ p. k .bound p (omega arith) }
+  pub marked-walkable : {work : List ℕ} → SetsOf having ends rows lengths n longest → length m < length work → length m < 2 ^ 32
+      → Marked (text having rows lengths n m) n work 0 → Walkable rows lengths work n (length m)
+  marked-walkable sets long near marked =
+      record { shaped = sets .shaped; long = long; near = near; sure = marked-sure sets marked; bound = λ p. marked .bound p (omega arith) }
 
-  module _ {t : Table} {work : List ℕ} (flat : SetsOf having ends rows lengths n longest) (marked : Marked (text having rows lengths n m) n work 0)
-      (lays : Lays t having ends rows lengths n longest) where
+  module _ {t : Table} {work : List ℕ} (lays : Lays t having ends rows lengths n longest) (marked : Marked (text having rows lengths n m) n work 0) where
     reads-shown : (s : List ℕ) → Reads t m s → From (shown rows lengths work n (length m)) 0 n s
-    reads-shown s r = from-shown flat marked (reads-from lays m s r)
+    reads-shown s r = from-shown (lays .sets) marked (reads-from lays m s r)
 
     shown-reads : (s : List ℕ) → From (shown rows lengths work n (length m)) 0 n s → Reads t m s
-    shown-reads s r = from-reads lays m s (shown-from flat marked r)
+    shown-reads s r = from-reads lays m s (shown-from (lays .sets) marked r)
 
     only-reading : {s : List ℕ} → Only (From (shown rows lengths work n (length m)) 0 n) s → OnlyReading t m s
     only-reading {s} o = record { reads = shown-reads s (o .member); only = λ u r. o .only u (reads-shown u r) }

@@ -1,6 +1,6 @@
--- Where flat lists hold a table, reading the message from its first position, after the start, is reading it by the table. The sequences from any position
+-- Where the lists are the sets of a table's words, reading the message from its first position, after the start, is reading it by the table. The sequences from any position
 -- are compared: permitted, in order after the word before, and with the rest of the message.
-use mathlib.Core.Path.{_≡_, refl, sym, ap, _∙_}
+use mathlib.Core.Path.{_≡_, sym, ap, _∙_}
 use mathlib.Core.Bool.{true}
 use mathlib.Core.List.{List, [], _∷_, _++_}
 use Prim.Native.Nat.{ℕ, _+_, _-_, _≤_, _<_}
@@ -11,9 +11,9 @@ use lib.Seq.{ext-getD, length-take-le, getD-take, getD-drop, drop-at, drop-drop}
 use Rattle.code.specs.Definitions.Tables.{Table, word, Permitted, none, one, more, message}
 use Rattle.code.specs.Definitions.Readings.{Reads}
 use Rattle.code.specs.Laws.Sequences.{first-word, second-follows, rest-permitted}
-use Rattle.marking.specs.Text.{From, done, word as first}
 use Rattle.sets.specs.Sets.{lengthAt, mayAfter, Lays}
-use Rattle.marking.specs.Message.{Fits, Stands, text}
+use Rattle.marking.specs.Text.{From, done, word as first}
+use Rattle.marking.specs.Message.{Stands, text}
 
 module _ {t : Table} {having ends rows lengths : List ℕ} {n longest : ℕ} (l : Lays t having ends rows lengths n longest) (m : List ℕ) where
   module _ {p x : ℕ} (h : x < n) (s : Stands having lengths m p x) where
@@ -57,21 +57,17 @@ module _ {t : Table} {having ends rows lengths : List ℕ} {n longest : ℕ} (l 
   head-known : {x : ℕ} {s : List ℕ} → Permitted t (x ∷ s) → x < n
   head-known r = rw (← l .count) (first-word r)
 
-  -- x may come after y in the flat lists just where it may in the table.
-  may-table : (x y : ℕ) → x < n → y < n → mayAfter rows x y ≡ t .follow x y
-  may-table x y hx hy = l .entries x y hx hy
-
   after-start : (s : List ℕ) → Permitted t s → After n s
   after-start [] r = tt
   after-start (x ∷ s) r = l .starts x (head-known r)
 
   after-word : {x : ℕ} (s : List ℕ) → Permitted t (x ∷ s) → After x s
   after-word [] r = tt
-  after-word {x} (z ∷ s) r = may-table z x (head-known (rest-permitted r)) (head-known r) ∙ second-follows r
+  after-word {x} (z ∷ s) r = l .entries z x (head-known (rest-permitted r)) (head-known r) ∙ second-follows r
 
   cons : {x : ℕ} (s : List ℕ) → x < n → Permitted t s → After x s → Permitted t (x ∷ s)
   cons {x} [] h r a = one {x = x} (rw (l .count) h)
-  cons {x} (z ∷ s) h r a = more {y = x} (rw (l .count) h) (rw (may-table z x (head-known r) h) at a) r
+  cons {x} (z ∷ s) h r a = more {y = x} (rw (l .count) h) (rw (l .entries z x (head-known r) h) at a) r
 
   -- A word in front.
   rest-word : {p y x : ℕ} (s : List ℕ) → x < n → Stands having lengths m p x → mayAfter rows x y ≡ true → Rest (p + lengthAt lengths x) x s → Rest p y (x ∷ s)

@@ -5,15 +5,14 @@ use mathlib.Core.List.{List, _∷_}
 use Prim.Native.Nat.{ℕ, _+_, _<_}
 use native.Mathlib.Omega.{arith}
 use lib.ListN.{length}
-use Rattle.marking.specs.Text.{Text, Bounded, From, done, word, Begins}
-use Rattle.sets.specs.Sets.{lengthAt, mayAfter, SetsOf}
-use Rattle.marking.specs.Marks.{markAt}
-use Rattle.marking.specs.Message.{textOf, text}
 use Rattle.table.specs.Exactly.{exactly-on}
-use Rattle.marking.specs.Marks.{Marked}
-use Rattle.marking.specs.Message.{sets-bounded}
+use Rattle.sets.specs.Sets.{lengthAt, mayAfter, SetsOf}
+use Rattle.marking.specs.Text.{Text, Bounded, From, done, word, Begins}
+use Rattle.marking.specs.Marks.{markAt, Marked}
+use Rattle.marking.specs.Message.{textOf, text, sets-bounded}
 use Rattle.reading.specs.Choices.{Tells, tells-where}
 
+-- What the marks show: a word stands where it is marked.
 abbrev pub shown : (rows lengths work : List ℕ) (n end : ℕ) → Text
 shown rows lengths work n end = textOf rows lengths n (λ p x. markAt work p x ≡ true) end
 
@@ -26,12 +25,13 @@ pub record Sure (rows lengths work : List ℕ) (n end : ℕ) : Type 0 where
 pub sure-tells : {rows lengths work : List ℕ} {n end : ℕ} → Sure rows lengths work n end → (p : ℕ) → Tells (shown rows lengths work n end) work rows n p
 sure-tells {lengths} s p = tells-where lengths (s .begins p) (λ x b. b .here .1)
 
-module _ {having ends rows lengths m work : List ℕ} {n longest : ℕ} (flat : SetsOf having ends rows lengths n longest) (marked : Marked (text having rows lengths n m) n work 0) where
+module _ {having ends rows lengths m work : List ℕ} {n longest : ℕ} (sets : SetsOf having ends rows lengths n longest)
+    (marked : Marked (text having rows lengths n m) n work 0) where
   begins-text : (p x : ℕ) → x < n → markAt work p x ≡ true → Begins (text having rows lengths n m) p x
-  begins-text p x k e = marked .is p x (omega arith) (omega (arith, flat .shaped .small)) .yes e
+  begins-text p x k e = marked .is p x (omega arith) (omega (arith, sets .shaped .small)) .yes e
 
   shows : (p x : ℕ) → Begins (text having rows lengths n m) p x → markAt work p x ≡ true
-  shows p x b = exactly-on (marked .is p x (omega arith) (omega (arith, flat .shaped .small, b .here .0))) b
+  shows p x b = exactly-on (marked .is p x (omega arith) (omega (arith, sets .shaped .small, b .here .0))) b
 
   -- One word of a reading, from the message to the marks and back.
   shown-word : {p y x : ℕ} {s : List ℕ} → Begins (text having rows lengths n m) p x → mayAfter rows x y ≡ true
@@ -55,8 +55,8 @@ module _ {having ends rows lengths m work : List ℕ} {n longest : ℕ} (flat : 
   pub marked-sure : Sure rows lengths work n (length m)
   marked-sure = record {
     bounded = record {
-      some = λ p x s. sets-bounded flat .some p x (begins-text p x (s .0) (s .1) .here);
-      fits = λ p x s. sets-bounded flat .fits p x (begins-text p x (s .0) (s .1) .here);
+      some = λ p x s. sets-bounded sets .some p x (begins-text p x (s .0) (s .1) .here);
+      fits = λ p x s. sets-bounded sets .fits p x (begins-text p x (s .0) (s .1) .here);
     };
     begins = λ p x k e. let b = begins-text p x k e in record { here = (k, e); after = record { rest = b .after .rest; reads = from-shown (b .after .reads) } };
   }

@@ -10,12 +10,12 @@ use lib.Dec.{ltb}
 use lib.ListN.{length, take, drop, getD, set, length-append, take-append-drop}
 use lib.Seq.{length-take-le, drop-cons, set-at}
 use Rattle.code.specs.Definitions.Lists.{if_then_else_}
+use Rattle.sets.specs.Sets.{lengthAt, Shaped}
+use Rattle.marking.specs.Text.{Text, Bounded, From, Can, Begins}
 use Rattle.reading.specs.declared.walks.Walk.{Walk}
 use Rattle.reading.specs.Firsts.{Least, Only, FirstPair, only-least}
-use Rattle.marking.specs.Text.{Text, Bounded, From, Can, Begins}
 use Rattle.reading.specs.FirstWords.{Lowest, only-end}
 use Rattle.reading.specs.Walks.{Walked, Branch, walked-none, branch-none, walked-on, branch-kept, branch-new}
-use Rattle.sets.specs.Sets.{lengthAt, Shaped}
 use Rattle.reading.specs.Choices.{Sought, Tells, sought-some, sought-lowest, sought-next, sought-highest}
 use Rattle.reading.specs.Shown.{shown, Sure, sure-tells}
 

@@ -16,7 +16,7 @@ use Rattle.table.specs.Exactly.{Exactly, exactly-iff, exactly-same, exactly-eq}
 use Rattle.table.specs.WellFormed.{lenOf, WordFits, WellFormed}
 use Rattle.table.specs.Words.{size-count, word-symbols, word-length}
 use Rattle.bits.specs.Bits.{bitOf}
-use Rattle.sets.specs.Sets.{alphabet, blockOf, havingAt, lengthAt, Shaped, Sized, SetsOf, Lays}
+use Rattle.sets.specs.Sets.{alphabet, blockOf, havingAt, lengthAt, SetsOf, Lays}
 use Rattle.sets.specs.Words.{Has, LaidWords}
 use Rattle.sets.specs.Rows.{LaidRows, row-entry, row-start}
 

@@ -12,8 +12,8 @@ use lib.ListN.{length, getD}
 use Rattle.code.specs.Definitions.Lists.{if_then_else_}
 use Rattle.code.specs.Definitions.Sheets.{limits}
 use Rattle.code.specs.Definitions.Tables.{Table, size, word}
-use Rattle.bits.specs.Bits.{bitOf, width}
 use Rattle.table.specs.Exactly.{Exactly}
+use Rattle.bits.specs.Bits.{bitOf, width}
 
 -- Symbols are below this number.
 abbrev pub alphabet : ℕ

@@ -22,7 +22,7 @@ returns c =
     let p = start .pre in
     let e : length (after-marks .mark-all .last .1 .1 .1 .1 .1 .0) ≡ length (start .args .work .now) = omega arith in
     record {
-      finds = λ t l. answer-finds (p .0) (after-marks .mark-all .ensures .each _ _ (p .0)) l (after-readings .first-readings .ensures);
+      finds = λ t l. answer-finds l (after-marks .mark-all .ensures .each _ _ (p .0)) (after-readings .first-readings .ensures);
       work = rw e at (c .before .before .clear .ensures);
     }
 

@@ -1,6 +1,5 @@
 -- `lay_rows` meets its contract. The loop's invariant: the first `x` rows are sets. The measure is what is left.
 use Prim.Native.Nat.{_-_, _≤_}
-use borrow.Author.Needs.{needs}
 use lib.ListN.{length, length-set}
 use mathlib.Core.Path.{_≡_, refl}
 use native.Mathlib.Omega.{arith}

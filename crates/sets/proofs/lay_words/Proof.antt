@@ -1,7 +1,6 @@
 -- `lay_words` meets its contract. The loop's invariant: the first `x` words are laid, and none of them is longer than `longest`. The measure is what is left.
 use Prim.Native.Nat.{_-_, _≤_}
-use borrow.Author.Needs.{needs}
-use lib.ListN.{length, getD, length-set}
+use lib.ListN.{length, length-set}
 use mathlib.Core.Logic.{⊎-elim}
 use mathlib.Core.Path.{_≡_, refl, _∙_}
 use native.Mathlib.Omega.{arith}
