@@ -1,7 +1,8 @@
 -- `bits::union_of` meets its contract. The loop's invariant: the sets of the members below `z` are joined, and `left` holds the members from `z` on. The
 -- measure is `left`.
-use Prim.Native.Nat.{_/_, _^_}
+use Prim.Native.Nat.{_+_, _/_, _^_, _<_}
 use borrow.Author.Needs.{needs}
+use lib.ListN.{length}
 use mathlib.Core.Path.{_≡_, sym, _∙_}
 use native.Mathlib.Omega.{arith}
 use Rattle.bits.specs.Lowest.{lowest-below, left-above, left-less}
@@ -18,31 +19,23 @@ abbrev μ-loop : tie.MeasureT-loop
 loop-holds : tie.Need-loop-holds Inv-loop μ-loop
 loop-holds c = (omega arith, union-none _ _)
 
-add-z : tie.Need-add-z Inv-loop μ-loop
-add-z c =
+-- The member found has a set.
+below : (c : tie.After-lowest Inv-loop μ-loop) → c .before .before .loop .z + c .lowest .result < length (c .before .before .before .before .args .sets .now)
+below c =
     let l = c .before .before .loop in
-    let h = lowest-below _ (l .z) (l .inv .0) (c .lowest .ensures) (c .before .before .before .before .pre) in
-    search needs
+    lowest-below _ (l .z) (l .inv .0) (c .lowest .ensures) (c .before .before .before .before .pre)
+
+add-z : tie.Need-add-z Inv-loop μ-loop
+add-z c = let h = below c in search needs
 
 mul-union : tie.Need-mul-union Inv-loop μ-loop
-mul-union c =
-    let l = c .before .before .loop in
-    let h = lowest-below _ (l .z) (l .inv .0) (c .lowest .ensures) (c .before .before .before .before .pre) in
-    search needs
-
-set-read : tie.Need-shared-slice-read-union Inv-loop μ-loop
-set-read c =
-    let l = c .before .before .before .loop in
-    lowest-below _ (l .z) (l .inv .0) (c .before .lowest .ensures) (c .before .before .before .before .before .pre)
+mul-union c = let h = below c in search needs
 
 shr-left : tie.Need-shr-left Inv-loop μ-loop
 shr-left c = omega (arith, c .before .lowest .ensures .near)
 
 add-z-2 : tie.Need-add-z-2 Inv-loop μ-loop
-add-z-2 c =
-    let l = c .before .before .before .loop in
-    let h = lowest-below _ (l .z) (l .inv .0) (c .before .lowest .ensures) (c .before .before .before .before .before .pre) in
-    search needs
+add-z-2 c = let h = below (c .before) in search needs
 
 loop-less : tie.Need-loop-less Inv-loop μ-loop
 loop-less c = left-less _ _ (c .before .before .loop-test .taken)
@@ -69,7 +62,7 @@ union-of-spec =
     (λ c κs. search needs)
     add-z
     mul-union
-    set-read
+    (λ c. below (c .before))
     shr-left
     add-z-2
     loop-less

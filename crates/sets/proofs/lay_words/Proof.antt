@@ -1,11 +1,12 @@
 -- `lay_words` meets its contract. The loop's invariant: the first `x` words are laid, and none of them is longer than `longest`. The measure is what is left.
-use Prim.Native.Nat.{_-_, _≤_}
-use lib.ListN.{length, length-set}
+use Prim.Native.Nat.{_-_, _≤_, _<_}
+use lib.ListN.{length, getD, length-set}
 use mathlib.Core.Logic.{⊎-elim}
 use mathlib.Core.Path.{_≡_, refl, _∙_}
 use native.Mathlib.Omega.{arith}
+use Rattle.code.specs.Definitions.Tables.{noWord}
 use Rattle.code.specs.Definitions.Sheets.{limits}
-use Rattle.table.specs.WellFormed.{lenOf}
+use Rattle.table.specs.WellFormed.{lenOf, WordFits}
 use Rattle.sets.specs.Words.{LaidWords, words-none, words-more}
 use Rattle.sets.proofs.lay_words.Statement.{statement}
 use Rattle.sets.proofs.lay_words.Tie as tie
@@ -23,53 +24,46 @@ loop-holds c =
     let p = c .before .before .before .pre in
     (omega arith, refl, refl, refl, words-none (c .before .before .before .args .t1) (p .1) (p .2) (p .3))
 
-mul-w : tie.Need-mul-w Inv-loop μ-loop
-mul-w c = omega (arith, c .before .before .before .before .before .pre .0 .most)
+-- The next word fits, and is one that the arrays have.
+fits : (c : tie.In-loop Inv-loop μ-loop) → WordFits limits (c .before .before .before .before .before .args .t1 .count) (c .before .loop .x) (getD (c .before .before .before .before .before .args .t1 .words) (c .before .loop .x) noWord)
+fits c = c .before .before .before .before .before .pre .0 .word (c .before .loop .x) (omega (arith, c .before .before .before .before .before .pre .0 .most))
 
-element-copy-out-w : tie.Need-element-copy-out-w Inv-loop μ-loop
-element-copy-out-w c = omega (arith, c .before .before .before .before .before .pre .0 .most)
+inside : (c : tie.In-loop Inv-loop μ-loop) → c .before .loop .x < limits .words
+inside c = omega (arith, c .before .before .before .before .before .pre .0 .most)
 
 lay-word-requires : tie.Need-lay-word-requires Inv-loop μ-loop
 lay-word-requires c κs =
-    let p = c .before .before .before .before .before .before .before .pre in
-    let l = c .before .before .before .loop in
-    let fits = p .0 .word (l .x) (omega (arith, p .0 .most)) in
-    (l .inv .4 .having-long, fits .short, fits .symbols, omega (arith, p .0 .most))
+    let w = fits (c .before .before) in
+    (c .before .before .before .loop .inv .4 .having-long, w .short, w .symbols, omega (arith, inside (c .before .before)))
 
 sub-put : tie.Need-sub-put Inv-loop μ-loop
 sub-put c =
-    let p = c .before .before .before .before .before .before .before .before .before .before .before .before .pre in
-    let fits = p .0 .word (c .before .before .before .before .before .before .before .before .loop .x) (omega (arith, p .0 .most)) in
-    omega (arith, fits .some (c .before .before .before .before .before .before .before .loop-test .taken))
+    let turn = c .before .before .before .before .before .before .before in
+    omega (arith, fits turn .some (turn .loop-test .taken))
 
 put-requires : tie.Need-put-requires Inv-loop μ-loop
 put-requires c κs =
-    let p = c .before .before .before .before .before .before .before .before .before .before .before .before .pre in
-    let l = c .before .before .before .before .before .before .before .before .loop in
-    let fits = p .0 .word (l .x) (omega (arith, p .0 .most)) in
-    (omega (arith, fits .some (c .before .before .before .before .before .before .before .loop-test .taken), fits .short, l .inv .4 .ends-long), omega (arith, p .0 .most))
-
-mul-lengths : tie.Need-mul-lengths Inv-loop μ-loop
-mul-lengths c = omega (arith, c .before .before .before .before .before .before .before .before .before .before .before .before .before .before .before .pre .0 .most)
+    let turn = c .before .before .before .before .before .before .before in
+    let w = fits turn in
+    (omega (arith, w .some (turn .loop-test .taken), w .short, turn .before .loop .inv .4 .ends-long), omega (arith, inside turn))
 
 slice-write-lengths : tie.Need-slice-write-lengths Inv-loop μ-loop
-slice-write-lengths c = omega (arith, c .before .before .before .before .before .before .before .before .before .before .before .before .before .before .before .pre .0 .most, c .before .before .before .before .before .before .before .before .before .before .before .loop .inv .4 .lengths-long)
-
-add-x : tie.Need-add-x Inv-loop μ-loop
-add-x c = omega (arith, c .before .before .before .before .before .before .before .before .before .before .before .before .before .before .before .before .before .pre .0 .most)
+slice-write-lengths c =
+    let turn = c .before .before .before .before .before .before .before .before .before .before in
+    omega (arith, inside turn, turn .before .loop .inv .4 .lengths-long)
 
 loop-again : tie.Need-loop-again Inv-loop μ-loop
 loop-again c =
-    let p = c .before .before .before .before .before .before .before .before .before .before .before .before .before .before .before .before .before .pre in
-    let l = c .before .before .before .before .before .before .before .before .before .before .before .before .before .loop in
-    let h = c .before .before .before .before .before .before .before .before .before .before .before .before .loop-test .taken in
-    let fits = p .0 .word (l .x) (omega (arith, p .0 .most)) in
+    let turn = c .before .before .before .before .before .before .before .before .before .before .before .before in
+    let l = turn .before .loop in
+    let code = turn .before .before .before .before .before .args .t1 in
+    let w = fits turn in
     let s = c .before .before .before .before .before .before .before .before .before .lay-word .ensures in
     let placed = c .before .before .before .before .put .ensures in
     let kept : l .longest ≤ c .if1 .longest = ⊎-elim (λ w. omega arith) (λ w. omega arith) (c .if1 .came) in
-    let own : lenOf (c .before .before .before .before .before .before .before .before .before .before .before .before .before .before .before .before .before .args .t1) (l .x) ≤ c .if1 .longest = ⊎-elim (λ w. omega arith) (λ w. omega arith) (c .if1 .came) in
-    let short : c .if1 .longest ≤ limits .symbols = ⊎-elim (λ w. omega (arith, fits .short)) (λ w. omega (arith, l .inv .4 .short)) (c .if1 .came) in
-    let m = words-more (l .inv .4) fits h (omega (arith, p .0 .most)) s kept own short in
+    let own : lenOf code (l .x) ≤ c .if1 .longest = ⊎-elim (λ w. omega arith) (λ w. omega arith) (c .if1 .came) in
+    let short : c .if1 .longest ≤ limits .symbols = ⊎-elim (λ o. omega (arith, w .short)) (λ o. omega (arith, l .inv .4 .short)) (c .if1 .came) in
+    let m = words-more (l .inv .4) w (turn .loop-test .taken) (inside turn) s kept own short in
     (omega arith, s .long ∙ l .inv .1, rw placed (simp length-set (l .inv .2)), simp length-set (l .inv .3), rw placed m)
 
 returns : tie.Need-returns Inv-loop μ-loop
@@ -85,14 +79,14 @@ lay-words-spec =
     Inv-loop
     μ-loop
     loop-holds
-    mul-w
-    element-copy-out-w
+    (λ c. omega (arith, inside c))
+    (λ c. omega (arith, inside c))
     lay-word-requires
     sub-put
     put-requires
-    mul-lengths
+    (λ c. omega (arith, inside (c .before .before .before .before .before .before .before .before .before .before)))
     slice-write-lengths
-    add-x
+    (λ c. omega (arith, inside (c .before .before .before .before .before .before .before .before .before .before .before .before)))
     (λ c. omega arith)
     loop-again
     (λ c. c .before .loop .inv .1)

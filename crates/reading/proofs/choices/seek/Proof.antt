@@ -1,6 +1,6 @@
 -- `choices::seek` meets its contract. The loop's invariant: no word from `from` up to `x` is usable, and `left` holds the marks from `x` on. The measure is
 -- `left`.
-use Prim.Native.Nat.{_/_, _^_, _≤_}
+use Prim.Native.Nat.{_+_, _/_, _^_, _≤_, _<_}
 use borrow.Author.Needs.{needs}
 use lib.ListN.{getD}
 use mathlib.Core.Path.{_≡_, refl, sym, _∙_}
@@ -19,23 +19,20 @@ abbrev μ-loop : tie.MeasureT-loop
 loop-holds : tie.Need-loop-holds Inv-loop μ-loop
 loop-holds c = (search needs, refl, λ z a b. absurd (omega arith))
 
-add-x : tie.Need-add-x Inv-loop μ-loop
-add-x c =
-    let p = c .before .before .before .before .before .before .pre .0 in
+-- The word found is one of the n.
+below : (c : tie.After-lowest Inv-loop μ-loop) → c .before .before .loop .x + c .lowest .result < c .before .before .before .before .before .before .args .n
+below c =
     let l = c .before .before .loop in
-    omega (arith, lowest-below _ (l .x) (l .inv .1) (c .lowest .ensures) (p .bound), p .small)
+    lowest-below _ (l .x) (l .inv .1) (c .lowest .ensures) (c .before .before .before .before .before .before .pre .0 .bound)
+
+add-x : tie.Need-add-x Inv-loop μ-loop
+add-x c = omega (arith, below c, c .before .before .before .before .before .before .pre .0 .small)
 
 mul-has : tie.Need-mul-has Inv-loop μ-loop
-mul-has c =
-    let p = c .before .before .before .before .before .before .pre .0 in
-    let l = c .before .before .loop in
-    omega (arith, lowest-below _ (l .x) (l .inv .1) (c .lowest .ensures) (p .bound), p .small)
+mul-has c = omega (arith, below c, c .before .before .before .before .before .before .pre .0 .small)
 
 row-read : tie.Need-shared-slice-read-has Inv-loop μ-loop
-row-read c =
-    let p = c .before .before .before .before .before .before .before .pre .0 in
-    let l = c .before .before .before .loop in
-    omega (arith, lowest-below _ (l .x) (l .inv .1) (c .before .lowest .ensures) (p .bound), p .rowed)
+row-read c = omega (arith, below (c .before), c .before .before .before .before .before .before .before .pre .0 .rowed)
 
 has-requires : tie.Need-has-requires Inv-loop μ-loop
 has-requires c κs =
@@ -44,13 +41,12 @@ has-requires c κs =
 
 returns : tie.Need-returns Inv-loop μ-loop
 returns c =
-    let start = c .before .before .before .before .before .before .before .before .before in
-    let a = start .args in
+    let a = c .before .before .before .before .before .before .before .before .before .args in
     let l = c .before .before .before .before .before .loop in
     let f = c .before .before .before .lowest .ensures in
     record {
       low = omega (arith, l .inv .0);
-      high = omega (arith, lowest-below _ (l .x) (l .inv .1) f (start .pre .0 .bound));
+      high = omega (arith, below (c .before .before .before));
       is = λ k. usable-lowest (a .work .now) (a .rows .now) (a .pos) (l .x) _ _ (l .inv .1) f (a .y) ∙ sym (c .before .has .ensures) ∙ c .if1 .taken;
       none = none-lowest (a .work .now) (a .rows .now) (a .pos) (l .x) _ _ (l .inv .1) f (a .y) (a .from) (l .inv .2);
     }
@@ -59,10 +55,7 @@ shr-left-2 : tie.Need-shr-left-2 Inv-loop μ-loop
 shr-left-2 c = omega (arith, c .before .before .before .lowest .ensures .near)
 
 add-x-2 : tie.Need-add-x-2 Inv-loop μ-loop
-add-x-2 c =
-    let p = c .before .before .before .before .before .before .before .before .before .pre .0 in
-    let l = c .before .before .before .before .before .loop in
-    omega (arith, lowest-below _ (l .x) (l .inv .1) (c .before .before .before .lowest .ensures) (p .bound), p .small)
+add-x-2 c = omega (arith, below (c .before .before .before), c .before .before .before .before .before .before .before .before .before .pre .0 .small)
 
 loop-less : tie.Need-loop-less Inv-loop μ-loop
 loop-less c = left-less _ _ (c .before .before .before .before .loop-test .taken)

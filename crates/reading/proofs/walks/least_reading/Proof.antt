@@ -5,7 +5,7 @@ use lib.ListN.{length, length-set}
 use mathlib.Core.Path.{_≡_, refl}
 use native.Mathlib.Omega.{arith}
 use Rattle.reading.specs.Shown.{shown}
-use Rattle.reading.specs.Steps.{Walking, walking-start, walking-end, sought-taken, walking-on}
+use Rattle.reading.specs.Steps.{Walking, Taken, walking-start, walking-end, sought-taken, walking-on}
 use Rattle.reading.proofs.walks.least_reading.Statement.{statement}
 use Rattle.reading.proofs.walks.least_reading.Tie as tie
 
@@ -29,52 +29,36 @@ seek-requires c κs =
     let b = start .pre .0 .bound (head .loop .w .pos) in
     search needs
 
+-- The word that is found first can be taken.
+taken : (c : tie.After-seek Inv-loop μ-loop)
+    → Taken (c .before .before .before .before .before .before .before .before .args .lengths .now) (c .before .before .before .before .before .before .before .before .args .n)
+    (c .before .before .before .before .before .before .before .before .args .end) (c .before .before .before .loop .w .pos) (c .seek .result)
+taken c =
+    let head = c .before .before .before in
+    let start = head .before .before .before .before .before in
+    sought-taken (start .pre .0) (c .before .if1 .taken) (head .loop .inv .0 .can) (c .seek .ensures)
+
 seek-requires-2 : tie.Need-seek-requires-2 Inv-loop μ-loop
 seek-requires-2 c κs =
-    let after-seek = c in
-    let at-if1 = after-seek .before in
-    let head = at-if1 .before .before in
+    let head = c .before .before .before in
     let start = head .before .before .before .before .before in
-    let p = start .pre in
-    let l = head .loop in
-    let b = p .0 .bound (l .w .pos) in
-    let t = sought-taken (p .0) (at-if1 .if1 .taken) (l .inv .0 .can) (after-seek .seek .ensures) in
+    let b = start .pre .0 .bound (head .loop .w .pos) in
+    let t = taken c in
     search needs
 
 shared-slice-read-advance : tie.Need-shared-slice-read-advance Inv-loop μ-loop
 shared-slice-read-advance c =
-    let after-seek = c .before .before .before in
-    let at-if1 = after-seek .before in
-    let head = at-if1 .before .before in
-    let start = head .before .before .before .before .before in
-    let p = start .pre in
-    let l = head .loop in
-    let b = p .0 .bound (l .w .pos) in
-    let t = sought-taken (p .0) (at-if1 .if1 .taken) (l .inv .0 .can) (after-seek .seek .ensures) in
-    omega (arith, p .0 .shaped .sized, t .known)
+    let start = c .before .before .before .before .before .before .before .before .before .before .before in
+    omega (arith, start .pre .0 .shaped .sized, taken (c .before .before .before) .known)
 
 advance-requires : tie.Need-advance-requires Inv-loop μ-loop
 advance-requires c κs =
-    let after-seek = c .before .before .before in
-    let at-if1 = after-seek .before in
-    let head = at-if1 .before .before in
-    let start = head .before .before .before .before .before in
-    let p = start .pre in
-    let l = head .loop in
-    let b = p .0 .bound (l .w .pos) in
-    let t = sought-taken (p .0) (at-if1 .if1 .taken) (l .inv .0 .can) (after-seek .seek .ensures) in
+    let t = taken (c .before .before .before) in
     search needs
 
 loop-less : tie.Need-loop-less Inv-loop μ-loop
 loop-less c =
-    let after-seek = c .before .before .before .before in
-    let at-if1 = after-seek .before in
-    let head = at-if1 .before .before in
-    let start = head .before .before .before .before .before in
-    let p = start .pre in
-    let l = head .loop in
-    let b = p .0 .bound (l .w .pos) in
-    let t = sought-taken (p .0) (at-if1 .if1 .taken) (l .inv .0 .can) (after-seek .seek .ensures) in
+    let t = taken (c .before .before .before .before) in
     rw (c .advance .ensures) (omega arith)
 
 loop-again : tie.Need-loop-again Inv-loop μ-loop
@@ -83,11 +67,8 @@ loop-again c =
     let after-seek = after-seek2 .before in
     let at-if1 = after-seek .before in
     let head = at-if1 .before .before in
-    let start = head .before .before .before .before .before in
-    let p = start .pre in
+    let p = head .before .before .before .before .before .pre in
     let l = head .loop in
-    let b = p .0 .bound (l .w .pos) in
-    let t = sought-taken (p .0) (at-if1 .if1 .taken) (l .inv .0 .can) (after-seek .seek .ensures) in
     (rw (c .advance .ensures) (walking-on (p .0) (l .inv .0) (at-if1 .if1 .taken) (p .5) (after-seek .seek .ensures) (after-seek2 .seek2 .ensures)), simp length-set (l .inv .1))
 
 same-length : tie.Need-same-length Inv-loop μ-loop
