@@ -23,7 +23,8 @@ abbrev pub putIn : List ℕ → ℕ → ℕ → List ℕ
 putIn list i x = set list i (bitOr (getD list i 0) (2 ^ x))
 
 -- What entry a then has: what it had, and in entry i also x.
-pub put-bit : (list : List ℕ) (i x a k : ℕ) → i < length list → Exactly (bitOf (getD (putIn list i x) a 0) k) ((bitOf (getD list a 0) k ≡ true) ⊎ ((a ≡ i) × (k ≡ x)))
+pub put-bit : (list : List ℕ) (i x a k : ℕ) → i < length list
+    → Exactly (bitOf (getD (putIn list i x) a 0) k) ((bitOf (getD list a 0) k ≡ true) ⊎ ((a ≡ i) × (k ≡ x)))
 put-bit list i x a k h =
     on-set list i (bitOr (getD list i 0) (2 ^ x)) h (λ b v. Exactly (bitOf v k) ((bitOf (getD list b 0) k ≡ true) ⊎ ((b ≡ i) × (k ≡ x)))) here other a
   where
@@ -38,6 +39,7 @@ put-bit list i x a k h =
         back (inr p) = absurd (ne (p .0))
 
 -- A number below n put in keeps every entry below 2 ^ n.
-pub put-bound : {n : ℕ} (list : List ℕ) (i x : ℕ) → i < length list → x < n → ((a : ℕ) → getD list a 0 < 2 ^ n) → (a : ℕ) → getD (putIn list i x) a 0 < 2 ^ n
+pub put-bound : {n : ℕ} (list : List ℕ) (i x : ℕ) → i < length list → x < n → ((a : ℕ) → getD list a 0 < 2 ^ n)
+    → (a : ℕ) → getD (putIn list i x) a 0 < 2 ^ n
 put-bound {n} list i x h l b =
     on-set list i (bitOr (getD list i 0) (2 ^ x)) h (λ a v. v < 2 ^ n) (or-lt n (getD list i 0) (2 ^ x) (b i) (pow-lt l)) (λ a ne. b a)

@@ -94,7 +94,8 @@ module _ {having ends rows lengths : List ℕ} {n longest : ℕ} (m : List ℕ) 
             }
 
     -- The entry of position p.
-    entry-marked : {work : List ℕ} → Tailed K (Fits having m) n longest tails p → Marked K n work (p + 1) → p < length work → Marked K n (set work p (getD tails 0 0)) p
+    entry-marked : {work : List ℕ} → Tailed K (Fits having m) n longest tails p → Marked K n work (p + 1) → p < length work
+        → Marked K n (set work p (getD tails 0 0)) p
     entry-marked {work} t d room = record {
       is = λ q x. on-set work p (getD tails 0 0) room (λ q v. p ≤ q → x < width → Exactly (bitOf v x) (Begins K q x))
           (λ h k. begins-of t x k) (λ q ne h k. d .is q x (omega arith) k) q;
@@ -127,7 +128,8 @@ module _ {having ends rows lengths : List ℕ} {n longest : ℕ} (m : List ℕ) 
 
 -- The lists do not say the lengths of the words; for all lengths and numbers of words whose sets they are, the three are right.
 pub record RightFor (having ends rows : List ℕ) (longest : ℕ) (m tails work : List ℕ) (onward p : ℕ) : Type 0 where
-  pub each : (lengths : List ℕ) (n : ℕ) → SetsOf having ends rows lengths n longest → Right (text having rows lengths n m) (Fits having m) n longest tails work onward p
+  pub each : (lengths : List ℕ) (n : ℕ) → SetsOf having ends rows lengths n longest
+      → Right (text having rows lengths n m) (Fits having m) n longest tails work onward p
 
 pub record MarksAll (having ends rows : List ℕ) (longest : ℕ) (m work : List ℕ) : Type 0 where
   pub each : (lengths : List ℕ) (n : ℕ) → SetsOf having ends rows lengths n longest → Marked (text having rows lengths n m) n work 0

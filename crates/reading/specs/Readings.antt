@@ -1,5 +1,5 @@
--- Where the lists are the sets of a table's words, reading the message from its first position, after the start, is reading it by the table. The sequences from any position
--- are compared: permitted, in order after the word before, and with the rest of the message.
+-- Where the lists are the sets of a table's words, reading the message from its first position, after the start, is reading it by the table. The sequences
+-- from any position are compared: permitted, in order after the word before, and with the rest of the message.
 use mathlib.Core.Path.{_≡_, sym, ap, _∙_}
 use mathlib.Core.Bool.{true}
 use mathlib.Core.List.{List, [], _∷_, _++_}
@@ -11,7 +11,8 @@ use lib.Seq.{ext-getD, length-take-le, getD-take, getD-drop, drop-at, drop-drop}
 use Rattle.code.specs.Definitions.Tables.{Table, word, Permitted, none, one, more, message}
 use Rattle.code.specs.Definitions.Readings.{Reads}
 use Rattle.code.specs.Laws.Sequences.{first-word, second-follows, rest-permitted}
-use Rattle.sets.specs.Sets.{lengthAt, mayAfter, Lays}
+use Rattle.bits.specs.Bits.{bitOf}
+use Rattle.sets.specs.Sets.{havingAt, lengthAt, mayAfter, Lays}
 use Rattle.marking.specs.Text.{From, done, word as first}
 use Rattle.marking.specs.Message.{Stands, text}
 
@@ -35,13 +36,16 @@ module _ {t : Table} {having ends rows lengths : List ℕ} {n longest : ℕ} (l 
 
   -- Where the rest of the message begins with word x, it stands.
   word-stands : {p x : ℕ} (r : List ℕ) → x < n → word t x ++ r ≡ drop p m → Stands having lengths m p x
-  word-stands {p} {x} r h e = record { each = λ j k. record { inside = inside j k; here = l .spells x j (getD m (p + j) 0) h k ∙ eq-eqb (getD m (p + j) 0) (getD (word t x) j 0) (same j k) } }
+  word-stands {p} {x} r h e = record { each = λ j k. record { inside = inside j k; here = here j k } }
     where
       inside : (j : ℕ) → j < lengthAt lengths x → p + j < length m
       inside j k = omega (arith, simp (length-append, length-drop) at (ap length e), l .sizes x h)
 
       same : (j : ℕ) → j < lengthAt lengths x → getD m (p + j) 0 ≡ getD (word t x) j 0
       same j k = sym (getD-drop p m j 0) ∙ rw (← e) (List·getD-append (word t x) r 0 j (omega (arith, l .sizes x h)))
+
+      here : (j : ℕ) → j < lengthAt lengths x → bitOf (havingAt having (getD m (p + j) 0) j) x ≡ true
+      here j k = l .spells x j (getD m (p + j) 0) h k ∙ eq-eqb (getD m (p + j) 0) (getD (word t x) j 0) (same j k)
 
   -- The first word of s, if there is one, may come after y.
   abbrev After : ℕ → List ℕ → Type 0
@@ -97,7 +101,10 @@ module _ {t : Table} {having ends rows lengths : List ℕ} {n longest : ℕ} (l 
 
   from-rest : (s : List ℕ) (p y : ℕ) → p ≤ length m → Rest p y s → From (text having rows lengths n m) p y s
   from-rest [] p y h r = done (end-of h r)
-  from-rest (x ∷ s) p y h r = first (head-known (r .permitted), stands-first s h r) (r .after) (from-rest s (p + lengthAt lengths x) x (stands-within (head-known (r .permitted)) (stands-first s h r)) (rest-after s h r))
+  from-rest (x ∷ s) p y h r =
+      let known = head-known (r .permitted) in
+      let here = stands-first s h r in
+      first (known, here) (r .after) (from-rest s (p + lengthAt lengths x) x (stands-within known here) (rest-after s h r))
 
   -- What reads the message from its first position, after the start, is a reading in the table, and the other way round.
   pub from-reads : (s : List ℕ) → From (text having rows lengths n m) 0 n s → Reads t m s

@@ -1,10 +1,9 @@
 -- Where every word and every row is laid, the lists are the sets of the code's table.
 use mathlib.Core.Path.{_≡_, sym, _∙_}
 use mathlib.Core.List.{List}
-use Prim.Native.Nat.{ℕ, _+_, _*_, _^_, _≤_, _<_}
+use Prim.Native.Nat.{ℕ, _+_, _^_, _≤_, _<_}
 use native.Mathlib.Decide.{decLt}
 use native.Mathlib.Omega.{arith}
-use borrow.Author.Tests.{lt-ltb, le-ltb}
 use lib.Dec.{eqb}
 use lib.ListN.{length, getD}
 use lib.Pow.{pow-mono}
@@ -16,17 +15,17 @@ use Rattle.table.specs.Exactly.{Exactly, exactly-iff, exactly-same, exactly-eq}
 use Rattle.table.specs.WellFormed.{lenOf, WordFits, WellFormed}
 use Rattle.table.specs.Words.{size-count, word-symbols, word-length}
 use Rattle.bits.specs.Bits.{bitOf}
-use Rattle.sets.specs.Sets.{alphabet, blockOf, havingAt, lengthAt, SetsOf, Lays}
+use Rattle.sets.specs.Sets.{alphabet, blockOf, block-symbol, block-other, havingAt, lengthAt, SetsOf, Lays}
 use Rattle.sets.specs.Words.{Has, LaidWords}
 use Rattle.sets.specs.Rows.{LaidRows, row-entry, row-start}
 
 -- A set tells its symbol and its index.
 place : (s j t i : ℕ) → j < limits .symbols → i < limits .symbols → t < alphabet → blockOf s + j ≡ blockOf t + i → (s ≡ t) × (j ≡ i)
-place s j t i hj hi ht e = by (decLt s alphabet) (rw (lt-ltb t alphabet ht) at e)
+place s j t i hj hi ht e = by (decLt s alphabet)
   where
-    by : Dec (s < alphabet) → blockOf s + j ≡ t * limits .symbols + i → (s ≡ t) × (j ≡ i)
-    by (yes h) q = let r : s * limits .symbols + j ≡ t * limits .symbols + i = rw (lt-ltb s alphabet h) at q in (omega arith, omega arith)
-    by (no h) q = let r : alphabet * limits .symbols + j ≡ t * limits .symbols + i = rw (le-ltb s alphabet (omega arith)) at q in absurd (omega arith)
+    by : Dec (s < alphabet) → (s ≡ t) × (j ≡ i)
+    by (yes h) = let a = block-symbol s h in let b = block-symbol t ht in (omega arith, omega arith)
+    by (no h) = let a = block-other s (omega arith) in let b = block-symbol t ht in absurd (omega arith)
 
 module _ {c : Code} {having ends rows lengths : List ℕ} {longest : ℕ} (well : WellFormed limits c)
     (words : LaidWords c (c .count) having ends lengths longest) (laid : LaidRows c (c .count) rows) where

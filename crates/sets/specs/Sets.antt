@@ -27,13 +27,19 @@ symbolSets = (alphabet + 1) * limits .symbols
 abbrev pub blockOf : ℕ → ℕ
 blockOf s = (if ltb s alphabet then s else alphabet) * limits .symbols
 
+pub block-symbol : (s : ℕ) → s < alphabet → blockOf s ≡ s * limits .symbols
+block-symbol s h = rw (lt-ltb s alphabet h)
+
+pub block-other : (s : ℕ) → alphabet ≤ s → blockOf s ≡ alphabet * limits .symbols
+block-other s h = rw (le-ltb s alphabet h)
+
 -- The last block is that of what is no symbol.
 pub block-low : (s : ℕ) → blockOf s ≤ alphabet * limits .symbols
 block-low s = by (decLt s alphabet)
   where
     by : Dec (s < alphabet) → blockOf s ≤ alphabet * limits .symbols
-    by (yes h) = rw (lt-ltb s alphabet h) (omega arith)
-    by (no h) = rw (le-ltb s alphabet (omega arith)) (omega arith)
+    by (yes h) = omega (arith, block-symbol s h)
+    by (no h) = omega (arith, block-other s (omega arith))
 
 -- The words with symbol s at index j.
 abbrev pub havingAt : (having : List ℕ) (s j : ℕ) → ℕ

@@ -135,7 +135,8 @@ module _ {c : Code} {x longest more : ℕ} {having ends lengths new : List ℕ} 
   sizes-more = on-push lengths x (lenOf c x) (omega (arith, laid .lengths-long)) (λ k v. v ≡ lenOf c k) refl (laid .sizes)
 
   rest-more : (k : ℕ) → x + 1 ≤ k → lengthAt (set lengths x (lenOf c x)) k ≡ 0
-  rest-more = on-set lengths x (lenOf c x) (omega (arith, laid .lengths-long)) (λ k v. x + 1 ≤ k → v ≡ 0) (λ h. absurd (omega arith)) (λ k n h. laid .rest k (omega arith))
+  rest-more = on-set lengths x (lenOf c x) (omega (arith, laid .lengths-long)) (λ k v. x + 1 ≤ k → v ≡ 0)
+      (λ h. absurd (omega arith)) (λ k n h. laid .rest k (omega arith))
 
   most-more : (k : ℕ) → k < x + 1 → lenOf c k ≤ more
   most-more = below-more (λ k. lenOf c k ≤ more) x (λ k h. omega (arith, laid .most k h)) own

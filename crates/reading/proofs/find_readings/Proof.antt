@@ -27,7 +27,8 @@ read-core-requires c κs =
     let after-lay = after-clear .before .before .before .before .before .before in
     let start = after-lay .before .before .before .before .before .before .before .before .before in
     let p = start .pre in
-    let used = used-length (start .args .work .now) (length (start .args .message .now) + 1) (after-clear .clear .last .0) (omega arith) (after-clear .clear .ensures) in
+    let n = length (start .args .message .now) + 1 in
+    let used = used-length (start .args .work .now) n (after-clear .clear .last .0) (omega arith) (after-clear .clear .ensures) in
     (after-lay .lay .ensures .sets, used, p .1, p .2, p .3)
 
 returns : tie.Need-returns

@@ -25,7 +25,8 @@ loop-holds c =
     (omega arith, refl, refl, refl, words-none (c .before .before .before .args .t1) (p .1) (p .2) (p .3))
 
 -- The next word fits, and is one that the arrays have.
-fits : (c : tie.In-loop Inv-loop μ-loop) → WordFits limits (c .before .before .before .before .before .args .t1 .count) (c .before .loop .x) (getD (c .before .before .before .before .before .args .t1 .words) (c .before .loop .x) noWord)
+fits : (c : tie.In-loop Inv-loop μ-loop)
+    → WordFits limits (c .before .before .before .before .before .args .t1 .count) (c .before .loop .x) (getD (c .before .before .before .before .before .args .t1 .words) (c .before .loop .x) noWord)
 fits c = c .before .before .before .before .before .pre .0 .word (c .before .loop .x) (omega (arith, c .before .before .before .before .before .pre .0 .most))
 
 inside : (c : tie.In-loop Inv-loop μ-loop) → c .before .loop .x < limits .words

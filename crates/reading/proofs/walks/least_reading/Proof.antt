@@ -69,7 +69,8 @@ loop-again c =
     let head = at-if1 .before .before in
     let p = head .before .before .before .before .before .pre in
     let l = head .loop in
-    (rw (c .advance .ensures) (walking-on (p .0) (l .inv .0) (at-if1 .if1 .taken) (p .5) (after-seek .seek .ensures) (after-seek2 .seek2 .ensures)), simp length-set (l .inv .1))
+    let on = walking-on (p .0) (l .inv .0) (at-if1 .if1 .taken) (p .5) (after-seek .seek .ensures) (after-seek2 .seek2 .ensures) in
+    (rw (c .advance .ensures) on, simp length-set (l .inv .1))
 
 same-length : tie.Need-same-length Inv-loop μ-loop
 same-length c = c .before .before .loop .inv .1
