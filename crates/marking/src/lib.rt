@@ -4,7 +4,7 @@ use bits::union_of;
 use code::Word;
 use sets::block_of;
 ghost use mathlib.Core.Path.{_≡_};
-ghost use Prim.Native.Nat.{_+_, _^_, _≤_, _<_};
+ghost use Prim.Native.Nat.{_+_, _≤_, _<_};
 ghost use lib.ListN.{length};
 ghost use Rattle.sets.specs.Sets.{Sized};
 ghost use Rattle.marking.specs.Steps.{Stepped};
@@ -13,7 +13,7 @@ ghost use Rattle.marking.specs.Marks.{MarksAll};
 // Takes the tails one position to the front. A word's tail from index `j` on stands where its symbol `j` does and is followed by its tail from `j + 1` on, or is
 // its last symbol and reading can go on after it.
 fn step(tails: &mut [u64], having: &[u64], ends: &[u64], block: usize, onward: u64, longest: usize)
-    requires { ⌜ (longest < length (now tails)) × (longest ≤ length (now ends)) × (block + longest ≤ length (now having)) × (block < 2 ^ 32) ⌝ }
+    requires { ⌜ (longest < length (now tails)) × (longest ≤ length (now ends)) × (block + longest ≤ length (now having)) ⌝ }
     ensures { λ _. ⌜ Stepped (now (having .entry)) (now (ends .entry)) block onward longest (now (tails .entry)) (now (tails .exit)) ⌝ }
 {
     // Downwards, with the old entry carried: upwards each load would wait for the stores of the position before.

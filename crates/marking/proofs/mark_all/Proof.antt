@@ -31,7 +31,7 @@ step-requires c κs =
     let p = start .pre .0 in
     let e = c .before .block-of .ensures in
     let low = block-low (getD (start .args .message .now) (l .pos - 1) 0) in
-    (omega (arith, p .most, l .inv .2), p .ended, omega (arith, p .most, p .blocks), omega arith)
+    (omega (arith, p .most, l .inv .2), p .ended, omega (arith, p .most, p .blocks))
 
 union-of-requires : tie.Need-union-of-requires Inv-loop μ-loop
 union-of-requires c κs =
