@@ -1,5 +1,5 @@
 -- Where the lists are the sets of a table's words, reading the message from its first position, after the start, is reading it by the table. The sequences
--- from any position are compared: permitted, in order after the word before, and with the rest of the message.
+-- from any position are compared: in a permitted order, after the word before, and with the rest of the message.
 use mathlib.Core.Path.{_≡_, sym, ap, _∙_}
 use mathlib.Core.Bool.{true}
 use mathlib.Core.List.{List, [], _∷_, _++_}
@@ -8,9 +8,9 @@ use native.Mathlib.Omega.{arith}
 use borrow.Author.Tests.{eq-eqb, eqb-true}
 use lib.ListN.{length, take, drop, List·getD-append, getD, length-append, length-drop, take-append-drop, drop-of-length-le}
 use lib.Seq.{ext-getD, length-take-le, getD-take, getD-drop, drop-at, drop-drop}
-use Rattle.code.specs.Definitions.Tables.{Table, word, Permitted, none, one, more, message}
+use Rattle.code.specs.Definitions.Tables.{Table, word, Linked, none, one, more, Permitted, empty, begun, message}
 use Rattle.code.specs.Definitions.Readings.{Reads}
-use Rattle.code.specs.Laws.Sequences.{first-word, second-follows, rest-permitted}
+use Rattle.code.specs.Laws.Sequences.{first-word, second-follows, rest-linked, permitted-linked, first-begins}
 use Rattle.bits.specs.Bits.{bitOf}
 use Rattle.sets.specs.Sets.{havingAt, lengthAt, mayAfter, Lays}
 use Rattle.marking.specs.Text.{From, done, word as first}
@@ -52,48 +52,53 @@ module _ {t : Table} {having ends rows lengths : List ℕ} {n longest : ℕ} (l 
   After y [] = Unit
   After y (x ∷ s) = mayAfter rows x y ≡ true
 
-  -- The sequence s is permitted, may come after y, and has the message from position p on.
+  -- The words of s may stand in this order and come after y, and have the message from position p on.
   record Rest (p y : ℕ) (s : List ℕ) : Type 0 where
-    permitted : Permitted t s
+    linked : Linked t s
     after : After y s
     joined : message t s ≡ drop p m
 
-  head-known : {x : ℕ} {s : List ℕ} → Permitted t (x ∷ s) → x < n
+  head-known : {x : ℕ} {s : List ℕ} → Linked t (x ∷ s) → x < n
   head-known r = rw (← l .count) (first-word r)
 
   after-start : (s : List ℕ) → Permitted t s → After n s
   after-start [] r = tt
-  after-start (x ∷ s) r = l .starts x (head-known r)
+  after-start (x ∷ s) r = l .starts x (head-known (permitted-linked r)) ∙ first-begins r
 
-  after-word : {x : ℕ} (s : List ℕ) → Permitted t (x ∷ s) → After x s
+  -- What may come after the start may begin.
+  start-permitted : (s : List ℕ) → Linked t s → After n s → Permitted t s
+  start-permitted [] r a = empty
+  start-permitted (x ∷ s) r a = begun (sym (l .starts x (head-known r)) ∙ a) r
+
+  after-word : {x : ℕ} (s : List ℕ) → Linked t (x ∷ s) → After x s
   after-word [] r = tt
-  after-word {x} (z ∷ s) r = l .entries z x (head-known (rest-permitted r)) (head-known r) ∙ second-follows r
+  after-word {x} (z ∷ s) r = l .entries z x (head-known (rest-linked r)) (head-known r) ∙ second-follows r
 
-  cons : {x : ℕ} (s : List ℕ) → x < n → Permitted t s → After x s → Permitted t (x ∷ s)
+  cons : {x : ℕ} (s : List ℕ) → x < n → Linked t s → After x s → Linked t (x ∷ s)
   cons {x} [] h r a = one {x = x} (rw (l .count) h)
   cons {x} (z ∷ s) h r a = more {y = x} (rw (l .count) h) (rw (l .entries z x (head-known r) h) at a) r
 
   -- A word in front.
   rest-word : {p y x : ℕ} (s : List ℕ) → x < n → Stands having lengths m p x → mayAfter rows x y ≡ true → Rest (p + lengthAt lengths x) x s → Rest p y (x ∷ s)
   rest-word {p} {y} {x} s k h a r = record {
-    permitted = cons s k (r .permitted) (r .after);
+    linked = cons s k (r .linked) (r .after);
     after = a;
     joined = rw (r .joined, ← stands-word k h, ← drop-drop (lengthAt lengths x) p m) (take-append-drop (lengthAt lengths x) (drop p m));
   }
 
   rest-of : {p y : ℕ} {s : List ℕ} → From (text having rows lengths n m) p y s → Rest p y s
-  rest-of {p} (done e) = record { permitted = none; after = tt; joined = sym (drop-of-length-le m {i = p} (omega arith)) }
+  rest-of {p} (done e) = record { linked = none; after = tt; joined = sym (drop-of-length-le m {i = p} (omega arith)) }
   rest-of (first {s = s} h a f) = rest-word s (h .0) (h .1) a (rest-of f)
 
   module _ {p y x : ℕ} (s : List ℕ) (within : p ≤ length m) (r : Rest p y (x ∷ s)) where
     stands-first : Stands having lengths m p x
-    stands-first = word-stands (message t s) (head-known (r .permitted)) (r .joined)
+    stands-first = word-stands (message t s) (head-known (r .linked)) (r .joined)
 
     rest-after : Rest (p + lengthAt lengths x) x s
     rest-after = record {
-      permitted = rest-permitted (r .permitted);
-      after = after-word s (r .permitted);
-      joined = rw (← drop-drop (lengthAt lengths x) p m, ← r .joined) (sym (drop-at (word t x) (message t s) (lengthAt lengths x) (l .sizes x (head-known (r .permitted)))));
+      linked = rest-linked (r .linked);
+      after = after-word s (r .linked);
+      joined = rw (← drop-drop (lengthAt lengths x) p m, ← r .joined) (sym (drop-at (word t x) (message t s) (lengthAt lengths x) (l .sizes x (head-known (r .linked)))));
     }
 
   end-of : {p y : ℕ} → p ≤ length m → Rest p y [] → p ≡ length m
@@ -102,13 +107,13 @@ module _ {t : Table} {having ends rows lengths : List ℕ} {n longest : ℕ} (l 
   from-rest : (s : List ℕ) (p y : ℕ) → p ≤ length m → Rest p y s → From (text having rows lengths n m) p y s
   from-rest [] p y h r = done (end-of h r)
   from-rest (x ∷ s) p y h r =
-      let known = head-known (r .permitted) in
+      let known = head-known (r .linked) in
       let here = stands-first s h r in
       first (known, here) (r .after) (from-rest s (p + lengthAt lengths x) x (stands-within known here) (rest-after s h r))
 
   -- What reads the message from its first position, after the start, is a reading in the table, and the other way round.
   pub from-reads : (s : List ℕ) → From (text having rows lengths n m) 0 n s → Reads t m s
-  from-reads s f = let r = rest-of f in record { permitted = r .permitted; joined = r .joined }
+  from-reads s f = let r = rest-of f in record { permitted = start-permitted s (r .linked) (r .after); joined = r .joined }
 
   pub reads-from : (s : List ℕ) → Reads t m s → From (text having rows lengths n m) 0 n s
-  reads-from s r = from-rest s 0 n (omega arith) (record { permitted = r .permitted; after = after-start s (r .permitted); joined = r .joined })
+  reads-from s r = from-rest s 0 n (omega arith) (record { linked = permitted-linked (r .permitted); after = after-start s (r .permitted); joined = r .joined })

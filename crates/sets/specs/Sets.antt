@@ -83,4 +83,4 @@ pub record Lays (t : Table) (having ends rows lengths : List ℕ) (n longest : �
   pub sizes : (x : ℕ) → x < n → length (word t x) ≡ lengthAt lengths x
   pub spells : (x j s : ℕ) → x < n → j < lengthAt lengths x → bitOf (havingAt having s j) x ≡ eqb s (getD (word t x) j 0)
   pub entries : (x y : ℕ) → x < n → y < n → mayAfter rows x y ≡ t .follow x y
-  pub starts : (x : ℕ) → x < n → mayAfter rows x n ≡ true
+  pub starts : (x : ℕ) → x < n → mayAfter rows x n ≡ t .begins x

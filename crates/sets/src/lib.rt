@@ -1,5 +1,5 @@
 // A code as sets of words, numbers whose bit `x` stands for word `x`: for each symbol and index the words that have it there, for each length the words that
-// have it, for each word the words that it may come after. The start counts as one more word, after the last.
+// have it, for each word the words that it may come after. The start counts as one more word, after the last: a word that may begin comes after it.
 
 use bits::put;
 use code::Code;
@@ -74,12 +74,12 @@ fn wide(entry: u8) -> u64
     entry as u64
 }
 
-// The words that a row of the matrix has, of `n`, and the start.
-fn row_set(row: Row, n: usize) -> u64
-    requires { ⌜ CellsFit 2 n (row .entries) × (n ≤ limits .words) ⌝ }
-    ensures { λ r. ⌜ RowSet row n n r ⌝ }
+// The words that a row of the matrix has, of `n`, and the start if its mark is 1.
+fn row_set(row: Row, start: u8, n: usize) -> u64
+    requires { ⌜ CellsFit 2 n (row .entries) × (start < 2) × (n ≤ limits .words) ⌝ }
+    ensures { λ r. ⌜ RowSet row start n n r ⌝ }
 {
-    let mut set = 1u64 << n;
+    let mut set = wide(start) << n;
     let mut y: usize = 0;
     while y < n {
         let entry = wide(row.entries[y]);
@@ -96,7 +96,7 @@ fn lay_rows(code: Code, rows: &mut [u64])
 {
     let mut x: usize = 0;
     while x < code.count {
-        rows[x] = row_set(code.rows[x], code.count);
+        rows[x] = row_set(code.rows[x], code.begins[x], code.count);
         x += 1;
     }
 }

@@ -22,26 +22,29 @@ copied c = omega (arith, c .before .before .before .pre .0 .most)
 element : tie.Need-element-copy-out-row-set Inv-loop μ-loop
 element c = omega (arith, c .before .before .before .pre .0 .most)
 
+mark : tie.Need-element-copy-out-row-set-2 Inv-loop μ-loop
+mark c = let w = c .before .before .before .before .pre .0 in omega (arith, w .most, w .begins)
+
 row-set-requires : tie.Need-row-set-requires Inv-loop μ-loop
 row-set-requires c κs =
-    let p = c .before .before .before .before .pre in
-    let l = c .before .before .loop in
-    (p .0 .row (l .x) (omega (arith, p .0 .most)) .entries, p .0 .most)
+    let w = c .before .before .before .before .before .pre .0 in
+    let l = c .before .before .before .loop in
+    (w .row (l .x) (omega (arith, w .most)) .entries, w .marks .below (l .x), w .most)
 
 mul-rows : tie.Need-mul-rows Inv-loop μ-loop
-mul-rows c = omega (arith, c .before .before .before .before .before .pre .0 .most)
+mul-rows c = omega (arith, c .before .before .before .before .before .before .pre .0 .most)
 
 slice-write-rows : tie.Need-slice-write-rows Inv-loop μ-loop
-slice-write-rows c = omega (arith, c .before .before .before .before .before .pre .0 .most, c .before .before .before .loop .inv .2 .long)
+slice-write-rows c = omega (arith, c .before .before .before .before .before .before .pre .0 .most, c .before .before .before .before .loop .inv .2 .long)
 
 add-x : tie.Need-add-x Inv-loop μ-loop
-add-x c = omega (arith, c .before .before .before .before .before .pre .0 .most)
+add-x c = omega (arith, c .before .before .before .before .before .before .pre .0 .most)
 
 loop-again : tie.Need-loop-again Inv-loop μ-loop
 loop-again c =
-    let p = c .before .before .before .before .before .pre in
-    let l = c .before .before .before .loop in
-    (omega arith, simp length-set (l .inv .1), rows-more (l .inv .2) (omega (arith, p .0 .most)) (c .row-set .ensures))
+    let w = c .before .before .before .before .before .before .pre .0 in
+    let l = c .before .before .before .before .loop in
+    (omega arith, simp length-set (l .inv .1), rows-more (l .inv .2) (omega (arith, w .most)) (c .row-set .ensures))
 
 returns : tie.Need-returns Inv-loop μ-loop
 returns c =
@@ -58,6 +61,7 @@ lay-rows-spec =
     loop-holds
     copied
     element
+    mark
     row-set-requires
     mul-rows
     slice-write-rows
