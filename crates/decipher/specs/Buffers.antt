@@ -43,8 +43,8 @@ module _ {m f g w : ℕ} where
   -- Buffers of which none is too short have room.
   pub has-room : (Short m f g w → ⊥) → Room m f g w
   has-room none = record {
-    message = long-enough verdictRoom limits m (λ h. none (inl h));
-    first = long-enough verdictRoom limits f (λ h. none (inr (inl h)));
-    second = long-enough verdictRoom limits g (λ h. none (inr (inr (inl h))));
+    message = long-enough (verdictRoom limits) m (λ h. none (inl h));
+    first = long-enough (verdictRoom limits) f (λ h. none (inr (inl h)));
+    second = long-enough (verdictRoom limits) g (λ h. none (inr (inr (inl h))));
     work = long-enough marksRoom w (λ h. none (inr (inr (inr h))));
   }

@@ -1,14 +1,13 @@
 -- `delay_of` meets its contract: the test decides the case of its definition.
 use borrow.Author.Needs.{needs}
-use borrow.Author.Tests.{eq-eqb, ne-eqb}
 use Rattle.decipher.proofs.delay_of.Statement.{statement}
 use Rattle.decipher.proofs.delay_of.Tie as tie
 
 returns : tie.Need-returns
-returns c = rw (eq-eqb _ _ (c .if1 .taken))
+returns c = rw (c .if1 .taken)
 
 returns-2 : tie.Need-returns-2
-returns-2 c = rw (ne-eqb _ _ (c .if1 .left))
+returns-2 c = rw (c .if1 .left)
 
 pub delay-of-spec : {M : Type 1} → statement M
-delay-of-spec = tie.close (tie.spec returns (λ c. search needs) returns-2)
+delay-of-spec = tie.close (tie.spec (λ c. search needs) returns returns-2)
