@@ -2,6 +2,8 @@
 -- Readings say what the lists show; Cases makes one check of it, and Starred has the table and its lone statement.
 pub mod Members
 pub mod Comparing
+pub mod Rivals
+pub mod Starts
 pub mod Steps
 pub mod Layers
 pub mod Ends
