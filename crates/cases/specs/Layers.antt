@@ -1,5 +1,5 @@
 -- The compatible pairs of a table in layers, as lists that compute: the members of a layer are exactly the pairs that its number of symbols reaches, each
--- with these symbols. The pairs of words from which they start are a list.
+-- with these symbols. The pairs of words from whose first places they start are given as a list.
 use mathlib.Core.Path.{_≡_, refl, sym, ap, _∙_, subst}
 use mathlib.Core.Bool.{Bool, true}
 use mathlib.Core.List.{List, [], _∷_, _++_, map, flatMap, List·Memᴰ, Memᴰ·cast, Memᴰ·map, Memᴰ·of-map}
@@ -14,7 +14,7 @@ use Rattle.theory.specs.Places.{Place, firstPlace, symbol, Step, Compatible, Fi
 use Rattle.theory.specs.Pairs.{compatible-reached, compatible-long}
 use Rattle.theory.specs.Bounded.{everyBelow, every-below}
 use Rattle.cases.specs.Members.{keep, keep-in, keep-out, flatMap-in, flatMap-out, every-member}
-use Rattle.cases.specs.Starts.{WordPair, wordPair, Pairs, Lists}
+use Rattle.cases.specs.Starts.{WordPair, wordPair, Starting, Lists}
 use Rattle.cases.specs.Steps.{steps, step-in, step-out}
 
 -- A pair of places, and symbols that reach it.
@@ -68,13 +68,13 @@ module _ (t : Table) (starts : List WordPair) where
     long : length m ≡ suc k
     member : List·Memᴰ (labelled m p q) (layer k)
 
-  abbrev pub everyOf : (LabelledPair → Bool) → ℕ → Bool
-  everyOf f k = every f (layer k)
+  abbrev pub everyInLayer : (LabelledPair → Bool) → ℕ → Bool
+  everyInLayer f k = every f (layer k)
 
   -- Every pair of the layers below n passes the test.
   unfoldable pub everyPair : (LabelledPair → Bool) → ℕ → Bool
   unfolding everyBelow every layer
-  everyPair f n = everyBelow (everyOf f) n
+  everyPair f n = everyBelow (everyInLayer f) n
 
 -- The symbols of e are suc k, and reach its pair from words of S.
 record At (t : Table) (S : ℕ → ℕ → Type 0) (k : ℕ) (e : LabelledPair) : Type 0 where
@@ -82,7 +82,7 @@ record At (t : Table) (S : ℕ → ℕ → Type 0) (k : ℕ) (e : LabelledPair) 
   long : length (e .label) ≡ suc k
 
 module _ (t : Table) {S : ℕ → ℕ → Type 0} where
-  first-at : {w : WordPair} → Pairs t S w → symbol t (firstPlace (w .x)) ≡ symbol t (firstPlace (w .y)) → At t S 0 (firstPair t w)
+  first-at : {w : WordPair} → Starting t S w → symbol t (firstPlace (w .x)) ≡ symbol t (firstPlace (w .y)) → At t S 0 (firstPair t w)
   first-at {w} h e =
       let first : FirstPair t S (firstPlace (w .x)) (firstPlace (w .y)) = record {
         x = w .x;
@@ -157,4 +157,4 @@ module _ (t : Table) {S : ℕ → ℕ → Type 0} where
     pair-passes f n e {m} h s =
         let k = length m - 1 in
         let long = compatible-long h in
-        every-member f (every-below (everyOf t l f) n e k (omega arith)) (layer-in {k = k} h (omega arith))
+        every-member f (every-below (everyInLayer t l f) n e k (omega arith)) (layer-in {k = k} h (omega arith))

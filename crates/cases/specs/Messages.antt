@@ -22,10 +22,11 @@ use Rattle.cases.specs.Layers.{LabelledPair, labelled, everyPair, pair-p
 use Rattle.cases.specs.Ends.{apartEnds, apart-ends}
 
 module _ (t : Table) where
+  -- if the pair is one of the ends of different words, its symbols do not come before m
   abbrev pub endsNotBefore : List ℕ → LabelledPair → Bool
   endsNotBefore m e = not (apartEnds t e) || notBefore m (e .label)
 
-  -- No symbols that reach the ends of different words come before m.
+  -- No symbols that reach the ends of different words come before m, in order of length and then of symbols.
   unfoldable pub leastIs : List ℕ → Bool
   unfolding everyPair beginnings notBefore
   leastIs m = everyPair t (beginnings t) (endsNotBefore m) (length m)

@@ -1,4 +1,5 @@
--- The codes that 01 marks with a star, as one table. A lone statement, proved by computation, says that the whole table passes the check; so every entry holds.
+-- The codes that 01 marks with a star, and codes of request 1, as two tables. A lone statement, proved by computation, says that both pass the check; so every
+-- entry holds.
 use mathlib.Core.Path.{_≡_, refl}
 use mathlib.Core.Bool.{true}
 use mathlib.Core.List.{List, [], _∷_, _++_, List·Memᴰ, Memᴰ·append-left, Memᴰ·append-right}
@@ -43,7 +44,9 @@ starred =
     ∷ record { words = fourWords; begins = allBegin 4; rows = rowsU; expected = onlyReading (0 ∷ 1 ∷ 1 ∷ 0 ∷ 1 ∷ []) (2 ∷ 3 ∷ []) }
     ∷ []
 
--- Codes of request 1, with words that may not begin a message. 02: "Permitted sequences other than the empty one now begin with a marked word."
+-- Codes of request 1, in this order: code T where word 2 may not begin; two words that come after word 0 alone, different and the same; the same two after a
+-- word that no sequence reaches; no word that may begin; one word at most that may come next; rivals with different first symbols; two readings that share
+-- their first word
 abbrev pub opened : List Case
 opened =
     record { words = fourWords; begins = 1 ∷ 1 ∷ 0 ∷ 1 ∷ []; rows = allOne 4; expected = ambiguous (0 ∷ 0 ∷ 1 ∷ 0 ∷ []) (0 ∷ 0 ∷ 1 ∷ []) (0 ∷ 2 ∷ 0 ∷ []) }
