@@ -1,28 +1,34 @@
 -- The lengths of the lent buffers: when refusal 13 holds, and what is known of them where it does not. The four numbers are the lengths of the message buffer,
 -- of the two reading buffers and of the working buffer.
 use mathlib.Core.Logic.{_⊎_, inl, inr}
-use Prim.Native.Nat.{ℕ, _≤_, _<_}
+use Prim.Native.Nat.{ℕ, _*_, _≤_, _<_}
 use native.Mathlib.Omega.{arith}
 use lib.Dec.{ltb}
+use Rattle.code.specs.Definitions.Operations.{verdictRoom}
+use Rattle.code.specs.Definitions.Sheets.{limits}
 use Rattle.code.specs.Laws.Buffers.{long-enough}
 use Rattle.table.specs.Exactly.{Exactly, exactly-iff, exactly-lt}
 
--- 01: "A verdict needs a message buffer and two reading buffers of 8,256 entries each, and a working buffer of 16,384 entries."
+-- the entries of the working buffer: one for each place with each place
+abbrev pub marksRoom : ℕ
+marksRoom = limits .total * limits .total
+
+-- 02, request 1: "The verdict's three buffers need 8,384 entries"; 01: "and a working buffer of 16,384 entries"
 abbrev pub Short : (m f g w : ℕ) → Type 0
-Short m f g w = (m < 8256) ⊎ ((f < 8256) ⊎ ((g < 8256) ⊎ (w < 16384)))
+Short m f g w = (m < verdictRoom limits) ⊎ ((f < verdictRoom limits) ⊎ ((g < verdictRoom limits) ⊎ (w < marksRoom)))
 
 pub record Room (m f g w : ℕ) : Type 0 where
-  pub message : 8256 ≤ m
-  pub first : 8256 ≤ f
-  pub second : 8256 ≤ g
-  pub work : 16384 ≤ w
+  pub message : verdictRoom limits ≤ m
+  pub first : verdictRoom limits ≤ f
+  pub second : verdictRoom limits ≤ g
+  pub work : marksRoom ≤ w
 
 module _ {m f g w : ℕ} where
   -- Where the other three are long enough, the working buffer decides.
-  pub short-work : 8256 ≤ m → 8256 ≤ f → 8256 ≤ g → Exactly (ltb w 16384) (Short m f g w)
-  short-work hm hf hg = exactly-iff (λ h. inr (inr (inr h)), back) (exactly-lt w 16384)
+  pub short-work : verdictRoom limits ≤ m → verdictRoom limits ≤ f → verdictRoom limits ≤ g → Exactly (ltb w marksRoom) (Short m f g w)
+  short-work hm hf hg = exactly-iff (λ h. inr (inr (inr h)), back) (exactly-lt w marksRoom)
     where
-      back : Short m f g w → w < 16384
+      back : Short m f g w → w < marksRoom
       back (inl h) = absurd (omega arith)
       back (inr (inl h)) = absurd (omega arith)
       back (inr (inr (inl h))) = absurd (omega arith)
@@ -37,8 +43,8 @@ module _ {m f g w : ℕ} where
   -- Buffers of which none is too short have room.
   pub has-room : (Short m f g w → ⊥) → Room m f g w
   has-room none = record {
-    message = long-enough 8256 m (λ h. none (inl h));
-    first = long-enough 8256 f (λ h. none (inr (inl h)));
-    second = long-enough 8256 g (λ h. none (inr (inr (inl h))));
-    work = long-enough 16384 w (λ h. none (inr (inr (inr h))));
+    message = long-enough verdictRoom limits m (λ h. none (inl h));
+    first = long-enough verdictRoom limits f (λ h. none (inr (inl h)));
+    second = long-enough verdictRoom limits g (λ h. none (inr (inr (inl h))));
+    work = long-enough marksRoom w (λ h. none (inr (inr (inr h))));
   }

@@ -8,7 +8,8 @@ use Rattle.code.specs.declared.Verdict.{Verdict}
 use Rattle.code.specs.Definitions.Answers.{VerdictMeans}
 use Rattle.code.specs.Definitions.Operations.{zeroed, Shown}
 use Rattle.code.specs.Definitions.Tables.{tableOf}
-use Rattle.pairs.specs.Searches.{shows}
+use Rattle.pairs.specs.OpenPairs.{open-shows}
+use Rattle.pairs.specs.RivalPairs.{Ended}
 use Rattle.places.specs.Whole.{LaidOut}
 use Rattle.shortest.specs.declared.Search.{Search}
 use Rattle.shortest.specs.declared.Search.the-variants.{Found, Nothing}
@@ -31,7 +32,7 @@ unchanged : (m f g m′ : List ℕ) {places : List ℕ} {v : Verdict} → DelayB
 unchanged m f g m′ (finite l e) p = (p, refl, refl)
 unchanged m f g m′ (unbounded e) p = (p, refl, refl)
 
-module _ {c : Code} {places m f g w m′ w₁ : List ℕ} {r : Search} (laid : LaidOut (tableOf c) places) (answers : Answers places m m′ r)
+module _ {c : Code} {places m f g w m′ w₁ : List ℕ} {r : Search} (laid : LaidOut (tableOf c) places) (ended : Ended (tableOf c) places) (answers : Answers places m m′ r)
     (long : length w₁ ≡ length w) where
   -- A message was found, and read twice.
   pub decided-ambiguous : {f′ g′ w′ : List ℕ} {n : ℕ} {v : Verdict} → r ≡ Found n → ReadTwice (tableOf c) (take n m′) f g w₁ f′ g′ w′ v
@@ -40,7 +41,7 @@ module _ {c : Code} {places m f g w m′ w₁ : List ℕ} {r : Search} (laid : L
     x = take n m′;
     s = s;
     u = u;
-    means = (search-ambiguous (shows laid) (laid .fits .some) (found-least answers e) h, i, j, k);
+    means = (search-ambiguous (open-shows laid) (laid .fits .some) (found-least answers e) h, i, j, k);
     shown = (found-written answers e, p, q);
     work = rw long at z;
   }
@@ -51,7 +52,7 @@ module _ {c : Code} {places m f g w m′ w₁ : List ℕ} {r : Search} (laid : L
     x = [];
     s = [];
     u = [];
-    means = delay-means laid (was-nothing answers e .1) [] [] [] (b .delay);
+    means = delay-means laid ended (was-nothing answers e .1) [] [] [] (b .delay);
     shown = unchanged m f g m′ (b .delay) (was-nothing answers e .0);
     work = rw long at (b .work);
   }

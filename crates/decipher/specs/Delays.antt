@@ -5,8 +5,6 @@ use mathlib.Core.List.{List}
 use Prim.Native.Nat.{ℕ, _+_, _≤_}
 use native.Mathlib.Numerals.{add-one}
 use native.Mathlib.Omega.{arith}
-use borrow.Author.Tests.{eqb-true, eqb-false}
-use lib.Dec.{eqb}
 use lib.ListN.{length, replicate}
 use Rattle.code.specs.declared.SymbolCount.{SymbolCount}
 use Rattle.code.specs.declared.Verdict.{Verdict}
@@ -15,8 +13,9 @@ use Rattle.code.specs.Definitions.Answers.{VerdictMeans}
 use Rattle.code.specs.Definitions.Delays.{Delay}
 use Rattle.code.specs.Definitions.Lists.{if_then_else_}
 use Rattle.code.specs.Definitions.Operations.{zeroed}
-use Rattle.code.specs.Definitions.Tables.{Table, size}
-use Rattle.code.specs.Laws.Delays.{one-word-delay}
+use Rattle.code.specs.Definitions.Readings.{Decipherable}
+use Rattle.code.specs.Definitions.Tables.{Table}
+use Rattle.code.specs.Laws.Delays.{no-rivals-delay}
 use Rattle.delay.specs.declared.Extent.{Extent}
 use Rattle.delay.specs.declared.Extent.the-variants.{Finite as Most, Unbounded as Without-most}
 use Rattle.delay.specs.Answer.{was-finite}
@@ -24,18 +23,22 @@ use Rattle.delay.specs.Answer as Answer
 use Rattle.delay.specs.Extents.{ExtentOf}
 use Rattle.graph.specs.Goals.{NoGoal}
 use Rattle.graph.specs.Graph.{Longest, Endless}
-use Rattle.pairs.specs.Searches.{shows}
-use Rattle.places.specs.Flat.{wordCount, pairGraph}
+use Rattle.pairs.specs.OpenPairs.{open-shows}
+use Rattle.pairs.specs.RivalPairs.{Ended, some-parting, none-part, rival-shows}
+use Rattle.places.specs.Flat.{pairGraph}
+use Rattle.places.specs.Opens.{openGraph}
+use Rattle.places.specs.Rivals.{someRivals}
 use Rattle.places.specs.Whole.{LaidOut}
 use Rattle.theory.specs.Searches.{search-decipherable, search-delay, search-without-bound}
 
--- 01: "if the longest path has r steps from the start, the step to a first pair included, the delay is r + 1. A code of one word has delay 0"
-abbrev pub delayOf : (words r : ℕ) → ℕ
-delayOf n r = if eqb n 1 then 0 else r + 1
+-- 01: "if the longest path has r steps from the start, the step to a first pair included, the delay is r + 1". 02, request 1: "Where no two words, whatever
+-- their symbols, may both begin or both follow so, the delay is 0."
+abbrev pub delayOf : (rivals : Bool) (r : ℕ) → ℕ
+delayOf b r = if b then r + 1 else 0
 
 -- The delay, or that there is none, by the walks over the pairs of f.
 pub data DelayBy (f : List ℕ) : Verdict → Type 0 where
-  finite : {d : SymbolCount} {r : ℕ} → Longest (pairGraph f) r → d .0 ≡ delayOf (wordCount f) r → DelayBy f (Finite d)
+  finite : {d : SymbolCount} {r : ℕ} → Longest (pairGraph f) r → d .0 ≡ delayOf (someRivals f) r → DelayBy f (Finite d)
   unbounded : Endless (pairGraph f) → DelayBy f Unbounded
 
 -- The verdict is found so, and the working buffer is zero.
@@ -48,26 +51,22 @@ pub extent-low : {f : List ℕ} {e : Extent} {r : ℕ} → ExtentOf f e → e �
 extent-low x p = was-finite x p .low
 
 module _ {f w w′ : List ℕ} {n : ℕ} (long : n ≡ length w) (clear : w′ ≡ replicate n 0) where
-  pub measured-finite : {e : Extent} {r k : ℕ} {d : SymbolCount} → ExtentOf f e → e ≡ Most r → k ≡ wordCount f → d .0 ≡ delayOf k r → Measured f w w′ (Finite d)
+  pub measured-finite : {e : Extent} {r : ℕ} {b : Bool} {d : SymbolCount} → ExtentOf f e → e ≡ Most r → b ≡ someRivals f → d .0 ≡ delayOf b r → Measured f w w′ (Finite d)
   measured-finite {r = r} x p q h = record { delay = finite {r = r} (was-finite x p .longest) (rw q at h); work = rw long at clear }
 
   pub measured-unbounded : {e : Extent} → ExtentOf f e → e ≡ Without-most → Measured f w w′ Unbounded
   measured-unbounded (Answer.finite p) q = let z : _≡_ {A = ℕ} 0 1 = cc in absurd (omega arith)
   measured-unbounded (Answer.unbounded u) q = record { delay = unbounded u; work = rw long at clear }
 
-module _ {t : Table} {f : List ℕ} (laid : LaidOut t f) (none : NoGoal (pairGraph f)) where
-  by-count : (r : ℕ) (b : Bool) → eqb (wordCount f) 1 ≡ b → Longest (pairGraph f) r → Delay t (if b then 0 else r + 1)
-  by-count r true e l = one-word-delay (omega (arith, laid .lays .count, eqb-true (wordCount f) 1 e))
-  by-count r false e l = rw add-one (search-delay (shows laid) (laid .fits .some) none two l)
-    where
-      several : wordCount f ≡ 1 → ⊥
-      several = eqb-false (wordCount f) 1 e
+module _ {t : Table} {f : List ℕ} (laid : LaidOut t f) (ended : Ended t f) (none : NoGoal (openGraph f)) where
+  deciphered : Decipherable t
+  deciphered = search-decipherable (open-shows laid) (laid .fits .some) none
 
-      two : 2 ≤ size t
-      two = omega (arith, laid .lays .count, laid .fits .one, several)
+  by-rivals : (r : ℕ) (b : Bool) → someRivals f ≡ b → Longest (pairGraph f) r → Delay t (if b then r + 1 else 0)
+  by-rivals r true e l = rw add-one (search-delay (rival-shows laid ended) (laid .fits .some) deciphered (some-parting laid ended e) l)
+  by-rivals r false e l = no-rivals-delay (none-part laid ended e)
 
   -- Where no walk leads to two ends, the verdict by the walks holds, whatever stands for the message and its readings.
   pub delay-means : {v : Verdict} (x s u : List ℕ) → DelayBy f v → VerdictMeans t x s u v
-  delay-means x s u (finite {r = r} l e) =
-      (search-decipherable (shows laid) (laid .fits .some) none, rw e (by-count r (eqb (wordCount f) 1) refl l))
-  delay-means x s u (unbounded e) = (search-decipherable (shows laid) (laid .fits .some) none, search-without-bound (shows laid) (laid .fits .some) e)
+  delay-means x s u (finite {r = r} l e) = (deciphered, rw e (by-rivals r (someRivals f) refl l))
+  delay-means x s u (unbounded e) = (deciphered, search-without-bound (rival-shows laid ended) (laid .fits .some) e)

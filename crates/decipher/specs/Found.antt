@@ -9,8 +9,8 @@ use Rattle.code.specs.Definitions.Operations.{written}
 use Rattle.code.specs.Definitions.Readings.{TwoReadings}
 use Rattle.code.specs.Definitions.Tables.{Table}
 use Rattle.graph.specs.Goals.{NoGoal, LeastGoal}
-use Rattle.pairs.specs.Searches.{shows}
-use Rattle.places.specs.Flat.{pairGraph}
+use Rattle.pairs.specs.OpenPairs.{open-shows}
+use Rattle.places.specs.Opens.{openGraph}
 use Rattle.places.specs.Whole.{LaidOut}
 use Rattle.shortest.specs.declared.Search.{Search}
 use Rattle.shortest.specs.declared.Search.the-variants.{Found, Nothing}
@@ -24,7 +24,7 @@ module _ {places m m′ : List ℕ} where
   was-found {n = n} (found {n = k} h) e = let z : k ≡ n = cc in rw z at h
   was-found (nothing p h) e = let z : _≡_ {A = ℕ} 0 1 = cc in absurd (omega arith)
 
-  pub was-nothing : {r : Search} → Answers places m m′ r → r ≡ Nothing → (m′ ≡ m) × NoGoal (pairGraph places)
+  pub was-nothing : {r : Search} → Answers places m m′ r → r ≡ Nothing → (m′ ≡ m) × NoGoal (openGraph places)
   was-nothing (found h) e = let z : _≡_ {A = ℕ} 0 1 = cc in absurd (omega arith)
   was-nothing (nothing p h) e = (p, h)
 
@@ -42,14 +42,14 @@ module _ {places m m′ : List ℕ} where
     pub found-written : m′ ≡ written (take n m′) m
     found-written = let h = was-found answers is in rw (symbols-at, h .long) (h .list)
 
-    pub found-least : LeastGoal (pairGraph places) (take n m′)
+    pub found-least : LeastGoal (openGraph places) (take n m′)
     found-least = rw symbols-at (was-found answers is .least)
 
     module _ {t : Table} (laid : LaidOut t places) where
       -- It has two readings,
       pub found-two : TwoReadings t (take n m′)
-      found-two = ends→readings (laid .fits .some) (goal→ends (shows laid) (found-least .goal))
+      found-two = ends→readings (laid .fits .some) (goal→ends (open-shows laid) (found-least .goal))
 
       -- and at most 8,256 symbols.
       pub found-few : length (take n m′) ≤ 8256
-      found-few = least-few (laid .fits) (least-goal (shows laid) found-least)
+      found-few = least-few (laid .fits) (least-goal (open-shows laid) found-least)

@@ -18,7 +18,7 @@ use Rattle.places.specs.Codes.{code-fits}
 use Rattle.places.specs.Lays.{base}
 use Rattle.places.specs.Whole.{Fits}
 use Rattle.table.specs.Given.{well}
-use Rattle.theory.specs.Ambiguity.{LeastTwoEnds, at-most, ends→readings, readings→ends, no-two-ends}
+use Rattle.theory.specs.Ambiguity.{LeastTwoEnds, at-most, ends→readings, readings→ends}
 use Rattle.theory.specs.Finite.{placeCount, pairCount, pairs-within}
 use Rattle.theory.specs.Lengths.{short-ends, least-short, delay-short}
 
@@ -46,7 +46,7 @@ module _ {t : Table} (fits : Fits t) where
 
   -- 01: "Delays therefore run from 0 to 8,257 at most."
   pub delay-few : {N : ℕ} → Decipherable t → Delay t N → N ≤ 8257
-  delay-few {N} d h = omega (arith, delay-short (fits .some) N (no-two-ends (fits .some) d) h, pairs-few)
+  delay-few {N} d h = omega (arith, delay-short (fits .some) N d h, pairs-few)
 
 module _ {c : Code} (sheet : FromSheet limits c) where
   -- The shortest ambiguous message of a table that a sheet gives has at most 8,256 symbols,

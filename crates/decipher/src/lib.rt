@@ -8,6 +8,7 @@ use code::Refusal;
 use code::SymbolCount;
 use code::Verdict;
 use delay::Extent;
+use places::rivals::some_rivals;
 use shortest::Search;
 ghost use mathlib.Core.Path.{_≡_};
 ghost use Prim.Native.Nat.{_≤_};
@@ -31,6 +32,8 @@ pub struct Pairs {}
 impl Pairs {
     // How many there are at most, whichever place comes first. The shortest ambiguous message has no more symbols.
     pub const UNORDERED: usize = Code::SYMBOLS * (Code::SYMBOLS + 1) / 2;
+    // Entries of a verdict's message buffer and of each reading buffer: as many, and one for each place, for the shared opening.
+    pub const ROOM: usize = Pairs::UNORDERED + Code::SYMBOLS;
     // How many marks there are: one for each place with each place.
     pub const MARKS: usize = Code::SYMBOLS * Code::SYMBOLS;
 }
@@ -39,13 +42,13 @@ impl Pairs {
 fn is_short(message: usize, first: usize, second: usize, work: usize) -> bool
     ensures { λ r. ⌜ Exactly r (Short message first second work) ⌝ }
 {
-    if message < Pairs::UNORDERED {
+    if message < Pairs::ROOM {
         return true;
     }
-    if first < Pairs::UNORDERED {
+    if first < Pairs::ROOM {
         return true;
     }
-    if second < Pairs::UNORDERED {
+    if second < Pairs::ROOM {
         return true;
     }
     work < Pairs::MARKS
@@ -72,15 +75,15 @@ fn ambiguous(
     Verdict::Ambiguous(SymbolCount(n), a, b)
 }
 
-// The delay of a decipherable code of `words` words, where the longest walk over its pairs reads `longest` symbols.
-fn delay_of(words: usize, longest: usize) -> SymbolCount
+// The delay of a decipherable code, where the longest walk over its pairs reads `longest` symbols: 0 where no two words are rivals.
+fn delay_of(rivals: bool, longest: usize) -> SymbolCount
     requires { ⌜ longest ≤ 8256 ⌝ }
-    ensures { λ r. ⌜ r .0 ≡ delayOf words longest ⌝ }
+    ensures { λ r. ⌜ r .0 ≡ delayOf rivals longest ⌝ }
 {
-    if words == 1 {
-        return SymbolCount(0);
+    if rivals {
+        return SymbolCount(longest + 1);
     }
-    SymbolCount(longest + 1)
+    SymbolCount(0)
 }
 
 // The verdict on a decipherable code: its delay, or that it is without bound.
@@ -93,7 +96,7 @@ fn decipherable(places: &[u8], work: &mut [u64]) -> Verdict
     bits::clear(work);
     match extent {
         Extent::Finite(longest) => {
-            let delay = delay_of(places::word_count(places), longest);
+            let delay = delay_of(some_rivals(places), longest);
             Verdict::Finite(delay)
         }
         Extent::Unbounded => Verdict::Unbounded,
@@ -113,7 +116,7 @@ fn decide(
         (now (message .exit)) (now (first .exit)) (now (second .exit)) (now (work .exit)) r ⌝ }
 {
     let mut marks = [0u16; Pairs::MARKS];
-    let places = places::lay_out(code);
+    let places = endings::lay_out(code);
     match shortest::shortest(&places, &mut marks, work, message) {
         Search::Found(n) => ambiguous(code, &message[..n], first, second, work),
         Search::Nothing => decipherable(&places, work),

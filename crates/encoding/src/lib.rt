@@ -17,7 +17,7 @@ ghost use Rattle.code.specs.Definitions.Tables.{tableOf};
 ghost use Rattle.table.specs.Exactly.{Exactly};
 ghost use Rattle.table.specs.WellFormed.{WellFormed};
 ghost use Rattle.encoding.specs.Messages.{messageOf};
-ghost use Rattle.encoding.specs.Passes.{Known};
+ghost use Rattle.encoding.specs.Passes.{Known, CannotBegin, HasBarred};
 
 // Refusal 9: some entry is no word's number.
 fn has_unknown(code: Code, words: &[u8]) -> bool
@@ -34,10 +34,22 @@ fn has_unknown(code: Code, words: &[u8]) -> bool
     false
 }
 
-// Refusal 10: some word x may not come immediately after the word y before it.
-fn has_forbidden(code: Code, words: &[u8]) -> bool
+// The first word may not begin a message.
+fn cannot_begin(code: Code, words: &[u8]) -> bool
     requires { ⌜ Known limits code (now words) ⌝ }
-    ensures { λ r. ⌜ Exactly r (HasForbidden (tableOf code) (now (words .entry))) ⌝ }
+    ensures { λ r. ⌜ Exactly r (CannotBegin (tableOf code) (now (words .entry))) ⌝ }
+{
+    if words.len() == 0 {
+        return false;
+    }
+    let first = words[0] as usize;
+    code.begins[first] != 1
+}
+
+// Some word x may not come immediately after the word y before it.
+fn has_barred(code: Code, words: &[u8]) -> bool
+    requires { ⌜ Known limits code (now words) ⌝ }
+    ensures { λ r. ⌜ Exactly r (HasBarred (tableOf code) (now (words .entry))) ⌝ }
 {
     let mut i: usize = 0;
     while i + 1 < words.len() {
@@ -50,6 +62,17 @@ fn has_forbidden(code: Code, words: &[u8]) -> bool
         i += 1;
     }
     false
+}
+
+// Refusal 10: the first word may not begin, or some pair is not permitted.
+fn has_forbidden(code: Code, words: &[u8]) -> bool
+    requires { ⌜ Known limits code (now words) ⌝ }
+    ensures { λ r. ⌜ Exactly r (HasForbidden (tableOf code) (now (words .entry))) ⌝ }
+{
+    if cannot_begin(code, words) {
+        return true;
+    }
+    has_barred(code, words)
 }
 
 // The length of the message, and one more than the limit for a longer one: adding stops there.

@@ -7,7 +7,7 @@ use native.Mathlib.Decide.{decLt}
 use lib.ListN.{length, drop}
 use borrow.Author.Tests.{lt-ltb, le-ltb}
 use Rattle.code.specs.declared.Refusal.{Refusal}
-use Rattle.code.specs.declared.Refusal.the-variants.{SheetLength, SheetBytes, RecordCount, WordLength, CodeLength, FieldCount, RowEntry, NotFromSheet, UnknownWord, ForbiddenPair, MessageLength, MessageSymbol, ShortBuffer, NoReading}
+use Rattle.code.specs.declared.Refusal.the-variants.{SheetLength, SheetBytes, RecordCount, WordLength, CodeLength, FieldCount, RowEntry, NotFromSheet, UnknownWord, ForbiddenPair, MessageLength, MessageSymbol, ShortBuffer, NoReading, StartField}
 use Rattle.code.specs.declared.SheetAnswer.{SheetAnswer}
 use Rattle.code.specs.declared.SheetAnswer.the-variants.{Accepted, Refused}
 use Rattle.code.specs.Definitions.Answers.{refusalNumber}
@@ -32,6 +32,7 @@ some-number MessageLength = omega arith
 some-number MessageSymbol = omega arith
 some-number ShortBuffer = omega arith
 some-number NoReading = omega arith
+some-number StartField = omega arith
 
 accepted : (a : SheetAnswer) (b : List ℕ) → 0 ≡ sheetNumber a b → Dec (length b < imageLength) → (a ≡ Accepted) × (imageLength ≤ length b)
 accepted Accepted b e (yes h) = let n = rw (lt-ltb (length b) imageLength h) at e in absurd (omega arith)

@@ -7,18 +7,22 @@ use Rattle.code.specs.declared.Row.{Row}
 use Rattle.code.specs.declared.Code.{Code}
 use Rattle.code.specs.Definitions.Lists.{table}
 
--- 32 words of 16 symbols and a length, 32 rows of 32 entries, and the count: the bytes of a word, where the rows begin, where the count stands, and all bytes
+-- 32 words of 16 symbols and a length, 32 rows of 32 entries, 32 start marks, and the count: the bytes of a word, where the rows begin, where the marks begin,
+-- where the count stands, and all bytes
 abbrev pub wordWidth : ℕ
 wordWidth = 17
 
 abbrev pub rowsPlace : ℕ
 rowsPlace = 544
 
+abbrev pub marksPlace : ℕ
+marksPlace = 1568
+
 abbrev pub countPlace : ℕ
-countPlace = 1568
+countPlace = 1600
 
 abbrev pub imageLength : ℕ
-imageLength = 1569
+imageLength = 1601
 
 abbrev pub wordBytes : Word → List ℕ
 wordBytes w = w .symbols ++ (w .len ∷ [])
@@ -33,7 +37,7 @@ abbrev pub rowsBytes : List Row → List ℕ
 rowsBytes rs = flatMap rowBytes rs
 
 unfoldable pub imageOf : Code → List ℕ
-imageOf c = wordsBytes (c .words) ++ rowsBytes (c .rows) ++ (c .count ∷ [])
+imageOf c = wordsBytes (c .words) ++ rowsBytes (c .rows) ++ c .begins ++ (c .count ∷ [])
 
 -- byte k after the place `at`
 abbrev pub byteFrom : List ℕ → ℕ → ℕ → ℕ
@@ -54,4 +58,4 @@ abbrev pub rowNumber : List ℕ → ℕ → Row
 rowNumber b k = rowIn b (rowsPlace + k * 32)
 
 unfoldable pub codeIn : List ℕ → Code
-codeIn b = record { words = table (wordNumber b) 32; rows = table (rowNumber b) 32; count = getD b countPlace 0 }
+codeIn b = record { words = table (wordNumber b) 32; rows = table (rowNumber b) 32; begins = rowIn b marksPlace .entries; count = getD b countPlace 0 }

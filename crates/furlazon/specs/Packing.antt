@@ -1,4 +1,5 @@
--- The image stored part by part: a word is its symbols and its length, and the words, the rows and the count stand one behind another.
+-- The image stored part by part: a word is its symbols and its length, and the words, the rows, the start marks and the count stand one behind
+-- another.
 use mathlib.Core.Path.{_≡_, sym, ap, _∙_}
 use mathlib.Core.List.{List, [], _∷_, _++_}
 use Prim.Native.Nat.{ℕ, _+_, _*_, _≤_, _<_}
@@ -13,7 +14,7 @@ use Rattle.code.specs.Definitions.Tables.{noWord, noRow}
 use Rattle.copying.specs.Copies.{paste-all}
 use Rattle.copying.specs.Runs.{sets-behind, sets-front}
 use Rattle.table.specs.WellFormed.{WellFormed}
-use Rattle.furlazon.specs.Image.{wordWidth, rowsPlace, countPlace, imageLength, wordBytes, rowBytes, wordsBytes, rowsBytes, imageOf}
+use Rattle.furlazon.specs.Image.{wordWidth, rowsPlace, marksPlace, countPlace, imageLength, wordBytes, rowBytes, wordsBytes, rowsBytes, imageOf}
 use Rattle.furlazon.specs.Blocks.{blocks-length, blocks-next}
 
 pub word-stored : (w : Word) (d d′ : List ℕ) (at : ℕ) → length (w .symbols) ≡ 16 → at + wordWidth ≤ length d → d′ ≡ paste d at (w .symbols) 16
@@ -55,20 +56,29 @@ module _ {c : Code} (well : WellFormed limits c) where
   length-rows : length (rowsBytes (c .rows)) ≡ 1024
   length-rows = rw (all-rows 32 (omega arith)) at (blocks-length rowBytes noRow 32 (c .rows) row-wide 32 (omega (arith, well .rows)))
 
-  pub length-both : length (wordsBytes (c .words) ++ rowsBytes (c .rows)) ≡ countPlace
+  pub length-both : length (wordsBytes (c .words) ++ rowsBytes (c .rows)) ≡ marksPlace
   length-both = rw (length-append, length-words, length-rows)
 
-  -- Words, rows and count are the image.
-  pub packed : (b w r : List ℕ) → imageLength ≤ length b → w ≡ sets b 0 (wordsBytes (c .words)) → r ≡ sets w rowsPlace (rowsBytes (c .rows))
-      → set r countPlace (c .count) ≡ written (imageOf c) b
-  unfolding imageOf
-  packed b w r h e n =
-      let ws : List ℕ = wordsBytes (c .words) in
-      let rs : List ℕ = rowsBytes (c .rows) in
-      let room : length (ws ++ rs ++ (c .count ∷ [])) ≤ length b = omega (arith, length-append (ws ++ rs) (c .count ∷ []), length-both) in
-      rw (n, e, sets-behind ws rs b 0 rowsPlace (omega (arith, length-words)))
-      (sets-behind (ws ++ rs) (c .count ∷ []) b 0 countPlace (omega (arith, length-both)) ∙ sets-front (ws ++ rs ++ (c .count ∷ [])) b room)
+  pub length-all : length (wordsBytes (c .words) ++ rowsBytes (c .rows) ++ c .begins) ≡ countPlace
+  length-all = omega (arith, length-append (wordsBytes (c .words) ++ rowsBytes (c .rows)) (c .begins), length-both, well .begins)
 
-  pub packed-length : (b w r : List ℕ) (v : ℕ) → w ≡ sets b 0 (wordsBytes (c .words)) → r ≡ sets w rowsPlace (rowsBytes (c .rows)) → length (set r countPlace v) ≡ length b
-  packed-length b w r v e n =
-      length-set r countPlace v ∙ ap length n ∙ length-sets w rowsPlace (rowsBytes (c .rows)) ∙ ap length e ∙ length-sets b 0 (wordsBytes (c .words))
+  module _ (b w r m : List ℕ) (room : imageLength ≤ length b) (e : w ≡ sets b 0 (wordsBytes (c .words))) (n : r ≡ sets w rowsPlace (rowsBytes (c .rows)))
+      (k : m ≡ paste r marksPlace (c .begins) 32) where
+    rows-length : length r ≡ length b
+    rows-length = ap length n ∙ length-sets w rowsPlace (rowsBytes (c .rows)) ∙ ap length e ∙ length-sets b 0 (wordsBytes (c .words))
+
+    marks-stored : m ≡ sets r marksPlace (c .begins)
+    marks-stored = k ∙ paste-all r (c .begins) marksPlace 32 (sym (well .begins)) (omega (arith, rows-length))
+
+    -- Words, rows, start marks and count are the image.
+    pub packed : set m countPlace (c .count) ≡ written (imageOf c) b
+    unfolding imageOf
+    packed =
+        let ws : List ℕ = wordsBytes (c .words) in
+        let rs : List ℕ = rowsBytes (c .rows) in
+        let long : length (ws ++ rs ++ c .begins ++ (c .count ∷ [])) ≤ length b = omega (arith, length-append (ws ++ rs ++ c .begins) (c .count ∷ []), length-all) in
+        rw (marks-stored, n, e, sets-behind ws rs b 0 rowsPlace (omega (arith, length-words)), sets-behind (ws ++ rs) (c .begins) b 0 marksPlace (omega (arith, length-both)))
+        (sets-behind (ws ++ rs ++ c .begins) (c .count ∷ []) b 0 countPlace (omega (arith, length-all)) ∙ sets-front (ws ++ rs ++ c .begins ++ (c .count ∷ [])) b long)
+
+    pub packed-length : (v : ℕ) → length (set m countPlace v) ≡ length b
+    packed-length v = length-set m countPlace v ∙ ap length marks-stored ∙ length-sets r marksPlace (c .begins) ∙ rows-length

@@ -13,27 +13,36 @@ use Rattle.code.specs.Definitions.Sheets.{limits}
 use Rattle.code.specs.Definitions.Tables.{noWord, noRow}
 use Rattle.code.specs.Laws.Lists.{table-list, table-more}
 use Rattle.table.specs.WellFormed.{WellFormed}
-use Rattle.furlazon.specs.Image.{wordWidth, rowsPlace, countPlace, imageLength, wordBytes, rowBytes, wordsBytes, rowsBytes, imageOf, byteFrom, wordNumber, rowNumber, codeIn}
+use Rattle.furlazon.specs.Image.{wordWidth, rowsPlace, marksPlace, countPlace, imageLength, wordBytes, rowBytes, wordsBytes, rowsBytes, imageOf, byteFrom, wordNumber, rowNumber, codeIn}
 use Rattle.furlazon.specs.Blocks.{block-at, blocks-table}
-use Rattle.furlazon.specs.Packing.{word-wide, row-wide, length-words, length-both}
+use Rattle.furlazon.specs.Packing.{word-wide, row-wide, length-words, length-both, length-all}
 
 module _ {c : Code} (well : WellFormed limits c) (rest : List ℕ) where
   word-byte : (k j : ℕ) → k < 32 → j < wordWidth → getD (imageOf c ++ rest) (k * wordWidth + j) 0 ≡ getD (wordBytes (getD (c .words) k noWord)) j 0
   unfolding imageOf
   word-byte k j h i =
-      rw (append-assoc, append-assoc) (block-at wordBytes noWord wordWidth (c .words) (word-wide well) (rowsBytes (c .rows) ++ ((c .count ∷ []) ++ rest)) k j (omega (arith, well .words)) i)
+      rw (append-assoc, append-assoc, append-assoc)
+      (block-at wordBytes noWord wordWidth (c .words) (word-wide well) (rowsBytes (c .rows) ++ (c .begins ++ ((c .count ∷ []) ++ rest))) k j (omega (arith, well .words)) i)
 
   row-byte : (k j : ℕ) → k < 32 → j < 32 → getD (imageOf c ++ rest) (rowsPlace + k * 32 + j) 0 ≡ getD (rowBytes (getD (c .rows) k noRow)) j 0
   unfolding imageOf
   row-byte k j h i =
       let at : rowsPlace + k * 32 + j ≡ length (wordsBytes (c .words)) + (k * 32 + j) = omega (arith, length-words well) in
+      rw (append-assoc, append-assoc, append-assoc, at)
+      (getD-append-add (wordsBytes (c .words)) (rowsBytes (c .rows) ++ (c .begins ++ ((c .count ∷ []) ++ rest))) (k * 32 + j) 0
+      ∙ block-at rowBytes noRow 32 (c .rows) (row-wide well) (c .begins ++ ((c .count ∷ []) ++ rest)) k j (omega (arith, well .rows)) i)
+
+  mark-byte : (k : ℕ) → k < 32 → getD (imageOf c ++ rest) (marksPlace + k) 0 ≡ getD (c .begins) k 0
+  unfolding imageOf
+  mark-byte k h =
+      let at : marksPlace + k ≡ length (wordsBytes (c .words) ++ rowsBytes (c .rows)) + k = omega (arith, length-both well) in
       rw (append-assoc, append-assoc, at)
-      (getD-append-add (wordsBytes (c .words)) (rowsBytes (c .rows) ++ ((c .count ∷ []) ++ rest)) (k * 32 + j) 0
-      ∙ block-at rowBytes noRow 32 (c .rows) (row-wide well) ((c .count ∷ []) ++ rest) k j (omega (arith, well .rows)) i)
+      (getD-append-add (wordsBytes (c .words) ++ rowsBytes (c .rows)) (c .begins ++ ((c .count ∷ []) ++ rest)) k 0
+      ∙ List·getD-append (c .begins) ((c .count ∷ []) ++ rest) 0 k (omega (arith, well .begins)))
 
   count-byte : getD (imageOf c ++ rest) countPlace 0 ≡ c .count
   unfolding imageOf
-  count-byte = rw append-assoc (getD-at (wordsBytes (c .words) ++ rowsBytes (c .rows)) (c .count) rest 0 countPlace (length-both well))
+  count-byte = rw append-assoc (getD-at (wordsBytes (c .words) ++ rowsBytes (c .rows) ++ c .begins) (c .count) rest 0 countPlace (length-all well))
 
   word-same : (k : ℕ) → k < 32 → wordNumber (imageOf c ++ rest) k ≡ getD (c .words) k noWord
   word-same k h =
@@ -56,7 +65,8 @@ module _ {c : Code} (well : WellFormed limits c) (rest : List ℕ) where
   image-holds =
       let words-same = table-list (wordNumber (imageOf c ++ rest)) 32 (c .words) noWord (well .words) word-same in
       let rows-same = table-list (rowNumber (imageOf c ++ rest)) 32 (c .rows) noRow (well .rows) row-same in
-      rw (words-same, rows-same, count-byte)
+      let marks-same = table-list (byteFrom (imageOf c ++ rest) marksPlace) 32 (c .begins) 0 (well .begins) mark-byte in
+      rw (words-same, rows-same, marks-same, count-byte)
 
 module _ (b : List ℕ) (room : imageLength ≤ length b) where
   bytes-from : (at n : ℕ) → at + n ≤ length b → table (byteFrom b at) n ≡ take n (drop at b)
@@ -73,5 +83,5 @@ module _ (b : List ℕ) (room : imageLength ≤ length b) where
   pub held-image : imageOf (codeIn b) ≡ take imageLength b
   unfolding imageOf codeIn
   held-image =
-      rw (blocks-table wordBytes (wordNumber b) wordWidth 0 32 b word-block, blocks-table rowBytes (rowNumber b) 32 rowsPlace 32 b row-block)
-      (rw (← take-add rowsPlace 1024 b) (sym (take-suc b countPlace 0 (omega arith))))
+      rw (blocks-table wordBytes (wordNumber b) wordWidth 0 32 b word-block, blocks-table rowBytes (rowNumber b) 32 rowsPlace 32 b row-block, bytes-from marksPlace 32 (omega arith))
+      (rw (← take-add rowsPlace 1024 b, ← take-add marksPlace 32 b) (sym (take-suc b countPlace 0 (omega arith))))

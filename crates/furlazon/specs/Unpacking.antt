@@ -9,7 +9,7 @@ use Rattle.code.specs.declared.Row.{Row}
 use Rattle.code.specs.declared.Code.{Code}
 use Rattle.code.specs.Definitions.Lists.{table}
 use Rattle.code.specs.Laws.Filling.{fill-next}
-use Rattle.furlazon.specs.Image.{countPlace, wordNumber, rowNumber, codeIn}
+use Rattle.furlazon.specs.Image.{marksPlace, countPlace, rowIn, wordNumber, rowNumber, codeIn}
 
 -- Filled to its end, an array is the table.
 pub filled : {A : Type 0} (f : ℕ → A) (d : List A) (i n : ℕ) → i ≡ n → length d ≤ n → table f i ++ drop i d ≡ table f n
@@ -28,16 +28,18 @@ pub record Unpacked (b : List ℕ) (c : Code) (k : ℕ) : Type 0 where
   pub rows-long : length (c .rows) ≡ 32
   pub words : c .words ≡ table (wordNumber b) k ++ drop k (replicate 32 zeroWord)
   pub rows : c .rows ≡ table (rowNumber b) k ++ drop k (replicate 32 zeroRow)
+  pub begins : c .begins ≡ rowIn b marksPlace .entries
   pub count : c .count ≡ getD b countPlace 0
 
 pub unpacked-next : (b : List ℕ) (c : Code) (k : ℕ) (w : Word) (r : Row) → Unpacked b c k → k < 32 → w ≡ wordNumber b k → r ≡ rowNumber b k
-    → Unpacked b (record { words = set (c .words) k w; rows = set (c .rows) k r; count = c .count }) (k + 1)
+    → Unpacked b (record { words = set (c .words) k w; rows = set (c .rows) k r; begins = c .begins; count = c .count }) (k + 1)
 unpacked-next b c k w r u h e n = record {
   most = omega arith;
   words-long = length-set (c .words) k w ∙ u .words-long;
   rows-long = length-set (c .rows) k r ∙ u .rows-long;
   words = rw (u .words, e) (fill-next (wordNumber b) (replicate 32 zeroWord) k h);
   rows = rw (u .rows, n) (fill-next (rowNumber b) (replicate 32 zeroRow) k h);
+  begins = u .begins;
   count = u .count;
 }
 
@@ -46,4 +48,4 @@ unfolding codeIn
 unpacked-all b c k u h =
     let words-all = u .words ∙ filled (wordNumber b) (replicate 32 zeroWord) k 32 (omega (arith, u .most)) (omega arith) in
     let rows-all = u .rows ∙ filled (rowNumber b) (replicate 32 zeroRow) k 32 (omega (arith, u .most)) (omega arith) in
-    rw (← words-all, ← rows-all, ← u .count)
+    rw (← words-all, ← rows-all, ← u .begins, ← u .count)

@@ -1,5 +1,5 @@
 // The image of a code table: the bytes in which a table crosses to C or Rust. For each of the 32 words its 16 symbols and then its length; then the
-// 32 rows of 32 entries each; then the count.
+// 32 rows of 32 entries each; then the 32 start marks; then the count.
 
 use code::Code;
 use code::Row;
@@ -21,8 +21,10 @@ impl Image {
     pub const WORD: usize = Word::SYMBOLS + 1;
     // Where the first row begins.
     pub const ROWS: usize = Code::WORDS * Image::WORD;
+    // Where the first start mark stands.
+    pub const MARKS: usize = Image::ROWS + Code::WORDS * Code::WORDS;
     // Where the count stands.
-    pub const COUNT: usize = Image::ROWS + Code::WORDS * Code::WORDS;
+    pub const COUNT: usize = Image::MARKS + Code::WORDS;
     // Bytes an image.
     pub const LENGTH: usize = Image::COUNT + 1;
 }
@@ -71,6 +73,8 @@ pub fn pack(code: Code, table: &mut [u8])
 {
     put_words(code, table);
     put_rows(code, table);
+    let begins = code.begins;
+    copy_at(table, Image::MARKS, &begins, Code::WORDS);
     table[Image::COUNT] = code.count as u8;
 }
 
@@ -91,7 +95,7 @@ fn word_in(table: &[u8], at: usize) -> Word
     word
 }
 
-// The row that stands from `at` on.
+// The row, or the start marks, that stand from `at` on.
 fn row_in(table: &[u8], at: usize) -> Row
     requires { ⌜ at + 32 ≤ length (now table) ⌝ }
     ensures { λ r. ⌜ r ≡ rowIn (now (table .entry)) at ⌝ }
@@ -119,9 +123,12 @@ pub fn unpack(table: &[u8]) -> Code
     let rows = [Row {
         entries: [0; Code::WORDS],
     }; Code::WORDS];
+    let marks = row_in(table, Image::MARKS);
+    let begins = marks.entries;
     let mut code = Code {
         words: words,
         rows: rows,
+        begins: begins,
         count: table[Image::COUNT] as usize,
     };
     let mut k: usize = 0;

@@ -1,22 +1,23 @@
--- Every table that an accepted sheet gives is well-formed: refusals 3 to 7 bound what the fields hold, and past the fields a read gives nothing, which counts as zero.
+-- Every table that an accepted sheet gives is well-formed: refusals 3 to 7 and 15 bound what the fields hold, and past the fields a read gives nothing, which counts as zero.
 use mathlib.Core.Path.{_≡_, refl, ap, _∙_}
 use mathlib.Core.Bool.{Bool, true, false, true≢false, and-false}
 use mathlib.Core.List.{List, [], _∷_, map}
-use Prim.Native.Nat.{ℕ, _+_, _≤_, _<_}
+use Prim.Native.Nat.{ℕ, _+_, _-_, _≤_, _<_}
 use native.Mathlib.Omega.{arith}
 use native.Mathlib.Decide.{decLt}
 use lib.Dec.{ltb, eqb}
 use lib.ListN.{length, drop, getD, length-drop, List·getD-eq-default}
 use lib.Seq.{getD-drop}
-use borrow.Author.Tests.{ltb-false, eqb-true, eqb-false, not-false}
+use borrow.Author.Tests.{lt-ltb, le-ltb, ltb-false, eqb-true, eqb-false}
 use Rattle.code.specs.declared.Word.{Word}
 use Rattle.code.specs.declared.Code.{Code}
 use Rattle.code.specs.declared.Limits.{Limits}
-use Rattle.code.specs.Definitions.Lists.{any, table, sum}
+use Rattle.code.specs.Definitions.Lists.{if_then_else_, table, sum}
 use Rattle.code.specs.Definitions.Tables.{noWord, noRow}
-use Rattle.code.specs.Definitions.Sheets.{isDigit, valueOf, body, records, grid, firstField, wordLength, badWidth, badEntry, badRow, badWord, wordOf, rowOf, codeOf, refused3, refused4, refused5, refused6, refused7, FromSheet}
+use Rattle.code.specs.Definitions.Sheets.{isDigit, valueOf, body, records, grid, firstField, wordLength, hasStarts, rowPlace, badEntry, badRow, startField, badWord, wordOf, rowOf, beginsOf, codeOf, refused3, refused4, refused5, refused6, refused7, refused15, FromSheet}
 use Rattle.code.specs.Laws.Lists.{length-table, getD-table, getD-table-past, table-same, table-map, any-at, sum-past, or-neither}
 use Rattle.code.specs.Laws.Clean.{clean-body, records-some}
+use Rattle.code.specs.Laws.Records.{place-some, wide-at, width, bits}
 use Rattle.table.specs.WellFormed.{lenOf, CellsFit, WordFits, RowFits, WellFormed}
 use Rattle.table.specs.Accepts.{accepts}
 use Rattle.table.specs.Digits.{value-symbol, entryValue, first-digits}
@@ -33,10 +34,7 @@ module _ (bound used m : ℕ) (f : ℕ → ℕ) (some : 0 < bound) (below : (p :
     zero = λ p h. table-cell f m p (λ v. v ≡ 0) (zero p h) refl (decLt p m);
   }
 
-abbrev entry : List (List ℕ) → ℕ → ℕ
-entry r y = entryValue (getD r (y + 1) [])
-
--- An entry that refusal 7 leaves is 0 or 1.
+-- A field that is a digit 0 or 1 stands for it.
 entry-bit : (f : List ℕ) → badEntry f ≡ false → entryValue f < 2
 entry-bit [] e = absurd (true≢false e)
 entry-bit (a ∷ f) e = by-digit (eqb a 48) (eqb a 49) refl refl
@@ -46,45 +44,69 @@ entry-bit (a ∷ f) e = by-digit (eqb a 48) (eqb a 49) refl refl
     by-digit false true p q = rw (eqb-true a 49 q) (omega arith)
     by-digit false false p q = absurd (true≢false (rw (p, q, and-false) at e))
 
--- past the last field of a record
-entry-past : (r : List (List ℕ)) (y : ℕ) → length r ≤ y + 1 → entry r y ≡ 0
-entry-past r y h = ap entryValue (List·getD-eq-default r [] h)
-
 module _ (l : Limits) (g : List (List (List ℕ))) where
   nothing : (k : ℕ) → length g ≤ k → getD g k [] ≡ []
   nothing k h = List·getD-eq-default g [] h
 
-  module _ (widths : refused6 g ≡ false) (entries : refused7 g ≡ false) (x : ℕ) where
-    width : x < length g → length (getD g x []) ≡ length g + 1
-    width h = eqb-true (length (getD g x [])) (length g + 1) (not-false _ (any-at (badWidth (length g)) g [] widths x h))
+  module _ (widths : refused6 g ≡ false) (entries : refused7 g ≡ false) (starts : refused15 g ≡ false) where
+    -- Every field behind the word stands for 0 or 1.
+    field-bit : (x j : ℕ) → x < length g → j + 1 < length (getD g x []) → entryValue (getD (getD g x []) (j + 1) []) < 2
+    field-bit x j h i =
+        let r : List (List ℕ) = getD g x [] in
+        let within : j < length (drop 1 r) = omega (arith, length-drop 1 r) in
+        let at : 1 + j ≡ j + 1 = omega arith in
+        rw (← at, ← getD-drop 1 r j [])
+        (entry-bit (getD (drop 1 r) j []) (any-at badEntry (drop 1 r) [] (any-at (badRow 1) g [] (bits g widths entries starts) x h) j within))
 
-    inside : x < length g → (y : ℕ) → y < length g → entry (getD g x []) y < 2
-    inside h y i =
-        let row : any badEntry (drop 1 (getD g x [])) ≡ false = any-at badRow g [] entries x h in
-        let within : y < length (drop 1 (getD g x [])) = omega (arith, width h, length-drop 1 (getD g x [])) in
-        let at : 1 + y ≡ y + 1 = omega arith in
-        rw (← at, ← getD-drop 1 (getD g x []) y []) (entry-bit (getD (drop 1 (getD g x [])) y []) (any-at badEntry (drop 1 (getD g x [])) [] row y within))
+    entry : ℕ → ℕ → ℕ
+    entry x y = entryValue (getD (getD g x []) (y + rowPlace g) [])
 
-    entry-unused : length g ≤ x → (y : ℕ) → entry (getD g x []) y ≡ 0
-    entry-unused h y = rw (nothing x h)
+    module _ (x : ℕ) where
+      entry-unused : length g ≤ x → (y : ℕ) → entry x y ≡ 0
+      unfolding entry
+      entry-unused h y = rw (nothing x h)
 
-    entry-after : (y : ℕ) → length g ≤ y → Dec (x < length g) → entry (getD g x []) y ≡ 0
-    entry-after y h (yes i) = entry-past (getD g x []) y (omega (arith, width i))
-    entry-after y h (no i) = entry-unused (omega arith) y
+      entry-after : (y : ℕ) → length g ≤ y → Dec (x < length g) → entry x y ≡ 0
+      unfolding entry
+      entry-after y h (yes i) = ap entryValue (List·getD-eq-default (getD g x []) [] (omega (arith, width g widths x i)))
+      entry-after y h (no i) = entry-unused (omega arith) y
 
-    entry-low : (y : ℕ) → Dec (x < length g) → Dec (y < length g) → entry (getD g x []) y < 2
-    entry-low y (yes h) (yes i) = inside h y i
-    entry-low y (yes h) (no i) = omega (arith, entry-after y (omega arith) (yes h))
-    entry-low y (no h) i = omega (arith, entry-unused (omega arith) y)
+      entry-low : (y : ℕ) → Dec (x < length g) → Dec (y < length g) → entry x y < 2
+      unfolding entry
+      entry-low y (yes h) (yes i) =
+          let at : y + (rowPlace g - 1) + 1 ≡ y + rowPlace g = omega (arith, place-some g) in
+          rw at at (field-bit x (y + (rowPlace g - 1)) h (omega (arith, width g widths x h, place-some g)))
+      entry-low y (yes h) (no i) = omega (arith, entry-after y (omega arith) (yes h))
+      entry-low y (no h) i = omega (arith, entry-unused (omega arith) y)
 
-    row-fits : RowFits l (length g) x (rowOf l (getD g x []))
-    row-fits =
-        let bits : (y : ℕ) → entry (getD g x []) y < 2 = λ y. entry-low y (decLt x (length g)) (decLt y (length g)) in
-        record {
-          array = length-table (entry (getD g x [])) (l .words);
-          entries = table-cells 2 (length g) (l .words) (entry (getD g x [])) (omega arith) bits (λ y h. entry-after y h (decLt x (length g)));
-          unused = λ h y. table-cells 2 0 (l .words) (entry (getD g x [])) (omega arith) bits (λ z i. entry-unused h z) .zero y (omega arith);
-        }
+      row-fits : RowFits l (length g) x (rowOf l (rowPlace g) (getD g x []))
+      unfolding entry
+      row-fits =
+          let low : (y : ℕ) → entry x y < 2 = λ y. entry-low y (decLt x (length g)) (decLt y (length g)) in
+          record {
+            array = length-table (entry x) (l .words);
+            entries = table-cells 2 (length g) (l .words) (entry x) (omega arith) low (λ y h. entry-after y h (decLt x (length g)));
+            unused = λ h y. table-cells 2 0 (l .words) (entry x) (omega arith) low (λ z i. entry-unused h z) .zero y (omega arith);
+          }
+
+    -- the start marks
+    mark-unused : (x : ℕ) → length g ≤ x → beginsOf l g x ≡ 0
+    mark-unused x h = by-starts (hasStarts g)
+      where
+        by-starts : (t : Bool) → (if t then entryValue (startField (getD g x [])) else if ltb x (length g) then 1 else 0) ≡ 0
+        by-starts true = rw (nothing x h)
+        by-starts false = rw (le-ltb x (length g) h)
+
+    mark-low : (x : ℕ) → Dec (x < length g) → beginsOf l g x < 2
+    mark-low x (no h) = omega (arith, mark-unused x (omega arith))
+    mark-low x (yes h) = by-starts (hasStarts g) refl
+      where
+        by-starts : (t : Bool) → hasStarts g ≡ t → (if t then entryValue (startField (getD g x [])) else if ltb x (length g) then 1 else 0) < 2
+        by-starts true e = field-bit x 0 h (omega (arith, wide-at g (length g + 2) x e h))
+        by-starts false e = rw (lt-ltb x (length g) h) (omega arith)
+
+    marks-fit : CellsFit 2 (length g) (table (beginsOf l g) (l .words))
+    marks-fit = table-cells 2 (length g) (l .words) (beginsOf l g) (omega arith) (λ x. mark-low x (decLt x (length g))) mark-unused
 
   module _ (words : refused4 l g ≡ false) (digits : (k p : ℕ) → isDigit (getD (firstField (getD g k [])) p 48) ≡ true) (k : ℕ) where
     tests : k < length g → (eqb (wordLength (getD g k [])) 0 ≡ false) × (ltb (l .symbols) (wordLength (getD g k [])) ≡ false)
@@ -126,17 +148,19 @@ module _ (l : Limits) (g : List (List (List ℕ))) where
 
   -- The table of records and fields that no refusal holds of.
   given : 1 ≤ length g → ((k p : ℕ) → isDigit (getD (firstField (getD g k [])) p 48) ≡ true) → refused3 l g ≡ false → refused4 l g ≡ false → refused5 l g ≡ false
-      → refused6 g ≡ false → refused7 g ≡ false → WellFormed l (codeOf l g)
+      → refused6 g ≡ false → refused7 g ≡ false → refused15 g ≡ false → WellFormed l (codeOf l g)
   unfolding codeOf
-  given some digits count words total widths entries =
+  given some digits count words total widths entries starts =
       let most : length g ≤ l .words = ltb-false (l .words) (length g) count in
       record {
         one = some;
         most = most;
         words = length-table (λ k. wordOf l (firstField (getD g k []))) (l .words);
-        rows = length-table (λ k. rowOf l (getD g k [])) (l .words);
+        rows = length-table (λ k. rowOf l (rowPlace g) (getD g k [])) (l .words);
+        begins = length-table (beginsOf l g) (l .words);
+        marks = marks-fit widths entries starts;
         word = λ k h. rw (getD-table (λ i. wordOf l (firstField (getD g i []))) (l .words) k noWord h) (word-fits words digits k);
-        row = λ x h. rw (getD-table (λ i. rowOf l (getD g i [])) (l .words) x noRow h) (row-fits widths entries x);
+        row = λ x h. rw (getD-table (λ i. rowOf l (rowPlace g) (getD g i [])) (l .words) x noRow h) (row-fits widths entries starts x);
         total = rw (total-given most) (ltb-false (l .total) (sum (map wordLength g)) total);
       }
 
@@ -146,4 +170,4 @@ unfolding grid
 well {l} {c} f =
     let a = accepts l (f .sheet) c (f .gives) in
     let some : 1 ≤ length (grid (f .sheet)) = rw (records-some (body (f .sheet))) (omega arith) in
-    rw (a .gives) at (given l (grid (f .sheet)) some (first-digits (clean-body (f .sheet) (a .bytes))) (a .records) (a .words) (a .symbols) (a .widths) (a .entries))
+    rw (a .gives) at (given l (grid (f .sheet)) some (first-digits (clean-body (f .sheet) (a .bytes))) (a .records) (a .words) (a .symbols) (a .widths) (a .entries) (a .starts))

@@ -104,10 +104,10 @@ plain-join (f ∷ g ∷ fs) e =
     let parts = and-eq-true-iff (every isDigit f) (every (every isDigit) (g ∷ fs)) .0 e in
     every-append isPlain f (44 ∷ join (44 ∷ []) (g ∷ fs)) (plain-digits f (parts .0)) (plain-join (g ∷ fs) (parts .1))
 
--- What is joined is no longer than its parts, each with a separator.
-pub length-join : (sep : List ℕ) (fs : List (List ℕ)) → length (join sep fs) ≤ sum (map (λ (f : List ℕ). length f + length sep) fs)
+-- What is joined is no longer than its parts, each with a separator but for the last.
+pub length-join : (sep : List ℕ) (fs : List (List ℕ)) → 1 ≤ length fs → length (join sep fs) + length sep ≤ sum (map (λ (f : List ℕ). length f + length sep) fs)
 unfolding join sum
-length-join sep [] = omega arith
-length-join sep (f ∷ []) = omega arith
-length-join sep (f ∷ g ∷ fs) =
-    omega (arith, length-append f (sep ++ join sep (g ∷ fs)), length-append sep (join sep (g ∷ fs)), length-join sep (g ∷ fs))
+length-join sep [] h = absurd (omega arith)
+length-join sep (f ∷ []) h = omega arith
+length-join sep (f ∷ g ∷ fs) h =
+    omega (arith, length-append f (sep ++ join sep (g ∷ fs)), length-append sep (join sep (g ∷ fs)), length-join sep (g ∷ fs) (omega arith))

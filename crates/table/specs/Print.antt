@@ -1,4 +1,4 @@
--- The sheet that is written for a table: its words and entries in digits, fields joined by commas, records by CR LF, and a CR LF at the end.
+-- The sheet that is written for a table: its words, start marks and entries in digits, fields joined by commas, records by CR LF, and a CR LF at the end.
 use mathlib.Core.List.{List, [], _∷_, _++_, map}
 use Prim.Native.Nat.{ℕ}
 use lib.ListN.{getD}
@@ -12,12 +12,15 @@ module _ (c : Code) where
   abbrev pub wordField : ℕ → List ℕ
   wordField k = map digitOf (symbolsOf (getD (c .words) k noWord))
 
+  abbrev pub markField : ℕ → List ℕ
+  markField k = digitOf (getD (c .begins) k 0) ∷ []
+
   abbrev pub entryField : ℕ → ℕ → List ℕ
   entryField x y = digitOf (entryOf c x y) ∷ []
 
   -- the fields of record x, and of all records
   abbrev pub fieldsOf : ℕ → List (List ℕ)
-  fieldsOf x = wordField x ∷ table (entryField x) (c .count)
+  fieldsOf x = wordField x ∷ markField x ∷ table (entryField x) (c .count)
 
   abbrev pub gridOf : List (List (List ℕ))
   gridOf = table fieldsOf (c .count)

@@ -1,12 +1,12 @@
 -- The sheet that is written for a well-formed table gives the table back, so the well-formed tables are exactly those that accepted sheets give.
 use mathlib.Core.Path.{_≡_, refl, sym, ap, _∙_}
-use mathlib.Core.Bool.{false}
+use mathlib.Core.Bool.{true, false, or-true}
 use mathlib.Core.List.{List, [], _∷_, map}
 use mathlib.Core.Logic.{_↔_}
 use Prim.Native.Nat.{ℕ, zero, suc, _+_, _<_}
 use native.Mathlib.Omega.{arith}
 use native.Mathlib.Decide.{decLt}
-use native.Mathlib.Numerals.{add-one}
+use lib.Dec.{eqb}
 use lib.ListN.{length, getD, List·getD-map}
 use borrow.Author.Tests.{le-ltb, eq-eqb, ne-eqb}
 use Rattle.code.specs.declared.Word.{Word}
@@ -14,10 +14,10 @@ use Rattle.code.specs.declared.Row.{Row}
 use Rattle.code.specs.declared.Code.{Code}
 use Rattle.code.specs.declared.Limits.{Limits}
 use Rattle.code.specs.declared.SheetAnswer.the-variants.{Accepted}
-use Rattle.code.specs.Definitions.Lists.{sum}
+use Rattle.code.specs.Definitions.Lists.{table, sum}
 use Rattle.code.specs.Definitions.Tables.{noWord, noRow, symbolsOf, entryOf}
-use Rattle.code.specs.Definitions.Sheets.{valueOf, firstField, wordLength, badWord, badWidth, badEntry, badRow, wordOf, rowOf, codeOf, refused3, refused5, taken, FromSheet}
-use Rattle.code.specs.Laws.Lists.{length-table, getD-table, getD-table-past, table-list, table-same, map-table, any-table}
+use Rattle.code.specs.Definitions.Sheets.{valueOf, firstField, wordLength, hasStarts, rowPlace, badWord, badEntry, badRow, startField, wordOf, rowOf, beginsOf, codeOf, refused3, refused5, taken, FromSheet}
+use Rattle.code.specs.Laws.Lists.{length-table, getD-table, getD-table-past, table-list, table-same, map-table, any-table, every-table}
 use Rattle.table.specs.WellFormed.{lenOf, WellFormed}
 use Rattle.table.specs.Accepts.{accepted}
 use Rattle.table.specs.Given.{well}
@@ -25,7 +25,7 @@ use Rattle.table.specs.Digits.{entryValue, digitOf, value-digit}
 use Rattle.table.specs.Print.{wordField, entryField, fieldsOf, gridOf, print}
 use Rattle.table.specs.Written.{Roomy, within, symbol-written, length-word, written-bytes, written-grid, total-used, written-some, written-short}
 
--- the digits 0 and 1 are entries
+-- the digits 0 and 1 are entries and start marks
 bit-digit : (v : ℕ) → v < 2 → badEntry (digitOf v ∷ []) ≡ false
 unfolding digitOf
 bit-digit zero h = refl
@@ -43,8 +43,9 @@ word-is w s n p q = rw (p, q)
 row-is : (r : Row) (e : List ℕ) → e ≡ r .entries → record { entries = e } ≡ r
 row-is r e p = rw p
 
-code-is : (c : Code) (ws : List Word) (rs : List Row) (n : ℕ) → ws ≡ c .words → rs ≡ c .rows → n ≡ c .count → record { words = ws; rows = rs; count = n } ≡ c
-code-is c ws rs n p q r = rw (p, q, r)
+code-is : (c : Code) (ws : List Word) (rs : List Row) (bs : List ℕ) (n : ℕ) → ws ≡ c .words → rs ≡ c .rows → bs ≡ c .begins → n ≡ c .count
+    → record { words = ws; rows = rs; begins = bs; count = n } ≡ c
+code-is c ws rs bs n p q b r = rw (p, q, b, r)
 
 module _ (l : Limits) (c : Code) (w : WellFormed l c) where
   -- No refusal holds of the records and fields.
@@ -63,12 +64,16 @@ module _ (l : Limits) (c : Code) (w : WellFormed l c) where
       (rw (map-table wordLength (fieldsOf c) (c .count), table-same (λ x. wordLength (fieldsOf c x)) (lenOf c) (c .count) (λ x h. length-word l c w x (within l c w x h)))
       (total-used l c w))
 
-  width-fits : (x : ℕ) → x < c .count → badWidth (length (gridOf c)) (fieldsOf c x) ≡ false
-  width-fits x h =
-      rw (length-table (fieldsOf c) (c .count), length-table (entryField c x) (c .count), eq-eqb (suc (c .count)) (c .count + 1) (omega arith))
+  starts-written : hasStarts (gridOf c) ≡ true
+  starts-written =
+      every-table (λ r. eqb (length r) (length (gridOf c) + 2)) (fieldsOf c) (c .count)
+      (λ x h. rw (length-table (fieldsOf c) (c .count), length-table (entryField c x) (c .count)) (eq-eqb (suc (suc (c .count))) (c .count + 2) (omega arith)))
 
-  row-fits : (x : ℕ) → x < c .count → badRow (fieldsOf c x) ≡ false
+  row-fits : (x : ℕ) → x < c .count → badRow 2 (fieldsOf c x) ≡ false
   row-fits x h = any-table badEntry (entryField c x) (c .count) (λ y i. bit-digit (entryOf c x y) (w .row x (within l c w x h) .entries .below y))
+
+  mark-fits : (x : ℕ) → x < c .count → badEntry (startField (fieldsOf c x)) ≡ false
+  mark-fits x h = bit-digit (getD (c .begins) x 0) (w .marks .below x)
 
   -- and their table is the one that was written.
 
@@ -85,29 +90,42 @@ module _ (l : Limits) (c : Code) (w : WellFormed l c) where
       (λ p i. value-written (symbolsOf word) p (rw (symbol-written l c w k h p) (w .word k h .symbols .below p)) ∙ symbol-written l c w k h p))
       (length-word l c w k h))
 
-  same-entry : (x y : ℕ) → x < l .words → Dec (x < c .count) → Dec (y < c .count) → entryValue (getD (getD (gridOf c) x []) (y + 1) []) ≡ entryOf c x y
+  field-back : (x y : ℕ) → x < c .count → getD (getD (gridOf c) x []) (y + 2) [] ≡ getD (table (entryField c x) (c .count)) y []
+  field-back x y h = let two : y + 2 ≡ suc (suc y) = omega arith in rw (getD-table (fieldsOf c) (c .count) x [] h, two)
+
+  same-entry : (x y : ℕ) → x < l .words → Dec (x < c .count) → Dec (y < c .count) → entryValue (getD (getD (gridOf c) x []) (y + 2) []) ≡ entryOf c x y
   same-entry x y h (yes i) (yes j) =
-      let field : getD (getD (gridOf c) x []) (y + 1) [] ≡ entryField c x y = rw (getD-table (fieldsOf c) (c .count) x [] i, add-one) (getD-table (entryField c x) (c .count) y [] j) in
-      ap entryValue field ∙ value-digit (entryOf c x y) (omega (arith, w .row x h .entries .below y))
+      ap entryValue (field-back x y i ∙ getD-table (entryField c x) (c .count) y [] j) ∙ value-digit (entryOf c x y) (omega (arith, w .row x h .entries .below y))
   same-entry x y h (yes i) (no j) =
-      let field : getD (getD (gridOf c) x []) (y + 1) [] ≡ [] = rw (getD-table (fieldsOf c) (c .count) x [] i, add-one) (getD-table-past (entryField c x) (c .count) y [] (omega arith)) in
-      ap entryValue field ∙ sym (w .row x h .entries .zero y (omega arith))
+      ap entryValue (field-back x y i ∙ getD-table-past (entryField c x) (c .count) y [] (omega arith)) ∙ sym (w .row x h .entries .zero y (omega arith))
   same-entry x y h (no i) j =
-      let field : getD (getD (gridOf c) x []) (y + 1) [] ≡ [] = rw (getD-table-past (fieldsOf c) (c .count) x [] (omega arith)) in
+      let field : getD (getD (gridOf c) x []) (y + 2) [] ≡ [] = rw (getD-table-past (fieldsOf c) (c .count) x [] (omega arith)) in
       ap entryValue field ∙ sym (w .row x h .unused (omega arith) y)
 
-  same-row : (x : ℕ) → x < l .words → rowOf l (getD (gridOf c) x []) ≡ getD (c .rows) x noRow
+  same-row : (x : ℕ) → x < l .words → rowOf l (rowPlace (gridOf c)) (getD (gridOf c) x []) ≡ getD (c .rows) x noRow
   same-row x h =
-      row-is (getD (c .rows) x noRow) _
-      (table-list (λ y. entryValue (getD (getD (gridOf c) x []) (y + 1) [])) (l .words) (getD (c .rows) x noRow .entries) 0 (w .row x h .array)
-      (λ y i. same-entry x y h (decLt x (c .count)) (decLt y (c .count))))
+      rw starts-written
+      (row-is (getD (c .rows) x noRow) _
+      (table-list (λ y. entryValue (getD (getD (gridOf c) x []) (y + 2) [])) (l .words) (getD (c .rows) x noRow .entries) 0 (w .row x h .array)
+      (λ y i. same-entry x y h (decLt x (c .count)) (decLt y (c .count)))))
+
+  mark-back : (x : ℕ) → Dec (x < c .count) → entryValue (startField (getD (gridOf c) x [])) ≡ getD (c .begins) x 0
+  mark-back x (yes i) =
+      ap (λ (r : List (List ℕ)). entryValue (startField r)) (getD-table (fieldsOf c) (c .count) x [] i)
+      ∙ value-digit (getD (c .begins) x 0) (omega (arith, w .marks .below x))
+  mark-back x (no i) =
+      ap (λ (r : List (List ℕ)). entryValue (startField r)) (getD-table-past (fieldsOf c) (c .count) x [] (omega arith))
+      ∙ sym (w .marks .zero x (omega arith))
+
+  same-mark : (x : ℕ) → beginsOf l (gridOf c) x ≡ getD (c .begins) x 0
+  same-mark x = rw starts-written (mark-back x (decLt x (c .count)))
 
   same-code : codeOf l (gridOf c) ≡ c
   unfolding codeOf
   same-code =
-      code-is c _ _ _ (table-list (λ k. wordOf l (firstField (getD (gridOf c) k []))) (l .words) (c .words) noWord (w .words) same-word)
-      (table-list (λ k. rowOf l (getD (gridOf c) k [])) (l .words) (c .rows) noRow (w .rows) same-row)
-      (length-table (fieldsOf c) (c .count))
+      code-is c _ _ _ _ (table-list (λ k. wordOf l (firstField (getD (gridOf c) k []))) (l .words) (c .words) noWord (w .words) same-word)
+      (table-list (λ k. rowOf l (rowPlace (gridOf c)) (getD (gridOf c) k [])) (l .words) (c .rows) noRow (w .rows) same-row)
+      (table-list (beginsOf l (gridOf c)) (l .words) (c .begins) 0 (w .begins) (λ k h. same-mark k)) (length-table (fieldsOf c) (c .count))
 
   -- The sheet is accepted, and gives the table back.
   pub round : Roomy l → taken l (print c) ≡ record { answer = Accepted; code = c }
@@ -119,8 +137,9 @@ module _ (l : Limits) (c : Code) (w : WellFormed l c) where
         records = rw (written-grid l c w) count-fits;
         words = rw (written-grid l c w) (any-table (badWord l) (fieldsOf c) (c .count) word-fits);
         symbols = rw (written-grid l c w) total-fits;
-        widths = rw (written-grid l c w) (any-table (badWidth (length (gridOf c))) (fieldsOf c) (c .count) width-fits);
-        entries = rw (written-grid l c w) (any-table badRow (fieldsOf c) (c .count) row-fits);
+        widths = rw (written-grid l c w, starts-written, or-true);
+        entries = rw (written-grid l c w, starts-written) (any-table (badRow 2) (fieldsOf c) (c .count) row-fits);
+        starts = rw (written-grid l c w, starts-written) (any-table (λ r. badEntry (startField r)) (fieldsOf c) (c .count) mark-fits);
         gives = rw (written-grid l c w) same-code;
       }
 

@@ -55,20 +55,24 @@ module _ (c : Code) (limit k room : ℕ) (left : room ≡ limit + 1 - sum (table
   pub room-left : Exactly (ltb 0 room) (sum (table (lenOf c) k) ≤ limit)
   room-left = exactly-iff ((λ h. omega arith), (λ h. omega arith)) (exactly-lt 0 room)
 
-module _ (l : Limits) (c : Code) (words : length (c .words) ≡ l .words) (rows : length (c .rows) ≡ l .words) {t u : Bool} where
-  pub table-tested : Exactly t ((k : ℕ) → k < l .words → RecordAt l c k) → Exactly u (sum (table (lenOf c) (l .words)) ≤ l .total)
-      → Exactly (leb 1 (c .count) && leb (c .count) (l .words) && (t && u)) (WellFormed l c)
-  table-tested records total =
+module _ (l : Limits) (c : Code) (words : length (c .words) ≡ l .words) (rows : length (c .rows) ≡ l .words) (begins : length (c .begins) ≡ l .words)
+    {m t u : Bool} where
+  pub table-tested : Exactly m (CellsFit 2 (c .count) (c .begins)) → Exactly t ((k : ℕ) → k < l .words → RecordAt l c k)
+      → Exactly u (sum (table (lenOf c) (l .words)) ≤ l .total)
+      → Exactly (leb 1 (c .count) && leb (c .count) (l .words) && m && (t && u)) (WellFormed l c)
+  table-tested marks records total =
       exactly-iff (
         (λ p. record {
-          one = p .0 .0;
-          most = p .0 .1;
+          one = p .0 .0 .0;
+          most = p .0 .0 .1;
           words = words;
           rows = rows;
+          begins = begins;
+          marks = p .0 .1;
           word = λ k h. p .1 .0 k h .0;
           row = λ x h. p .1 .0 x h .1;
           total = p .1 .1;
         }),
-        (λ w. ((w .one, w .most), ((λ k h. (w .word k h, w .row k h)), w .total))),
+        (λ w. (((w .one, w .most), w .marks), ((λ k h. (w .word k h, w .row k h)), w .total))),
       )
-      (exactly-and (exactly-and (exactly-le 1 (c .count)) (exactly-le (c .count) (l .words))) (exactly-and records total))
+      (exactly-and (exactly-and (exactly-and (exactly-le 1 (c .count)) (exactly-le (c .count) (l .words))) marks) (exactly-and records total))

@@ -20,9 +20,9 @@ use Rattle.table.specs.Digits.{digitOf, digit-digit}
 use Rattle.table.specs.Join.{isPlain, fields-join, records-join, bad-join, plain-join, length-join}
 use Rattle.table.specs.Print.{wordField, entryField, fieldsOf, gridOf, recordOf, bodyOf, print}
 
--- A sheet has room for every table: for the symbols, for each of the entries with a comma, and for the separators.
+-- A sheet has room for every table: for the symbols, and in every record for the start mark and each of the entries with a comma, and for the CR LF.
 abbrev pub Roomy : Limits → Type 0
-Roomy l = l .total + l .words * (l .words * 2 + 3) + 2 ≤ l .bytes
+Roomy l = l .total + l .words * (l .words * 2 + 4) ≤ l .bytes
 
 take-zeros : (n : ℕ) (s : List ℕ) → ((p : ℕ) → n ≤ p → getD s p 0 ≡ 0) → (p : ℕ) → Dec (p < n) → getD (take n s) p 0 ≡ getD s p 0
 take-zeros n s zeros p (yes h) = getD-take n s p 0 h
@@ -50,7 +50,7 @@ module _ (l : Limits) (c : Code) (w : WellFormed l c) where
 
     fields-digits : every (every isDigit) (fieldsOf c k) ≡ true
     unfolding every
-    fields-digits = rw (word-digits, entries-digits)
+    fields-digits = rw (word-digits, digit-digit (getD (c .begins) k 0) (omega (arith, w .marks .below k)), entries-digits)
 
     -- each field with its comma
     entries-length : sum (map (λ (f : List ℕ). length f + 1) (table (entryField c k) (c .count))) ≤ c .count * 2
@@ -60,9 +60,9 @@ module _ (l : Limits) (c : Code) (w : WellFormed l c) where
         rw (map-table (λ (f : List ℕ). length f + 1) (entryField c k) (c .count))
         (omega (arith, sum-bound (λ y. 2) none 2 (c .count) (λ y i. omega arith), sum-past none 0 (c .count) (omega arith) (λ y i j. refl)))
 
-    record-length : length (recordOf c k) + 2 ≤ lenOf c k + (c .count * 2 + 3)
+    record-length : length (recordOf c k) + 2 ≤ lenOf c k + (c .count * 2 + 4)
     unfolding sum
-    record-length = omega (arith, length-join (44 ∷ []) (fieldsOf c k), length-word, entries-length)
+    record-length = omega (arith, length-join (44 ∷ []) (fieldsOf c k) (omega arith), length-word, entries-length)
 
   pub within : (k : ℕ) → k < c .count → k < l .words
   within k h = omega (arith, w .most)
@@ -92,8 +92,9 @@ module _ (l : Limits) (c : Code) (w : WellFormed l c) where
   pub written-short : Roomy l → length (print c) ≤ l .bytes
   unfolding print
   written-short room =
-      let joined : length (bodyOf c) ≤ sum (table (λ x. length (recordOf c x) + 2) (c .count)) =
-      rw (map-table (λ (f : List ℕ). length f + 2) (recordOf c) (c .count)) at (length-join (13 ∷ 10 ∷ []) (table (recordOf c) (c .count))) in
-      let bound = sum-bound (λ x. length (recordOf c x) + 2) (lenOf c) (c .count * 2 + 3) (c .count) (λ x h. record-length x (within x h)) in
-      let square : c .count * (c .count * 2 + 3) ≤ l .words * (l .words * 2 + 3) = mul-le-mul (w .most) (omega (arith, w .most)) in
+      let some : 1 ≤ length (table (recordOf c) (c .count)) = rw (length-table (recordOf c) (c .count)) (w .one) in
+      let joined : length (bodyOf c) + 2 ≤ sum (table (λ x. length (recordOf c x) + 2) (c .count)) =
+      rw (map-table (λ (f : List ℕ). length f + 2) (recordOf c) (c .count)) at (length-join (13 ∷ 10 ∷ []) (table (recordOf c) (c .count)) some) in
+      let bound = sum-bound (λ x. length (recordOf c x) + 2) (lenOf c) (c .count * 2 + 4) (c .count) (λ x h. record-length x (within x h)) in
+      let square : c .count * (c .count * 2 + 4) ≤ l .words * (l .words * 2 + 4) = mul-le-mul (w .most) (omega (arith, w .most)) in
       omega (arith, length-append (bodyOf c) (13 ∷ 10 ∷ []), total-used)

@@ -108,8 +108,9 @@ pub fn well_formed(code: Code) -> bool
     ensures { λ r. ⌜ Exactly r (FromSheet limits code) ⌝ }
 {
     let n = code.count;
+    let begins = code.begins;
     and(
-        and(1 <= n, n <= Code::WORDS),
+        and(and(1 <= n, n <= Code::WORDS), cells_fit(&begins, n, 2)),
         and(records_fit(code), total_fits(code)),
     )
 }

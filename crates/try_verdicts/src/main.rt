@@ -13,9 +13,9 @@ use trials::try_table;
 
 // What a verdict needs, and more than that.
 const NEEDED: Lent = Lent {
-    message: 8256,
-    first: 8256,
-    second: 8256,
+    message: 8384,
+    first: 8384,
+    second: 8384,
     work: 16384,
 };
 

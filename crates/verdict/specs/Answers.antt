@@ -1,7 +1,7 @@
 -- What the program answers for a sheet, whole: the printed result of its refusal, or of the verdict on the table that it gives.
 use mathlib.Core.Path.{_≡_}
 use mathlib.Core.List.{List}
-use Prim.Native.Nat.{ℕ}
+use Prim.Native.Nat.{ℕ, _+_, _*_}
 use lib.ListN.{length, take}
 use Rattle.code.specs.declared.Refusal.the-variants.{SheetLength}
 use Rattle.code.specs.declared.SheetAnswer.the-variants.{Accepted, Refused}
@@ -9,10 +9,14 @@ use Rattle.code.specs.declared.Judgement.{Judgement}
 use Rattle.code.specs.declared.Judgement.the-variants.{Judged, Refused as Not-judged}
 use Rattle.code.specs.Definitions.Tables.{tableOf}
 use Rattle.code.specs.Definitions.Answers.{VerdictMeans}
-use Rattle.code.specs.Definitions.Operations.{written}
+use Rattle.code.specs.Definitions.Operations.{verdictRoom, written}
 use Rattle.code.specs.Definitions.Sheets.{limits, taken}
 use Rattle.printing.specs.Printed.{printed}
 use Rattle.printing.specs.Prints.{Printable, result}
+
+-- the bytes that the longest result may take: a message and two readings that fill the verdict's buffers
+abbrev pub outputRoom : ℕ
+outputRoom = 35 + verdictRoom limits + 4 * (verdictRoom limits + verdictRoom limits)
 
 -- A judgement is right for a sheet: it is the sheet's refusal; or the sheet is accepted, and the verdict is that of its table, with x the ambiguous message
 -- and s, u its first two readings.
@@ -41,5 +45,5 @@ pub record Shows (sheet m f g : List ℕ) (j : Judgement) : Type 0 where
   pub first : List ℕ
   pub second : List ℕ
   pub right : RightFor sheet message first second j
-  pub printable : Printable j m f g 74339
+  pub printable : Printable j m f g outputRoom
   pub same : result j m f g ≡ printed j message first second

@@ -11,7 +11,7 @@ use Rattle.code.specs.declared.SheetAnswer.the-variants.{Accepted}
 use Rattle.code.specs.declared.Verdict.the-variants.{Ambiguous as Two-ways}
 use Rattle.code.specs.declared.Judgement.{Judgement}
 use Rattle.code.specs.declared.Judgement.the-variants.{Judged}
-use Rattle.code.specs.Definitions.Lists.{any, table, sum}
+use Rattle.code.specs.Definitions.Lists.{any, every, table, sum}
 use Rattle.code.specs.Definitions.Operations.{written}
 use Rattle.code.specs.Definitions.Sheets.{limits, body, records, fields, grid, badBytes, codeOf, takenGrid, taken, FromSheet}
 use Rattle.code.specs.Definitions.Tables.{tableOf}
@@ -46,11 +46,12 @@ abbrev pub codeT : Code
 codeT = record {
   words = word (0 ∷ []) ∷ word (1 ∷ 0 ∷ []) ∷ word (0 ∷ 1 ∷ []) ∷ word (1 ∷ 0 ∷ 1 ∷ []) ∷ replicate 28 (word []);
   rows = row ∷ row ∷ row ∷ row ∷ replicate 28 (record { entries = replicate 32 0 });
+  begins = 1 ∷ 1 ∷ 1 ∷ 1 ∷ replicate 28 0;
   count = 4;
 }
 
 taken-t : taken limits sheetT ≡ record { answer = Accepted; code = codeT }
-unfolding taken takenGrid grid body records fields badBytes codeOf any table sum
+unfolding taken takenGrid grid body records fields badBytes codeOf any every table sum
 taken-t = refl
 
 from-sheet-t : FromSheet limits codeT

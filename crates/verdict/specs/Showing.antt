@@ -20,18 +20,20 @@ use Rattle.code.specs.declared.Judgement.the-variants.{Judged, Refused as Not-j
 use Rattle.code.specs.Definitions.Tables.{tableOf}
 use Rattle.code.specs.Definitions.Readings.{Ambiguous}
 use Rattle.code.specs.Definitions.Answers.{VerdictMeans}
-use Rattle.code.specs.Definitions.Operations.{Lowest, verdictConditions, written, Shown, Judges, refused, judged}
+use Rattle.code.specs.Definitions.Operations.{Lowest, verdictRoom, verdictConditions, written, Shown, Judges, refused, judged}
 use Rattle.code.specs.Definitions.Sheets.{limits, taken, FromSheet}
 use Rattle.code.specs.Laws.Buffers.{take-written}
+use Rattle.code.specs.Laws.Sequences.{permitted-linked}
+use Rattle.decipher.specs.Buffers.{marksRoom}
 use Rattle.table.specs.Given.{well}
 use Rattle.places.specs.Codes.{code-fits}
 use Rattle.printing.specs.Printed.{printed}
 use Rattle.printing.specs.Prints.{lengthsOf, Symbols, Printable, Prints, all, none}
-use Rattle.verdict.specs.Answers.{Answers, Shows}
+use Rattle.verdict.specs.Answers.{outputRoom, Answers, Shows}
 use Rattle.verdict.specs.Symbols.{symbols-message}
 
 -- What shows nothing of the buffers can be printed.
-plain : (j : Judgement) → lengthsOf j ≡ record { message = 0; first = 0; second = 0 } → (m f g : List ℕ) → Printable j m f g 74339
+plain : (j : Judgement) → lengthsOf j ≡ record { message = 0; first = 0; second = 0 } → (m f g : List ℕ) → Printable j m f g outputRoom
 plain j nothing m f g = record {
   message = rw nothing (omega arith);
   first = rw nothing (omega arith);
@@ -53,7 +55,7 @@ module _ (c : Code) (given : FromSheet limits c) where
   ambiguous-symbols : (x s u : List ℕ) → Ambiguous (tableOf c) x s u → Symbols x
   ambiguous-symbols x s u a =
       let r = a .readings .first in
-      rw (r .joined) at (symbols-message (tableOf c) (code-fits c (well given) .low) (r .permitted))
+      rw (r .joined) at (symbols-message (tableOf c) (code-fits c (well given) .low) (permitted-linked (r .permitted)))
 
 module _ (sheet : List ℕ) (accepted : taken limits sheet .answer ≡ Accepted) where
   abbrev code : Code
@@ -62,7 +64,7 @@ module _ (sheet : List ℕ) (accepted : taken limits sheet .answer ≡ Accepted)
   from-sheet : FromSheet limits code
   from-sheet = record { sheet = sheet; gives = λ i. record { answer = accepted i; code = code } }
 
-  module _ (m f g m′ f′ g′ x s u : List ℕ) (m-long : length m′ ≡ 8256) (f-long : length f′ ≡ 8256) (g-long : length g′ ≡ 8256) where
+  module _ (m f g m′ f′ g′ x s u : List ℕ) (m-long : length m′ ≡ verdictRoom limits) (f-long : length f′ ≡ verdictRoom limits) (g-long : length g′ ≡ verdictRoom limits) where
     shows-ambiguous : (a : SymbolCount) (b k : WordCount) → VerdictMeans (tableOf code) x s u (Two-ways a b k) → Shown m f g m′ f′ g′ x s u (Two-ways a b k)
         → Shows sheet m′ f′ g′ (Judged (Two-ways a b k))
     shows-ambiguous a b k means shown =
@@ -93,23 +95,23 @@ module _ (sheet : List ℕ) (accepted : taken limits sheet .answer ≡ Accepted)
         record { message = x; first = s; second = u; right = (accepted, means); printable = plain (Judged Unbounded) refl m′ f′ g′; same = refl }
 
   -- No refusal of the verdict holds: the table is from a sheet, and the buffers are long enough.
-  no-refusal : (m f g w : List ℕ) → length m ≡ 8256 → length f ≡ 8256 → length g ≡ 8256 → length w ≡ 16384 → {r : Refusal} → Lowest (verdictConditions limits code m f g w) r → ⊥
+  no-refusal : (m f g w : List ℕ) → length m ≡ verdictRoom limits → length f ≡ verdictRoom limits → length g ≡ verdictRoom limits → length w ≡ marksRoom → {r : Refusal} → Lowest (verdictConditions limits code m f g w) r → ⊥
   no-refusal m f g w a b c d lowest =
       ⊎-elim (λ p. p .0 from-sheet)
       (λ p. ⊎-elim (λ q. ⊎-elim (λ h. omega arith) (⊎-elim (λ h. omega arith) (⊎-elim (λ h. omega arith) (λ h. omega arith))) (q .0)) (λ q. q .1) (p .1)) lowest
 
-  judged-shows : {m f g w m′ f′ g′ w′ : List ℕ} → length m ≡ 8256 → length f ≡ 8256 → length g ≡ 8256 → length w ≡ 16384 → length m′ ≡ 8256 → length f′ ≡ 8256
-      → length g′ ≡ 8256 → {j : Judgement} → Judges limits code m f g w m′ f′ g′ w′ j → Shows sheet m′ f′ g′ j
+  judged-shows : {m f g w m′ f′ g′ w′ : List ℕ} → length m ≡ verdictRoom limits → length f ≡ verdictRoom limits → length g ≡ verdictRoom limits → length w ≡ marksRoom → length m′ ≡ verdictRoom limits → length f′ ≡ verdictRoom limits
+      → length g′ ≡ verdictRoom limits → {j : Judgement} → Judges limits code m f g w m′ f′ g′ w′ j → Shows sheet m′ f′ g′ j
   judged-shows {m} {f} {g} {w} a b c d a′ b′ c′ (refused lowest e₁ e₂ e₃ e₄) = absurd (no-refusal m f g w a b c d lowest)
   judged-shows {m} {f} {g} {w} {m′} {f′} {g′} a b c d a′ b′ c′ (judged {v} x s u holds means shown e) = shows-verdict m f g m′ f′ g′ x s u a′ b′ c′ v means shown
 
 -- After a verdict, with buffers that are long enough
-pub shows-judged : {t : Taken} {sheet m f g w m′ f′ g′ w′ : List ℕ} {j : Judgement} → t ≡ taken limits sheet → t .answer ≡ Accepted → length m ≡ 8256 → length f ≡ 8256
-    → length g ≡ 8256 → length w ≡ 16384 → length m′ ≡ 8256 → length f′ ≡ 8256 → length g′ ≡ 8256 → Judges limits (t .code) m f g w m′ f′ g′ w′ j → Shows sheet m′ f′ g′ j
+pub shows-judged : {t : Taken} {sheet m f g w m′ f′ g′ w′ : List ℕ} {j : Judgement} → t ≡ taken limits sheet → t .answer ≡ Accepted → length m ≡ verdictRoom limits → length f ≡ verdictRoom limits
+    → length g ≡ verdictRoom limits → length w ≡ marksRoom → length m′ ≡ verdictRoom limits → length f′ ≡ verdictRoom limits → length g′ ≡ verdictRoom limits → Judges limits (t .code) m f g w m′ f′ g′ w′ j → Shows sheet m′ f′ g′ j
 shows-judged {sheet = sheet} came answer a b c d a′ b′ c′ judges = judged-shows sheet (rw came at answer) a b c d a′ b′ c′ (rw came at judges)
 
 -- What a judgement shows is printed.
-pub answers : (sheet m f g o o′ : List ℕ) (j : Judgement) → Shows sheet m f g j → length o ≡ 74339 → {r : ℕ} → Prints j m f g o o′ r → Answers sheet o o′ r
+pub answers : (sheet m f g o o′ : List ℕ) (j : Judgement) → Shows sheet m f g j → length o ≡ outputRoom → {r : ℕ} → Prints j m f g o o′ r → Answers sheet o o′ r
 answers sheet m f g o o′ j s long (all printable count out) = record {
   judgement = j;
   message = s .message;

@@ -12,18 +12,25 @@ use Rattle.table.proofs.well_formed.Tie as tie
 
 returns : tie.Need-returns
 returns c =
-    let s = c .before .before .before .before .before in
+    let s = c .before .before .before .before .before .before .before .before .before in
     let code = s .args .code in
     -- the type of the parameter says how long its arrays are
     let words : length (code .words) ≡ 32 = sym (length-map (code .words) _) ∙ s .good .0 .1 .1 .0 .1 .0 .1 in
     let rows : length (code .rows) ≡ 32 = sym (length-map (code .rows) _) ∙ s .good .0 .1 .1 .1 .0 .1 .0 .1 in
-    let tests = table-tested limits code words rows (c .before .before .before .records-fit .ensures) (c .before .before .total-fits .ensures) in
-    rw (c .and3 .ensures, c .before .and2 .ensures, c .before .before .before .before .and .ensures) (exactly-iff (well-formed (omega arith)) tests)
+    let begins : length (code .begins) ≡ 32 = search needs in
+    let marks = c .before .before .before .before .before .cells-fit .ensures in
+    let records = c .before .before .before .records-fit .ensures in
+    let total = c .before .before .total-fits .ensures in
+    rw (c .and4 .ensures, c .before .and3 .ensures, c .before .before .before .before .and2 .ensures, c .before .before .before .before .before .before .before .and .ensures)
+    (exactly-iff (well-formed (omega arith)) (table-tested limits code words rows begins marks records total))
 
 pub well-formed-spec : {M : Type 1} → statement M
 well-formed-spec =
     tie.close
     (tie.spec
+    (λ c κs. search needs)
+    (λ c. search needs)
+    (λ c κs. search needs)
     (λ c κs. search needs)
     (λ c κs. search needs)
     (λ c κs. search needs)

@@ -1,0 +1,52 @@
+-- What the refusals 6, 7 and 15 leave of the records of a sheet: all have the same number of fields, and every field behind the word is a digit 0 or 1.
+use mathlib.Core.Path.{_≡_, refl}
+use mathlib.Core.Bool.{Bool, true, false, not, _&&_, _||_, or-false}
+use mathlib.Core.List.{List, [], _∷_}
+use Prim.Native.Nat.{ℕ, _+_, _≤_, _<_}
+use native.Mathlib.Omega.{arith}
+use lib.Dec.{eqb}
+use lib.ListN.{length, getD}
+use borrow.Author.Tests.{eqb-true, not-false}
+use Rattle.code.specs.Definitions.Lists.{any, if_then_else_}
+use Rattle.code.specs.Definitions.Sheets.{allWide, hasStarts, rowPlace, badEntry, badRow, startField, refused6, refused7, refused15}
+use Rattle.code.specs.Laws.Lists.{any-at, any-none, every-at}
+
+-- a record with a start field
+row-from-two : (r : List (List ℕ)) → 2 ≤ length r → badEntry (startField r) ≡ false → badRow 2 r ≡ false → badRow 1 r ≡ false
+unfolding any
+row-from-two [] h e o = absurd (omega arith)
+row-from-two (f ∷ []) h e o = absurd (omega arith)
+row-from-two (f ∷ g ∷ r) h e o = rw (e, o)
+
+module _ (g : List (List (List ℕ))) where
+  pub place-some : 1 ≤ rowPlace g
+  place-some = by-test (hasStarts g)
+    where
+      by-test : (t : Bool) → 1 ≤ (if t then 2 else 1)
+      by-test true = omega arith
+      by-test false = omega arith
+
+  pub wide-at : (k x : ℕ) → allWide k g ≡ true → x < length g → length (getD g x []) ≡ k
+  wide-at k x e h = eqb-true (length (getD g x [])) k (every-at (λ r. eqb (length r) k) g [] e x h)
+
+  by-starts : (t : Bool) → not (allWide (length g + 1) g || t) ≡ false → hasStarts g ≡ t → (x : ℕ) → x < length g
+      → length (getD g x []) ≡ length g + (if t then 2 else 1)
+  by-starts true e s x h = wide-at (length g + 2) x s h
+  by-starts false e s x h = wide-at (length g + 1) x (rw or-false at (not-false (allWide (length g + 1) g || false) e)) h
+
+  module _ (widths : refused6 g ≡ false) where
+    -- the word, the start field if there is one, and a row entry for each record
+    pub width : (x : ℕ) → x < length g → length (getD g x []) ≡ length g + rowPlace g
+    width = by-starts (hasStarts g) widths refl
+
+    module _ (entries : refused7 g ≡ false) (starts : refused15 g ≡ false) where
+      good-fields : (t : Bool) → hasStarts g ≡ t → any (badRow (if t then 2 else 1)) g ≡ false → t && any (λ r. badEntry (startField r)) g ≡ false
+          → any (badRow 1) g ≡ false
+      good-fields false s e o = e
+      good-fields true s e o =
+          any-none (badRow 1) g []
+          (λ x h. row-from-two (getD g x []) (omega (arith, wide-at (length g + 2) x s h)) (any-at (λ r. badEntry (startField r)) g [] o x h) (any-at (badRow 2) g [] e x h))
+
+      -- Every field behind the word is a digit 0 or 1.
+      pub bits : any (badRow 1) g ≡ false
+      bits = good-fields (hasStarts g) refl entries starts
