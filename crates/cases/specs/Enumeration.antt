@@ -8,7 +8,7 @@ use Prim.Native.Nat.{ℕ, zero, suc, _≤_, _<_}
 use native.Mathlib.Omega.{arith}
 use lib.ListN.{length, take, drop, length-append, take-append-drop}
 use lib.Seq.{take-append-seam, drop-append-seam}
-use Rattle.code.specs.Definitions.Tables.{Table, size, word, Linked, none, one, more, empty as nothing, begun, Permitted, message}
+use Rattle.code.specs.Definitions.Tables.{Table, size, word, Linked, none, one, more, Permitted, empty as nothing, begun, message}
 use Rattle.code.specs.Definitions.Readings.{Reads}
 use Rattle.code.specs.Laws.Finite.{Within}
 use Rattle.code.specs.Laws.Sequences.{NonEmpty, first-word, rest-linked, second-follows, linked-within, permitted-linked}
