@@ -1,4 +1,4 @@
--- A case of 01: a code's words and rows, and what is expected of it. A check that computes is shown once, for all cases, to give what the definitions say.
+-- A case: a code's words, start marks and rows, and what is expected of it. A check that computes is shown once, for all cases, to give what the definitions say.
 use mathlib.Core.Path.{_≡_}
 use mathlib.Core.Bool.{Bool, true, _&&_, and-eq-true-iff}
 use mathlib.Core.List.{List, []}
@@ -25,12 +25,13 @@ pub data Expected : Type 0 where
 
 pub record Case : Type 0 where
   pub words : List (List ℕ)
+  pub begins : List ℕ
   pub rows : List (List ℕ)
   pub expected : Expected
 
--- 01: "The entry in row X, column Y is 1 if X may come immediately after Y, else 0"
+-- 01: "The entry in row X, column Y is 1 if X may come immediately after Y, else 0". 02, request 1: "1 if the word may begin a message, 0 if not"
 abbrev pub caseTable : Case → Table
-caseTable c = record { words = c .words; follow = λ x y. eqb (getD (getD (c .rows) x []) y 0) 1 }
+caseTable c = record { words = c .words; follow = λ x y. eqb (getD (getD (c .rows) x []) y 0) 1; begins = λ x. eqb (getD (c .begins) x 0) 1 }
 
 -- What is expected, by the definitions. 01: "decipherable with its delay; decipherable without bound"
 abbrev pub Means : Table → Expected → Type 0

@@ -5,12 +5,10 @@ use mathlib.Core.List.{List, [], _∷_}
 use mathlib.Core.Logic.{_⊎_, inl, inr}
 use Prim.Native.Nat.{ℕ}
 use lib.Dec.{ltb, eqb}
+use lib.ListN.{length}
 use borrow.Author.Tests.{ltb-true, eqb-true, eq-eqb}
-use Rattle.code.specs.Definitions.Orders.{Lex, short, less, same}
-
-pub or-cases : (a b : Bool) → (a || b) ≡ true → (a ≡ true) ⊎ (b ≡ true)
-or-cases true b e = inl refl
-or-cases false b e = inr e
+use Rattle.code.specs.Definitions.Orders.{Lex, short, less, same, Shortlex, earlier}
+use Rattle.code.specs.Laws.Below.{or-cases}
 
 unfoldable pub equal : List ℕ → List ℕ → Bool
 equal [] [] = true
@@ -47,3 +45,17 @@ before-true (x ∷ s) (y ∷ t) e = by (before-true s t) (or-cases (ltb x y) (eq
     by : (before s t ≡ true → Lex s t) → (ltb x y ≡ true) ⊎ ((eqb x y && before s t) ≡ true) → Lex (x ∷ s) (y ∷ t)
     by ih (inl h) = less (ltb-true x y h)
     by ih (inr h) = let k = and-eq-true-iff (eqb x y) (before s t) .0 h in same (eqb-true x y (k .0)) (ih (k .1))
+
+-- t is s, or is as long and comes after s in dictionary order
+unfoldable pub notBefore : List ℕ → List ℕ → Bool
+unfolding equal before
+notBefore s t = equal s t || (eqb (length s) (length t) && before s t)
+
+-- Such a list is the same, or comes after s in order of length and then of entries.
+pub not-before-true : (s t : List ℕ) → notBefore s t ≡ true → (s ≡ t) ⊎ Shortlex s t
+unfolding notBefore
+not-before-true s t e = by (or-cases (equal s t) (eqb (length s) (length t) && before s t) e)
+  where
+    by : (equal s t ≡ true) ⊎ ((eqb (length s) (length t) && before s t) ≡ true) → (s ≡ t) ⊎ Shortlex s t
+    by (inl h) = inl (equal-true s t h)
+    by (inr h) = let k = and-eq-true-iff (eqb (length s) (length t)) (before s t) .0 h in inr (earlier (eqb-true _ _ (k .0)) (before-true s t (k .1)))

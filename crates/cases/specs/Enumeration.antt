@@ -1,5 +1,5 @@
--- All readings of a message, as a list that computes: each word with which the message opens, before all readings of what is left. The number of words
--- bounds the depth, and no reading has more words than its message has symbols.
+-- All readings of a message, as a list that computes: each word with which the message opens, before all linked sequences that have what is left. The
+-- number of words bounds the depth, and no reading has more words than its message has symbols.
 use mathlib.Core.Path.{_≡_, refl, sym, ap, _∙_, subst}
 use mathlib.Core.Bool.{Bool, true, _&&_, false≢true, and-eq-true-iff}
 use mathlib.Core.List.{List, [], _∷_, _++_, map, flatMap, List·Memᴰ, List·Memᴰ·head, List·Memᴰ·append-cases, List·Memᴰ·eq-of-singleton, Memᴰ·append-left, Memᴰ·append-right, Memᴰ·map, Memᴰ·of-map}
@@ -8,10 +8,10 @@ use Prim.Native.Nat.{ℕ, zero, suc, _≤_, _<_}
 use native.Mathlib.Omega.{arith}
 use lib.ListN.{length, take, drop, length-append, take-append-drop}
 use lib.Seq.{take-append-seam, drop-append-seam}
-use Rattle.code.specs.Definitions.Tables.{Table, size, word, Permitted, none, one, more, message}
+use Rattle.code.specs.Definitions.Tables.{Table, size, word, Linked, none, one, more, Permitted, empty as nothing, begun, message}
 use Rattle.code.specs.Definitions.Readings.{Reads}
 use Rattle.code.specs.Laws.Finite.{Within}
-use Rattle.code.specs.Laws.Sequences.{NonEmpty, first-word, rest-permitted, second-follows, permitted-within}
+use Rattle.code.specs.Laws.Sequences.{NonEmpty, first-word, rest-linked, second-follows, linked-within, permitted-linked}
 use Rattle.cases.specs.Members.{empty, keep, keep-in, keep-out, numbers, numbers-in, numbers-out, flatMap-in, flatMap-out}
 use Rattle.cases.specs.Comparing.{equal, equal-true, equal-same}
 
@@ -49,7 +49,7 @@ module _ (t : Table) where
   abbrev pub emptyReading : List ℕ → List (List ℕ)
   emptyReading m = keep (λ s. empty m) ([] ∷ [])
 
-  -- the readings of m of at most n words, of which the first passes the test f
+  -- the linked sequences of at most n words that have the message m, and of which the first passes the test f
   unfoldable pub readingsFrom : ℕ → (ℕ → Bool) → List ℕ → List (List ℕ)
   unfolding keep empty flatMap equal numbers
   readingsFrom zero f m = emptyReading m
@@ -57,35 +57,34 @@ module _ (t : Table) where
 
   unfoldable pub readings : List ℕ → List (List ℕ)
   unfolding readingsFrom
-  readings m = readingsFrom (length m) (λ x. true) m
+  readings m = readingsFrom (length m) (t .begins) m
 
-  -- s is a reading of m, and its first word passes the test f.
-  pub record ReadsFrom (f : ℕ → Bool) (m s : List ℕ) : Type 0 where
-    pub reads : Reads t m s
-    pub begins : MayBegin f s
+  -- s is linked, its message is m, and its first word passes the test f.
+  record ReadsFrom (f : ℕ → Bool) (m s : List ℕ) : Type 0 where
+    linked : Linked t s
+    joined : message t s ≡ m
+    begins : MayBegin f s
 
   empty-out : {s : List ℕ} (f : ℕ → Bool) (m : List ℕ) → List·Memᴰ s (emptyReading m) → ReadsFrom f m s
   empty-out {s} f m i =
       let o = keep-out (λ s. empty m) ([] ∷ []) i in
-      rw (List·Memᴰ·eq-of-singleton (o .0), empty-nil m (o .1)) (record { reads = record { permitted = none; joined = refl }; begins = tt })
+      rw (List·Memᴰ·eq-of-singleton (o .0), empty-nil m (o .1)) (record { linked = none; joined = refl; begins = tt })
 
-  permitted-cons : {x : ℕ} (s : List ℕ) → x < size t → Permitted t s → MayBegin (mayFollow x) s → Permitted t (x ∷ s)
-  permitted-cons [] h p b = one h
-  permitted-cons (y ∷ s) h p b = more h b p
+  linked-cons : {x : ℕ} (s : List ℕ) → x < size t → Linked t s → MayBegin (mayFollow x) s → Linked t (x ∷ s)
+  linked-cons [] h p b = one h
+  linked-cons (y ∷ s) h p b = more h b p
 
   opened-out : (x : ℕ) (f : ℕ → Bool) (m s : List ℕ) → x < size t → opens f m x ≡ true → ReadsFrom (mayFollow x) (left m x) s → ReadsFrom f m (x ∷ s)
   opened-out x f m s h e r =
       let a = and-eq-true-iff (f x) (equal (take (length (word t x)) m) (word t x)) .0 e in
       let w = equal-true (take (length (word t x)) m) (word t x) (a .1) in
       record {
-        reads = record {
-          permitted = permitted-cons s h (r .reads .permitted) (r .begins);
-          joined = rw (r .reads .joined) (ap (λ (l : List ℕ). l ++ left m x) (sym w) ∙ take-append-drop (length (word t x)) m);
-        };
+        linked = linked-cons s h (r .linked) (r .begins);
+        joined = rw (r .joined) (ap (λ (l : List ℕ). l ++ left m x) (sym w) ∙ take-append-drop (length (word t x)) m);
         begins = a .0;
       }
 
-  -- What the lists have, for at most n words, are readings.
+  -- What the lists have, for at most n words, are such sequences.
   abbrev Sound : ℕ → Type 0
   Sound n = (f : ℕ → Bool) (m s : List ℕ) → List·Memᴰ s (readingsFrom n f m) → ReadsFrom f m s
 
@@ -111,11 +110,11 @@ module _ (t : Table) where
   unfolding empty
   empty-in = keep-in (λ s. empty {A = ℕ} []) {l = [] ∷ []} (List·Memᴰ·head refl) refl
 
-  begins-rest : {x : ℕ} (s : List ℕ) → Permitted t (x ∷ s) → MayBegin (mayFollow x) s
+  begins-rest : {x : ℕ} (s : List ℕ) → Linked t (x ∷ s) → MayBegin (mayFollow x) s
   begins-rest [] p = tt
   begins-rest (y ∷ s) p = second-follows p
 
-  opened-in : (n : ℕ) (f : ℕ → Bool) (x : ℕ) (s : List ℕ) → Permitted t (x ∷ s) → f x ≡ true → List·Memᴰ s (readingsFrom n (mayFollow x) (message t s))
+  opened-in : (n : ℕ) (f : ℕ → Bool) (x : ℕ) (s : List ℕ) → Linked t (x ∷ s) → f x ≡ true → List·Memᴰ s (readingsFrom n (mayFollow x) (message t s))
       → List·Memᴰ (x ∷ s) (flatMap (openedBy (readingsFrom n) (message t (x ∷ s))) (openers f (message t (x ∷ s))))
   opened-in n f x s p b i =
       let m = message t (x ∷ s) in
@@ -124,19 +123,23 @@ module _ (t : Table) where
       flatMap-in (openedBy (readingsFrom n) m) (keep-in (opens f m) (numbers-in (size t) (first-word p)) opened)
       (Memᴰ·map (_∷_ x) {l = readingsFrom n (mayFollow x) (left m x)} (rw rest i))
 
-  -- Every reading of at most n words, of which the first passes the test f, is in the list.
-  readings-in : (n : ℕ) (f : ℕ → Bool) (s : List ℕ) → Permitted t s → MayBegin f s → length s ≤ n → List·Memᴰ s (readingsFrom n f (message t s))
+  -- Every linked sequence of at most n words, of which the first passes the test f, is in the list of its message.
+  readings-in : (n : ℕ) (f : ℕ → Bool) (s : List ℕ) → Linked t s → MayBegin f s → length s ≤ n → List·Memᴰ s (readingsFrom n f (message t s))
   unfolding readingsFrom
   readings-in zero f [] p b l = empty-in
   readings-in zero f (x ∷ s) p b l = absurd (omega arith)
   readings-in (suc n) f [] p b l = Memᴰ·append-left (flatMap (openedBy (readingsFrom n) []) (openers f [])) empty-in
   readings-in (suc n) f (x ∷ s) p b l =
       Memᴰ·append-right (emptyReading (message t (x ∷ s)))
-      (opened-in n f x s p b (readings-in n (mayFollow x) s (rest-permitted p) (begins-rest s p) (omega arith)))
+      (opened-in n f x s p b (readings-in n (mayFollow x) s (rest-linked p) (begins-rest s p) (omega arith)))
 
-  begins-any : (s : List ℕ) → MayBegin (λ x. true) s
-  begins-any [] = tt
-  begins-any (x ∷ s) = refl
+  permitted-begins : {s : List ℕ} → Permitted t s → MayBegin (t .begins) s
+  permitted-begins nothing = tt
+  permitted-begins (begun b l) = b
+
+  linked-permitted : (s : List ℕ) → Linked t s → MayBegin (t .begins) s → Permitted t s
+  linked-permitted [] l b = nothing
+  linked-permitted (x ∷ s) l b = begun b l
 
   words-most : NonEmpty t → (s : List ℕ) → Within (size t) s → length s ≤ length (message t s)
   words-most ne [] w = omega arith
@@ -146,10 +149,13 @@ module _ (t : Table) where
   pub reading-in : NonEmpty t → {m s : List ℕ} → Reads t m s → List·Memᴰ s (readings m)
   unfolding readings
   reading-in ne {s = s} r =
-      let short = words-most ne s (permitted-within (r .permitted)) in
-      subst (λ (l : List ℕ). List·Memᴰ s (readings l)) (r .joined) (readings-in (length (message t s)) (λ x. true) s (r .permitted) (begins-any s) short)
+      let linked = permitted-linked (r .permitted) in
+      let short = words-most ne s (linked-within linked) in
+      subst (λ (l : List ℕ). List·Memᴰ s (readings l)) (r .joined) (readings-in (length (message t s)) (t .begins) s linked (permitted-begins (r .permitted)) short)
 
   -- Every member of the list is a reading of m.
   pub reading-out : {s : List ℕ} (m : List ℕ) → List·Memᴰ s (readings m) → Reads t m s
   unfolding readings
-  reading-out {s} m i = readings-out (length m) (λ x. true) m s i .reads
+  reading-out {s} m i =
+      let r = readings-out (length m) (t .begins) m s i in
+      record { permitted = linked-permitted s (r .linked) (r .begins); joined = r .joined }

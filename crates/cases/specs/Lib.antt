@@ -1,7 +1,10 @@
--- The starred codes of 01, checked by computation. Steps and Layers list the pairs of a table, Enumeration the readings of a message; Ends to Messages and
--- Readings say what the lists show; Cases makes one check of it, and Starred has the table and its lone statement.
+-- The starred codes of 01 and codes of request 1, checked by computation. Starts lists the pairs of words that are rivals or may begin, Steps and Layers the
+-- pairs of places that are reached from them, Enumeration the readings of a message; Delays, Messages and Readings say what the lists show; Cases makes one
+-- check of it, and Starred has the tables and their lone statement.
 pub mod Members
 pub mod Comparing
+pub mod Rivals
+pub mod Starts
 pub mod Steps
 pub mod Layers
 pub mod Ends

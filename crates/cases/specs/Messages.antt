@@ -1,64 +1,51 @@
--- The shortest ambiguous message from the layers: no shorter layer has two ends, and in its own layer no two ends have symbols that come before it.
-use mathlib.Core.Path.{_≡_, subst}
-use mathlib.Core.Bool.{Bool, true, _&&_, _||_, and-eq-true-iff}
+-- The shortest ambiguous message from the layers of pairs of words that may both begin: no layer up to its own has the ends of two different words with
+-- symbols that come before it.
+use mathlib.Core.Path.{_≡_, sym, _∙_, subst}
+use mathlib.Core.Bool.{Bool, true, not, _||_, false≢true}
 use mathlib.Core.List.{List}
 use mathlib.Core.Logic.{_⊎_, inl, inr}
-use Prim.Native.Nat.{ℕ, suc, _-_, _<_}
-use native.Mathlib.Decide.{decLt}
+use Prim.Native.Nat.{ℕ, _≤_, _<_}
+use native.Mathlib.Decide.{decLe}
 use native.Mathlib.Omega.{arith}
 use lib.ListN.{length}
-use Rattle.code.specs.Definitions.Lists.{every}
+use borrow.Author.Tests.{not-true}
 use Rattle.code.specs.Definitions.Tables.{Table}
-use Rattle.code.specs.Definitions.Orders.{Shortlex, shorter, earlier}
+use Rattle.code.specs.Definitions.Orders.{Shortlex, shorter}
 use Rattle.code.specs.Definitions.Readings.{FirstTwo, Ambiguous}
+use Rattle.code.specs.Laws.Below.{or-cases}
 use Rattle.code.specs.Laws.Readings.{first-two-readings}
 use Rattle.theory.specs.Places.{NonEmpty, TwoEnds}
 use Rattle.theory.specs.Ambiguity.{Stripped, at-most, readings→ends, ambiguous}
-use Rattle.cases.specs.Comparing.{or-cases, equal, equal-true, before, before-true}
-use Rattle.cases.specs.Layers.{LabelledPair, labelled, layer}
-use Rattle.cases.specs.Ends.{notTwoEnds, noTwoEnds, ends-pass, ends-found, ends-later}
+use Rattle.cases.specs.Comparing.{notBefore, not-before-true}
+use Rattle.cases.specs.Starts.{beginnings, beginnings-listed}
+use Rattle.cases.specs.Layers.{LabelledPair, labelled, everyPair, pair-passes}
+use Rattle.cases.specs.Ends.{apartEnds, apart-ends}
 
 module _ (t : Table) where
-  -- n is m, or comes after m in dictionary order
-  abbrev pub notBefore : List ℕ → List ℕ → Bool
-  notBefore m n = equal m n || before m n
-
+  -- if the pair is one of the ends of different words, its symbols do not come before m
   abbrev pub endsNotBefore : List ℕ → LabelledPair → Bool
-  endsNotBefore m e = notTwoEnds t e || notBefore m (e .label)
+  endsNotBefore m e = not (apartEnds t e) || notBefore m (e .label)
 
-  -- the layer of as many symbols as m has
-  abbrev pub layerOf : List ℕ → List LabelledPair
-  layerOf m = layer t (length m - 1)
-
-  -- Fewer symbols than those of m reach no two ends, and of as many none that come before m.
+  -- No symbols that reach the ends of different words come before m, in order of length and then of symbols.
   unfoldable pub leastIs : List ℕ → Bool
-  unfolding noTwoEnds every layer equal before
-  leastIs m = noTwoEnds t (length m - 1) && every (endsNotBefore m) (layerOf m)
-
-  not-before : (m n : List ℕ) → length m ≡ length n → notBefore m n ≡ true → (m ≡ n) ⊎ Shortlex m n
-  not-before m n l e = by (or-cases (equal m n) (before m n) e)
-    where
-      by : (equal m n ≡ true) ⊎ (before m n ≡ true) → (m ≡ n) ⊎ Shortlex m n
-      by (inl h) = inl (equal-true m n h)
-      by (inr h) = inr (earlier l (before-true m n h))
-
-  as-many : (m n : List ℕ) → every (endsNotBefore m) (layerOf m) ≡ true → length n ≡ suc (length m - 1) → length m ≡ length n → TwoEnds t n → (m ≡ n) ⊎ Shortlex m n
-  as-many m n e l k h = by (or-cases (notTwoEnds t (labelled n (h .p) (h .q))) (notBefore m n) (ends-pass t (endsNotBefore m) e l h))
-    where
-      by : (notTwoEnds t (labelled n (h .p) (h .q)) ≡ true) ⊎ (notBefore m n ≡ true) → (m ≡ n) ⊎ Shortlex m n
-      by (inl z) = absurd (ends-found t h z)
-      by (inr z) = not-before m n k z
+  unfolding everyPair beginnings notBefore
+  leastIs m = everyPair t (beginnings t) (endsNotBefore m) (length m)
 
   -- Where m passes the check, symbols that reach two ends are m or come after m.
   least-means : (m : List ℕ) → leastIs m ≡ true → (n : List ℕ) → TwoEnds t n → (m ≡ n) ⊎ Shortlex m n
   unfolding leastIs
-  least-means m e n h =
-      let a = and-eq-true-iff (noTwoEnds t (length m - 1)) (every (endsNotBefore m) (layerOf m)) .0 e in
-      by (a .1) (ends-later t (length m - 1) (a .0) h) (decLt (length m) (length n))
+  least-means m e n h = by (decLe (length n) (length m))
     where
-      by : every (endsNotBefore m) (layerOf m) ≡ true → length m - 1 < length n → Dec (length m < length n) → (m ≡ n) ⊎ Shortlex m n
-      by a l (yes k) = inr (shorter k)
-      by a l (no k) = as-many m n a (omega arith) (omega arith) h
+      two : Bool
+      two = apartEnds t (labelled n (h .p) (h .q))
+
+      late : (not two ≡ true) ⊎ (notBefore m n ≡ true) → (m ≡ n) ⊎ Shortlex m n
+      late (inl z) = absurd (false≢true (sym (not-true _ z) ∙ apart-ends t n (record { left = h .left-ends; right = h .right-ends; apart = h .apart })))
+      late (inr z) = not-before-true m n z
+
+      by : Dec (length n ≤ length m) → (m ≡ n) ⊎ Shortlex m n
+      by (yes l) = late (or-cases (not two) (notBefore m n) (pair-passes t (beginnings-listed t) (endsNotBefore m) (length m) e (h .pair) l))
+      by (no l) = inr (shorter (omega arith))
 
   -- So if m has two readings it reaches two ends itself.
   least-ends : {m : List ℕ} → ((n : List ℕ) → TwoEnds t n → (m ≡ n) ⊎ Shortlex m n) → (z : Stripped t m) → (z .m ≡ m) ⊎ (length (z .m) < length m) → TwoEnds t m
