@@ -29,4 +29,6 @@ numbers-sum [] b = omega arith
 numbers-sum (n ∷ s) b = omega (arith, decimal-byte n (b 0), numbers-sum s (λ k. b (suc k)))
 
 pub length-numbers : (s : List ℕ) → ((k : ℕ) → getD s k 0 < 256) → length (join (44 ∷ []) (map decimal s)) ≤ 4 * length s
-length-numbers s b = omega (arith, length-join (44 ∷ []) (map decimal s), numbers-sum s b)
+unfolding join
+length-numbers [] b = omega arith
+length-numbers (n ∷ s) b = omega (arith, length-join (44 ∷ []) (map decimal (n ∷ s)) (omega arith), numbers-sum (n ∷ s) b)
