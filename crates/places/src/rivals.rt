@@ -1,11 +1,11 @@
 // Rivals: words that may both begin, or both follow the last word of one permitted sequence. They are where two sequences part.
 
-use code::Code;
 use crate::Layout;
 use crate::Pair;
 use crate::first_pair;
 use crate::may_come;
 use crate::word_count;
+use code::Code;
 ghost use mathlib.Core.Path.{_≡_};
 ghost use Prim.Native.Nat.{_≤_, _<_};
 ghost use Rattle.places.specs.Flat.{Laid, bothBehind, rivalsAt, firstNode};

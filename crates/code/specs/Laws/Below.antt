@@ -1,15 +1,29 @@
 -- Whether some number below a bound passes a test, as a test that computes.
-use mathlib.Core.Path.{_≡_, refl}
+use mathlib.Core.Path.{_≡_, refl, sym, _∙_}
 use mathlib.Core.Bool.{Bool, true, false, _||_, false≢true}
 use mathlib.Core.Logic.{_⊎_, inl, inr}
-use Prim.Native.Nat.{ℕ, zero, suc, _<_}
+use Prim.Native.Nat.{ℕ, zero, suc, _+_, _<_}
 use native.Mathlib.Decide.{ℕ-discrete}
+use native.Mathlib.Numerals.{add-one}
 use native.Mathlib.Omega.{arith}
 
 -- Some number below n passes the test.
 unfoldable pub someBelow : (ℕ → Bool) → ℕ → Bool
 someBelow f zero = false
 someBelow f (suc n) = f n || someBelow f n
+
+pub none-yet : (f : ℕ → Bool) → someBelow f 0 ≡ false
+unfolding someBelow
+none-yet f = refl
+
+pub none-more : (f : ℕ → Bool) (n : ℕ) {b : Bool} → someBelow f n ≡ false → b ≡ f n → b ≡ false → someBelow f (n + 1) ≡ false
+unfolding someBelow
+none-more f n h e d = rw (add-one n) (rw (sym e ∙ d, h))
+
+pub none-below : (f : ℕ → Bool) (n : ℕ) → ((i : ℕ) → i < n → f i ≡ false) → someBelow f n ≡ false
+unfolding someBelow
+none-below f zero h = refl
+none-below f (suc n) h = rw (h n (omega arith), none-below f n (λ i l. h i (omega arith)))
 
 pub or-cases : (a b : Bool) → (a || b) ≡ true → (a ≡ true) ⊎ (b ≡ true)
 or-cases true b e = inl refl

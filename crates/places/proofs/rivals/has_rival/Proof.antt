@@ -2,8 +2,9 @@
 use mathlib.Core.Path.{_≡_}
 use mathlib.Core.Bool.{false}
 use Prim.Native.Nat.{_-_, _≤_}
-use Rattle.places.specs.Flat.{someBelow, rivalsAt}
-use Rattle.places.specs.Rivals.{none-yet, some-more, before-here, before-none}
+use Rattle.code.specs.Laws.Below.{someBelow, none-yet, none-more}
+use Rattle.places.specs.Flat.{rivalsAt}
+use Rattle.places.specs.Rivals.{before-here, before-none}
 use borrow.Author.Needs.{needs}
 use Rattle.places.proofs.rivals.has_rival.Statement.{statement}
 use Rattle.places.proofs.rivals.has_rival.Tie as tie
@@ -21,7 +22,7 @@ returns : tie.Need-returns Inv-loop μ-loop
 returns c = search before-here
 
 loop-again : tie.Need-loop-again Inv-loop μ-loop
-loop-again c = (search needs, search some-more)
+loop-again c = (search needs, search none-more)
 
 returns-2 : tie.Need-returns-2 Inv-loop μ-loop
 returns-2 c = search before-none

@@ -2,8 +2,8 @@
 use mathlib.Core.Path.{_≡_}
 use mathlib.Core.Bool.{false}
 use Prim.Native.Nat.{_-_, _≤_}
-use Rattle.places.specs.Flat.{someBelow}
-use Rattle.places.specs.Rivals.{rivalBefore, none-yet, some-more, some-rivals-here, some-rivals-none}
+use Rattle.code.specs.Laws.Below.{someBelow, none-yet, none-more}
+use Rattle.places.specs.Rivals.{rivalBefore, some-rivals-here, some-rivals-none}
 use borrow.Author.Needs.{needs}
 use Rattle.places.proofs.rivals.some_rivals.Statement.{statement}
 use Rattle.places.proofs.rivals.some_rivals.Tie as tie
@@ -21,7 +21,7 @@ returns : tie.Need-returns Inv-loop μ-loop
 returns c = search some-rivals-here
 
 loop-again : tie.Need-loop-again Inv-loop μ-loop
-loop-again c = (search needs, search some-more)
+loop-again c = (search needs, search none-more)
 
 returns-2 : tie.Need-returns-2 Inv-loop μ-loop
 returns-2 c = search some-rivals-none
