@@ -30,7 +30,7 @@ pub fn code(random: &mut Random) -> Code {
         left -= length;
     }
     let rows = rows(random, &words);
-    Code { words, rows }
+    Code::new(words, rows)
 }
 
 /// A code in which no word is the end of another, often without bound; a few bans.
