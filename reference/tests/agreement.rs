@@ -126,7 +126,7 @@ fn random_codes_of_ten_symbols() {
 #[test]
 fn random_codes_of_four_symbols_by_sequences() {
     let mut random = Random(2);
-    for _ in 0..3_000 {
+    for _ in 0..10_000 {
         let code = small_code(&mut random, 4);
         if code.words.len() < 4 {
             agrees_with_sequences(&code);
