@@ -28,7 +28,10 @@ impl Code {
     /// every word may begin. For hand-written codes; the text is trusted.
     pub fn of(words: &[&str], rows: &[&str]) -> Code {
         let digit = |c: char| c.to_digit(16).expect("a hexadecimal digit") as u8;
-        Code::new(words.iter().map(|w| w.chars().map(digit).collect()).collect(), rows.iter().map(|r| bits(r)).collect())
+        Code::new(
+            words.iter().map(|w| w.chars().map(digit).collect()).collect(),
+            rows.iter().map(|r| bits(r)).collect(),
+        )
     }
 
     /// This code with other start marks, as digits 0 and 1.

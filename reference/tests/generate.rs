@@ -21,7 +21,7 @@ fn generated_codes_are_within_the_limits() {
 #[test]
 fn openings_matter_in_generated_sheets() {
     let mut random = Random(4);
-    let (mut marked, mut one_begins, mut compete_inside) = (0, 0, 0);
+    let (mut marked, mut compete_inside) = (0, 0);
     for _ in 0..10_000 {
         let sheet = generate::sheet(&mut random);
         let code = take_in(&sheet).unwrap();
@@ -30,14 +30,12 @@ fn openings_matter_in_generated_sheets() {
             continue;
         }
         marked += 1;
-        if code.starts.iter().filter(|&&start| start).count() == 1 {
-            one_begins += 1;
-            compete_inside += usize::from(!Rivals::of(&code).none());
-        }
+        let one_begins = code.starts.iter().filter(|&&start| start).count() == 1;
+        compete_inside += usize::from(one_begins && !Rivals::of(&code).none());
     }
-    println!("{marked} with start fields, in {one_begins} one word begins, in {compete_inside} others compete");
+    println!("{marked} with start fields, in {compete_inside} words compete after the only one that begins");
     assert!((4_800..5_200).contains(&marked));
-    assert!(one_begins >= compete_inside && compete_inside > 2_400);
+    assert!((2_400..3_000).contains(&compete_inside));
 }
 
 #[test]
