@@ -39,20 +39,19 @@ fn pairs_of_notes(code: &Code) -> usize {
 
 /// What may come after a permitted opening, with at most `length` symbols; nothing more is one of them.
 fn continuations(code: &Code, opening: &[u8], length: usize) -> Vec<Vec<u8>> {
-    let mut all = vec![Vec::new()];
+    let mut all: Vec<(Vec<u8>, usize)> = vec![(Vec::new(), 0)];
     let mut at = 0;
     while at < all.len() {
-        let last = all[at].last().or(opening.last()).copied();
+        let last = all[at].0.last().or(opening.last()).copied();
         for word in 0..code.words.len() {
-            let mut longer: Vec<u8> = all[at].clone();
-            longer.push(word as u8);
-            if code.may_come(word, last) && joined(code, &longer).len() <= length {
-                all.push(longer);
+            let symbols = all[at].1 + code.words[word].len();
+            if code.may_come(word, last) && symbols <= length {
+                all.push(([&all[at].0[..], &[word as u8]].concat(), symbols));
             }
         }
         at += 1;
     }
-    all
+    all.into_iter().map(|(sequence, _)| sequence).collect()
 }
 
 /// Every permitted sequence whose message has at most `length` symbols, the empty one included.

@@ -185,10 +185,6 @@ impl Walk {
 }
 
 impl Graph {
-    pub fn is_ambiguous(&self) -> bool {
-        self.ends.is_some()
-    }
-
     /// The message that led to the pair of two different ends, if one was met.
     pub fn ambiguous_message(&self) -> Option<Vec<u8>> {
         let mut at = self.ends?;

@@ -22,8 +22,8 @@ pub fn verdict(code: &Code) -> Verdict {
         return Verdict::Delay(0);
     }
     let graph = pairs::explore(code, &rivals);
-    if graph.is_ambiguous() {
-        return ambiguous(code);
+    if let Some(message) = graph.ambiguous_message() {
+        return ambiguous(code, message);
     }
     match graph.longest_path() {
         None => Verdict::Unbounded,
@@ -31,9 +31,14 @@ pub fn verdict(code: &Code) -> Verdict {
     }
 }
 
-/// The verdict on an ambiguous code. The message has the shared opening too.
-fn ambiguous(code: &Code) -> Verdict {
-    let message = pairs::explore_openings(code).ambiguous_message().expect("rivals stand after an opening");
+/// The verdict on an ambiguous code, given the least message that two rivals
+/// share. Where every word may begin, no opening is needed before it.
+fn ambiguous(code: &Code, after_opening: Vec<u8>) -> Verdict {
+    let message = if code.starts.contains(&false) {
+        pairs::explore_openings(code).ambiguous_message().expect("rivals stand after an opening")
+    } else {
+        after_opening
+    };
     match first_two(code, &message) {
         Some(Readings::Two(first, second)) => Verdict::Ambiguous { message, first, second },
         _ => unreachable!("a pair of two different ends gives two readings"),
