@@ -4,6 +4,7 @@
 use reference::brute::{by_prefixes, by_sequences, readings};
 use reference::code::{Code, Refusal};
 use reference::encode::{encode, joined, permitted};
+use reference::generate;
 use reference::random::Random;
 use reference::read::{read, Readings};
 use reference::sheet::{take_in, write, write_with_starts};
@@ -121,6 +122,33 @@ fn random_codes_of_ten_symbols() {
     }
     println!("{ambiguous} ambiguous, {delayed} delayed, {unbounded} unbounded, {given_up} given up");
     assert!(ambiguous > 1_000 && delayed > 1_000 && unbounded > 300 && given_up < 30);
+}
+
+/// Codes of the generator, many with openings that matter. Without bound brute
+/// force goes on for all pairs of notes, so those codes are small.
+#[test]
+fn generated_codes_of_sixty_symbols() {
+    let mut random = Random(6);
+    let (mut agreed, mut given_up, mut shared) = (0, 0, 0);
+    for _ in 0..10_000 {
+        let code = generate::code(&mut random);
+        let answer = verdict(&code);
+        if code.symbols() > if answer == Verdict::Unbounded { 12 } else { 60 } {
+            continue;
+        }
+        match by_prefixes(&code, 300) {
+            None => given_up += 1,
+            Some(brute) => {
+                assert_eq!(answer, brute, "{code:?}");
+                agreed += 1;
+            }
+        }
+        if let Verdict::Ambiguous { first, second, .. } = answer {
+            shared += usize::from(first[0] == second[0]);
+        }
+    }
+    println!("{agreed} agree, {given_up} given up, {shared} ambiguous after an opening");
+    assert!(agreed > 6_000 && given_up < 10 && shared > 500);
 }
 
 #[test]

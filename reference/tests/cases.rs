@@ -121,7 +121,7 @@ fn openings_in_readings_and_sequences() {
     reads(&code, &[0, 1, 0], &[0, 1]);
     assert_eq!(read(&code_t(), &[0, 1]), Ok(Readings::One(vec![2])));
     assert_eq!(read(&code, &[0, 1]), Err(Refusal::NoReading));
-    assert_eq!(readings(&code, &[0, 1]), [[0; 0]; 0]);
+    assert!(readings(&code, &[0, 1]).is_empty());
     assert_eq!(encode(&code, &[]), Ok(vec![]));
     assert_eq!(encode(&code, &[2, 0]), Err(Refusal::PairNotPermitted));
     assert_eq!(encode(&code, &[0, 2, 0]), Ok(vec![0, 0, 1, 0]));

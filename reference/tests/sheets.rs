@@ -1,8 +1,11 @@
 //! Every stored sheet gives its stored result.
 
 use reference::brute::by_prefixes;
+use reference::code::Refusal;
+use reference::encode::encode;
 use reference::largest;
 use reference::print::{printed, result};
+use reference::read::{read, Readings};
 use reference::sheet::{take_in, write};
 use std::fs;
 use std::path::PathBuf;
@@ -45,6 +48,16 @@ fn stored_largest_codes_are_the_generated_ones() {
     assert_eq!(stored("largest-ambiguous.csv"), write(&largest::ambiguous()));
     assert_eq!(stored("largest-delay.csv"), write(&largest::delay()));
     assert_eq!(stored("largest-unbounded.csv"), write(&largest::unbounded()));
+}
+
+/// A Persian syllable with a consonant that steps in between occurs only inside a word.
+#[test]
+fn a_type_that_occurs_only_inside() {
+    let code = take_in(&fs::read(folder().join("persian-inside.csv")).unwrap()).unwrap();
+    let (cv, inside) = (7, 12);
+    assert_eq!(read(&code, &[1, 2, 3, 2, 1]), Ok(Readings::One(vec![cv, inside])));
+    assert_eq!(read(&code, &[3, 2, 1]), Err(Refusal::NoReading));
+    assert_eq!(encode(&code, &[inside]), Err(Refusal::PairNotPermitted));
 }
 
 #[test]

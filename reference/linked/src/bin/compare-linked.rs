@@ -69,7 +69,8 @@ fn images(start: u64, rounds: usize) -> Result<Met, String> {
     Ok(met)
 }
 
-/// An image or an answer that is too short is refused with 13, unless the sheet for the image is refused with a lower number, and nothing changes.
+/// An image or an answer that is too short is refused with 13, unless the sheet
+/// for the image is refused with a lower number, and nothing changes.
 fn short_buffers(start: u64, rounds: usize) -> Result<(), String> {
     let mut random = Random(start);
     let mut work = Lent::new();
