@@ -1,7 +1,8 @@
-//! Codes, messages and sheets of the scope paper's cases and of figures 2 and
-//! 3 of Gönenç, for the tests of both packages.
+//! Codes, messages and sheets of the scope paper's cases, of codes with start
+//! marks, and of figures 2 and 3 of Gönenç, for the tests of both packages.
 
 use crate::code::{Code, Refusal};
+use crate::verdict::Verdict;
 
 /// Code T: no bans.
 pub fn code_t() -> Code {
@@ -69,6 +70,55 @@ pub fn limit_sheets() -> Vec<(Vec<u8>, Option<Refusal>)> {
         (b"\r\n".to_vec(), Some(Refusal::WordLength)),
         (vec![b'0'; 4096], Some(Refusal::WordLength)),
         (vec![b'0'; 4097], Some(Refusal::SheetSize)),
+    ]
+}
+
+/// An ambiguous verdict.
+pub fn ambiguous(message: &[u8], first: &[u8], second: &[u8]) -> Verdict {
+    Verdict::Ambiguous { message: message.to_vec(), first: first.to_vec(), second: second.to_vec() }
+}
+
+/// A code with start marks, the name of its stored sheet, and its verdict.
+pub struct Opening {
+    pub sheet: &'static str,
+    pub code: Code,
+    pub verdict: Verdict,
+}
+
+/// Codes in which openings matter.
+pub fn openings() -> Vec<Opening> {
+    let opening = |sheet, starts: &str, words: &[&str], rows: &[&str], verdict| {
+        let code = Code::of(words, rows).with_starts(starts);
+        Opening { sheet, code, verdict }
+    };
+    let all = "1111";
+    vec![
+        opening(
+            "opening-code-t",
+            "1101",
+            &["0", "10", "01", "101"],
+            &[all; 4],
+            ambiguous(&[0, 0, 1, 0], &[0, 0, 1], &[0, 2, 0]),
+        ),
+        opening("opening-delay", "100", &["2", "0", "01"], &["000", "100", "100"], Verdict::Delay(2)),
+        opening(
+            "opening-shared",
+            "100",
+            &["2", "0", "0"],
+            &["000", "100", "100"],
+            ambiguous(&[2, 0], &[0, 1], &[0, 2]),
+        ),
+        opening(
+            "opening-not-reached",
+            "1000",
+            &["2", "3", "0", "0"],
+            &["0000", "0000", "0100", "0100"],
+            Verdict::Delay(0),
+        ),
+        opening("opening-none-begins", "00", &["0", "01"], &["11", "11"], Verdict::Delay(0)),
+        opening("opening-forced", "10", &["0", "1"], &["01", "10"], Verdict::Delay(0)),
+        opening("opening-told-apart", "100", &["0", "01", "11"], &["011", "100", "111"], Verdict::Delay(1)),
+        opening("opening-equal-words", "10", &["0", "0"], &["11", "11"], ambiguous(&[0, 0], &[0, 0], &[0, 1])),
     ]
 }
 

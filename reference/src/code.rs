@@ -1,10 +1,13 @@
-//! Words, bans and the numbered refusals.
+//! Words, start marks, bans and the numbered refusals.
 
-/// A code: its words in sheet order, and which word may come after which.
+/// A code: its words in sheet order, which of them may begin a message, and
+/// which word may come after which.
 #[derive(Clone, PartialEq, Eq, Debug)]
 pub struct Code {
     /// The symbols of each word, each 0 to 15.
     pub words: Vec<Vec<u8>>,
+    /// `starts[x]`: word `x` may begin a message.
+    pub starts: Vec<bool>,
     /// `rows[x][y]`: word `x` may come immediately after word `y`.
     pub rows: Vec<Vec<bool>>,
 }
@@ -16,14 +19,24 @@ impl Code {
     pub const MAX_SHEET_BYTES: usize = 4_096;
     pub const MAX_MESSAGE_SYMBOLS: usize = 16_384;
 
-    /// A code from words in hexadecimal digits and rows of the digits 0 and 1.
-    /// For hand-written codes; the text is trusted.
+    /// A code in which every word may begin a message.
+    pub fn new(words: Vec<Vec<u8>>, rows: Vec<Vec<bool>>) -> Code {
+        Code { starts: vec![true; words.len()], words, rows }
+    }
+
+    /// A code from words in hexadecimal digits and rows of the digits 0 and 1;
+    /// every word may begin. For hand-written codes; the text is trusted.
     pub fn of(words: &[&str], rows: &[&str]) -> Code {
         let digit = |c: char| c.to_digit(16).expect("a hexadecimal digit") as u8;
-        Code {
-            words: words.iter().map(|w| w.chars().map(digit).collect()).collect(),
-            rows: rows.iter().map(|r| r.chars().map(|c| c == '1').collect()).collect(),
-        }
+        Code::new(
+            words.iter().map(|w| w.chars().map(digit).collect()).collect(),
+            rows.iter().map(|r| bits(r)).collect(),
+        )
+    }
+
+    /// This code with other start marks, as digits 0 and 1.
+    pub fn with_starts(self, marks: &str) -> Code {
+        Code { starts: bits(marks), ..self }
     }
 
     /// A code without bans.
@@ -37,10 +50,25 @@ impl Code {
         self.rows[x][y]
     }
 
+    /// May word `x` come next: immediately after the last word, or at the start where there is none?
+    pub fn may_come(&self, x: usize, last: Option<u8>) -> bool {
+        last.map_or(self.starts[x], |y| self.may_follow(x, y as usize))
+    }
+
+    /// The words that may come next, as a mask of bits.
+    pub fn choices(&self, last: Option<u8>) -> u32 {
+        (0..self.words.len()).filter(|&x| self.may_come(x, last)).fold(0, |mask, x| mask | 1 << x)
+    }
+
     /// All symbols of all words, counted.
     pub fn symbols(&self) -> usize {
         self.words.iter().map(Vec::len).sum()
     }
+}
+
+/// The digits 0 and 1 as truth values.
+fn bits(digits: &str) -> Vec<bool> {
+    digits.chars().map(|digit| digit == '1').collect()
 }
 
 /// The refusals, by their numbers.
@@ -61,6 +89,7 @@ pub enum Refusal {
     MessageSymbol = 12,
     BufferTooShort = 13,
     NoReading = 14,
+    StartField = 15,
 }
 
 impl Refusal {

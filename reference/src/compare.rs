@@ -19,7 +19,7 @@ pub struct Met {
     pub delayed: usize,
     pub unbounded: usize,
     /// By refusal number.
-    pub refused: [usize; 15],
+    pub refused: [usize; 16],
 }
 
 /// Compares on `rounds` rounds of generated inputs: what was met, or the first difference in words.

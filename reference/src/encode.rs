@@ -2,9 +2,10 @@
 
 use crate::code::{Code, Refusal};
 
-/// Is every neighbouring pair of the sequence permitted? Its numbers are words of the code.
+/// May the first word begin, and is every neighbouring pair permitted? The numbers are words of the code.
 pub fn permitted(code: &Code, sequence: &[u8]) -> bool {
-    sequence.windows(2).all(|pair| code.may_follow(pair[1] as usize, pair[0] as usize))
+    let begins = sequence.first().is_none_or(|&word| code.starts[word as usize]);
+    begins && sequence.windows(2).all(|pair| code.may_follow(pair[1] as usize, pair[0] as usize))
 }
 
 /// The symbols of the words, joined in order.

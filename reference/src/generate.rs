@@ -9,8 +9,64 @@ use crate::random::Random;
 use crate::sheet;
 use crate::table::Table;
 
-/// A code of any size within the limits.
+/// A code of any size within the limits. In half of the codes every word may begin.
 pub fn code(random: &mut Random) -> Code {
+    if random.one_in(2) {
+        unmarked_code(random)
+    } else {
+        marked_code(random)
+    }
+}
+
+/// A code with start marks: any marks, or such that openings matter.
+fn marked_code(random: &mut Random) -> Code {
+    if random.one_in(2) {
+        return code_with_opening(random);
+    }
+    let mut code = unmarked_code(random);
+    let style = random.below(5);
+    let marks = code.starts.iter().map(|_| match style {
+        0 => true,
+        1 => false,
+        2 => random.one_in(2),
+        3 => random.one_in(8),
+        _ => !random.one_in(8),
+    });
+    code.starts = marks.collect();
+    code
+}
+
+/// A code in which a single word begins and words compete only after it.
+/// Often it is the first of a few that are forced one after the other, and
+/// that come only once.
+fn code_with_opening(random: &mut Random) -> Code {
+    let mut code = unmarked_code(random);
+    while code.words.len() < 3 {
+        code = unmarked_code(random);
+    }
+    let count = code.words.len();
+    let first = random.below(count);
+    let mut last = first;
+    code.starts = (0..count).map(|word| word == first).collect();
+    if !random.one_in(3) {
+        code.rows[first].fill(false);
+        for _ in 1..random.between(1, 3.min(count - 2)) {
+            let next = (last + 1) % count;
+            code.rows.iter_mut().for_each(|row| row[last] = false);
+            code.rows[next].fill(false);
+            code.rows[next][last] = true;
+            last = next;
+        }
+    }
+    // The two words before the first are not forced.
+    for before in 1..=2 {
+        code.rows[(first + count - before) % count][last] = true;
+    }
+    code
+}
+
+/// A code in which every word may begin.
+fn unmarked_code(random: &mut Random) -> Code {
     match random.below(50) {
         0 => return largest::ambiguous(),
         1 => return largest::delay(),
@@ -30,7 +86,7 @@ pub fn code(random: &mut Random) -> Code {
         left -= length;
     }
     let rows = rows(random, &words);
-    Code { words, rows }
+    Code::new(words, rows)
 }
 
 /// A code in which no word is the end of another, often without bound; a few bans.
@@ -60,9 +116,13 @@ fn rows(random: &mut Random, words: &[Vec<u8>]) -> Vec<Vec<bool>> {
     (0..count).map(|x| (0..count).map(|y| entry(random, x, y)).collect()).collect()
 }
 
-/// The sheet of a code; the last line end is sometimes left out.
+/// The sheet of a code, half of the sheets with start fields; the last line end is sometimes left out.
 pub fn sheet(random: &mut Random) -> Vec<u8> {
-    let mut sheet = sheet::write(&code(random));
+    let mut sheet = if random.one_in(2) {
+        sheet::write(&unmarked_code(random))
+    } else {
+        sheet::write_with_starts(&marked_code(random))
+    };
     if random.one_in(4) {
         sheet.truncate(sheet.len() - 2);
     }
@@ -85,7 +145,7 @@ pub fn damaged_sheet(random: &mut Random) -> Vec<u8> {
 fn damage(random: &mut Random, sheet: &mut Vec<u8>) {
     let at = random.below(sheet.len() + 1);
     let byte = *random.pick(b"0123456789ABCDEF,,,,\r\n\r\n\r\n011a\"; \x00\xEF");
-    match random.below(9) {
+    match random.below(11) {
         0 => sheet.insert(at, byte),
         1 if at < sheet.len() => sheet[at] = byte,
         2 if at < sheet.len() => drop(sheet.remove(at)),
@@ -94,6 +154,7 @@ fn damage(random: &mut Random, sheet: &mut Vec<u8>) {
         5 => sheet.truncate(at),
         6 => sheet.extend(b"\r\n"),
         7 => replace_once(random, sheet, b"\r\n", b"\n"),
+        8 | 9 => change_second_field(random, sheet),
         _ => {
             let digits = random.between(1, 17);
             drop(sheet.splice(at..at, vec![b'0'; digits]));
@@ -110,11 +171,27 @@ fn replace_once(random: &mut Random, sheet: &mut Vec<u8>, old: &[u8], new: &[u8]
     }
 }
 
+/// Changes or removes the second field of a record, if one has it: a start field or the first row entry.
+fn change_second_field(random: &mut Random, sheet: &mut Vec<u8>) {
+    let starts_record = |i: usize| i == 0 || sheet[i - 1] == b'\n';
+    let records: Vec<usize> = (0..sheet.len()).filter(|&i| starts_record(i)).collect();
+    if records.is_empty() {
+        return;
+    }
+    let record = *random.pick(&records);
+    let ends_field = |from: usize| sheet[from..].iter().position(|byte| b",\r\n".contains(byte)).map(|i| from + i);
+    let Some(comma) = ends_field(record).filter(|&at| sheet[at] == b',') else { return };
+    let end = ends_field(comma + 1).unwrap_or(sheet.len());
+    let field = *random.pick::<&[u8]>(&[b"", b",", b",0", b",1", b",2", b",A", b",00", b",01", b",10", b",11"]);
+    drop(sheet.splice(comma..end, field.iter().copied()));
+}
+
 /// Sheets around the limits of bytes, records, word length and symbols.
 fn sheet_at_a_limit(random: &mut Random) -> Vec<u8> {
     let more = random.below(2);
+    let start_fields = random.below(2);
     let of_lengths = |lengths: &[usize]| -> Vec<u8> {
-        let row = ",1".repeat(lengths.len());
+        let row = ",1".repeat(start_fields + lengths.len());
         lengths.iter().flat_map(|&length| format!("{}{row}\r\n", "0".repeat(length)).into_bytes()).collect()
     };
     match random.below(7) {
@@ -134,7 +211,7 @@ pub fn damaged_table(random: &mut Random, code: &Code) -> Table {
     let (x, y) = (random.below(Code::MAX_WORDS), random.below(Code::MAX_WORDS));
     let at = random.below(Code::MAX_WORD_SYMBOLS);
     let used = random.below(table.count);
-    match random.below(9) {
+    match random.below(12) {
         0 => table.count = *random.pick(&[0, Code::MAX_WORDS, Code::MAX_WORDS + 1, usize::MAX]),
         1 => table.count = random.between(0, table.count),
         2 => table.words[used].len = *random.pick(&[0, 15, 16, 17, usize::MAX]),
@@ -143,6 +220,9 @@ pub fn damaged_table(random: &mut Random, code: &Code) -> Table {
         5 => table.words[x].symbols[at] = random.below(16) as u8,
         6 => table.rows[x].entries[y] = random.below(3) as u8,
         7 => table.rows[used].entries[y] ^= 1,
+        8 => table.starts[x] = random.below(3) as u8,
+        9 => table.starts[used] = *random.pick(&[2, 255]),
+        10 => table.starts[used] ^= 1,
         _ => table.words.iter_mut().for_each(|word| word.len = 5),
     }
     table
@@ -150,10 +230,21 @@ pub fn damaged_table(random: &mut Random, code: &Code) -> Table {
 
 /// A permitted sequence of at most `length` words.
 pub fn permitted_sequence(random: &mut Random, code: &Code, length: usize) -> Vec<u8> {
-    let mut sequence: Vec<u8> = Vec::new();
+    carried_on(random, code, Vec::new(), length)
+}
+
+/// A sequence whose neighbouring pairs are permitted, of one word or up to
+/// `length` words. Any word stands first, also one that may not begin.
+fn inner_sequence(random: &mut Random, code: &Code, length: usize) -> Vec<u8> {
+    let first = random.below(code.words.len()) as u8;
+    carried_on(random, code, vec![first], length)
+}
+
+/// The sequence with words that may come next, up to `length` words.
+fn carried_on(random: &mut Random, code: &Code, mut sequence: Vec<u8>, length: usize) -> Vec<u8> {
     while sequence.len() < length {
-        let allowed = |x: usize| sequence.last().is_none_or(|&y| code.may_follow(x, y as usize));
-        let choices: Vec<usize> = (0..code.words.len()).filter(|&x| allowed(x)).collect();
+        let last = sequence.last().copied();
+        let choices: Vec<usize> = (0..code.words.len()).filter(|&x| code.may_come(x, last)).collect();
         if choices.is_empty() {
             break;
         }
@@ -162,15 +253,24 @@ pub fn permitted_sequence(random: &mut Random, code: &Code, length: usize) -> Ve
     sequence
 }
 
+/// A short sequence: mostly permitted, sometimes but for its first word.
+fn short_sequence(random: &mut Random, code: &Code) -> Vec<u8> {
+    let most = *random.pick(&[0, 3, 10, 40]);
+    let length = random.between(0, most);
+    if random.one_in(6) {
+        inner_sequence(random, code, length)
+    } else {
+        permitted_sequence(random, code, length)
+    }
+}
+
 /// A sequence: mostly permitted, sometimes with a word changed; now and then
 /// one whose message is about as long as a message may be.
 pub fn sequence(random: &mut Random, code: &Code) -> Vec<u8> {
     if random.one_in(100) {
         return sequence_at_the_limit(random, code);
     }
-    let most = *random.pick(&[0, 3, 10, 40]);
-    let length = random.between(0, most);
-    let mut sequence = permitted_sequence(random, code, length);
+    let mut sequence = short_sequence(random, code);
     if !sequence.is_empty() && random.one_in(3) {
         let at = random.below(sequence.len());
         let word = random.below(code.words.len()) as u8;
@@ -205,9 +305,7 @@ pub fn message(random: &mut Random, code: &Code) -> Vec<u8> {
         message.truncate(length);
         return message;
     }
-    let most = *random.pick(&[0, 3, 10, 40]);
-    let length = random.between(0, most);
-    let mut message = joined(code, &permitted_sequence(random, code, length));
+    let mut message = joined(code, &short_sequence(random, code));
     let at = random.below(message.len() + 1);
     match random.below(6) {
         0 if at < message.len() => message[at] = random.below(4) as u8,

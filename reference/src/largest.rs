@@ -7,7 +7,9 @@
 //! so they cause no doubt.
 
 use crate::code::Code;
+use crate::pairs::explore;
 use crate::random::Random;
+use crate::rivals::Rivals;
 
 /// A long ambiguous message. A text of period 5 is cut into words by two
 /// rounds, one of 40 symbols and one of 45, each forced by the bans. The words
@@ -45,8 +47,9 @@ pub fn delay() -> Code {
 pub fn unbounded() -> Code {
     let mut random = Random(1);
     let codes = (0..500).map(|_| suffix_code(&mut random, Code::MAX_WORDS, Code::MAX_SYMBOLS));
-    let unbounded = codes.filter(|code| crate::pairs::explore(code).longest_path().is_none());
-    unbounded.max_by_key(|code| crate::pairs::explore(code).pairs.len()).expect("one of them is without bound")
+    let graph = |code: &Code| explore(code, &Rivals::of(code));
+    let unbounded = codes.filter(|code| graph(code).longest_path().is_none());
+    unbounded.max_by_key(|code| graph(code).pairs.len()).expect("one of them is without bound")
 }
 
 /// A code without bans over three symbols in which no word is the end of
@@ -72,7 +75,7 @@ pub fn suffix_code(random: &mut Random, count: usize, symbols: usize) -> Code {
         }
     }
     let rows = vec![vec![true; words.len()]; words.len()];
-    Code { words, rows }
+    Code::new(words, rows)
 }
 
 /// The words of the tracks, with the followers given, filled up to 32 words
@@ -88,5 +91,5 @@ fn filled(mut words: Vec<Vec<u8>>, may_follow: impl Fn(usize, usize) -> bool) ->
     words.extend((0..of_two).map(|i| vec![(2 + of_one + i / 16) as u8, (i % 16) as u8]));
     let entry = |x: usize, y: usize| x >= tracks || y >= tracks || may_follow(x, y);
     let rows = (0..words.len()).map(|x| (0..words.len()).map(|y| entry(x, y)).collect()).collect();
-    Code { words, rows }
+    Code::new(words, rows)
 }

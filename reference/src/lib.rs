@@ -2,10 +2,11 @@
 //!
 //! It was written from the papers, to be held against the verified program:
 //! the definitions of words, bans, messages, delay and refusals, and the pair
-//! procedure of Gönenç. Only [`table`] takes its shape from that program. The verdict is found in two ways that share
-//! nothing but the code itself: [`brute`] lists sequences and messages as the
-//! definitions name them and suits tiny codes; [`pairs`] walks pairs of places
-//! and suits every code.
+//! procedure of Gönenç. Only [`table`] takes its shape from that program. The
+//! verdict is found in two ways that share nothing but the code itself:
+//! [`brute`] lists sequences and messages as the definitions name them and
+//! suits tiny codes; [`pairs`] walks pairs of places from [`rivals`] and suits
+//! every code.
 //!
 //! [`generate`] makes random and damaged inputs, and [`compare`] holds another
 //! program's [`operations`] against the reference on them. [`cases`] has the
@@ -23,6 +24,7 @@ pub mod pairs;
 pub mod print;
 pub mod random;
 pub mod read;
+pub mod rivals;
 pub mod sheet;
 pub mod table;
 pub mod verdict;

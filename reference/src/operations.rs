@@ -7,7 +7,7 @@ use crate::table::Table;
 use crate::verdict::{self, Verdict};
 
 /// Entries of a verdict's message buffer and of each of its reading buffers.
-pub const VERDICT_ENTRIES: usize = 8_256;
+pub const VERDICT_ENTRIES: usize = 8_384;
 /// Entries of a verdict's working buffer.
 pub const VERDICT_WORKING: usize = 16_384;
 

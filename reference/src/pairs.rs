@@ -2,6 +2,7 @@
 //! reached from the first pairs.
 
 use crate::code::Code;
+use crate::rivals::Rivals;
 use std::collections::HashMap;
 use std::hash::{BuildHasherDefault, Hasher};
 
@@ -90,20 +91,37 @@ pub struct Graph {
     met_from: Vec<(u32, u8)>,
     /// All steps between the pairs, by number, with their symbols.
     pub steps: Vec<(u32, u8, u32)>,
-    /// A pair of two ends, if one was met; the walk stops there.
+    /// A pair of two different ends, if one was met; the walk stops there.
     ends: Option<u32>,
 }
 
-/// Walks the pairs from the start. Pairs first met by the same message form a
-/// group; the groups form a queue in the order of their messages, shorter
-/// first, then symbol order. So the first pair of two ends that is met carries
-/// the shortest ambiguous message, the earliest among equals.
-pub fn explore(code: &Code) -> Graph {
+/// The pairs reached from two rivals, where two sequences part. The start of
+/// each message is then the end of an opening that both share.
+pub fn explore(code: &Code, rivals: &Rivals) -> Graph {
+    walk(code, |x, y| rivals.compete(x, y))
+}
+
+/// The pairs reached from words that may both begin, among them each word with
+/// itself: while two sequences share an opening, their places are the same.
+/// They can only part at a word's end, and two that have parted only come to
+/// the same place where their words end together. So a pair of two different
+/// ends is the first sign of an ambiguous message.
+pub fn explore_openings(code: &Code) -> Graph {
+    walk(code, |x, y| code.starts[x] && code.starts[y])
+}
+
+/// Walks the pairs from the start: which words with the same first symbol give
+/// a first pair is told, the lower number first. Pairs first met by the same
+/// message form a group; the groups form a queue in the order of their
+/// messages, shorter first, then symbol order. So the first pair of two ends
+/// that is met carries the shortest message to such a pair, the earliest among
+/// equals.
+pub fn walk(code: &Code, first: impl Fn(usize, usize) -> bool) -> Graph {
     let places = Places::new(code);
     let mut walk = Walk::default();
     for x in 0..code.words.len() {
-        for y in x + 1..code.words.len() {
-            if code.words[x][0] == code.words[y][0] {
+        for y in x..code.words.len() {
+            if code.words[x][0] == code.words[y][0] && first(x, y) {
                 let first = pair(places.first[x], places.first[y]);
                 walk.buckets[code.words[x][0] as usize].push((START, first));
             }
@@ -138,7 +156,7 @@ struct Walk {
 }
 
 impl Walk {
-    /// Takes in what the buckets hold, symbol by symbol. True when a pair of two ends was met.
+    /// Takes in what the buckets hold, symbol by symbol. True when a pair of two different ends was met.
     fn meet(&mut self, places: &Places) -> bool {
         for symbol in 0..16 {
             let begin = self.graph.pairs.len() as u32;
@@ -148,7 +166,7 @@ impl Walk {
                 if number == next {
                     self.graph.pairs.push(to);
                     self.graph.met_from.push((from, symbol));
-                    if places.is_end[to.0 as usize] && places.is_end[to.1 as usize] {
+                    if to.0 != to.1 && places.is_end[to.0 as usize] && places.is_end[to.1 as usize] {
                         self.graph.ends = Some(number);
                         return true;
                     }
@@ -167,7 +185,7 @@ impl Walk {
 }
 
 impl Graph {
-    /// The message that led to the pair of two ends, if one was met.
+    /// The message that led to the pair of two different ends, if one was met.
     pub fn ambiguous_message(&self) -> Option<Vec<u8>> {
         let mut at = self.ends?;
         let mut message = Vec::new();

@@ -34,15 +34,14 @@ pub fn first_two(code: &Code, message: &[u8]) -> Option<Readings> {
 struct Reader<'a> {
     code: &'a Code,
     next: Vec<u32>,
+    beginners: u32,
     followers: Vec<u32>,
     length: usize,
 }
 
 impl<'a> Reader<'a> {
     fn new(code: &'a Code, message: &[u8]) -> Reader<'a> {
-        let n = code.words.len();
-        let mask_of = |y: usize| (0..n).filter(|&x| code.may_follow(x, y)).fold(0, |mask, x| mask | 1 << x);
-        let followers: Vec<u32> = (0..n).map(mask_of).collect();
+        let followers: Vec<u32> = (0..code.words.len()).map(|y| code.choices(Some(y as u8))).collect();
         let mut next = vec![0u32; message.len()];
         for at in (0..message.len()).rev() {
             for (number, word) in code.words.iter().enumerate() {
@@ -55,12 +54,12 @@ impl<'a> Reader<'a> {
                 }
             }
         }
-        Reader { code, next, followers, length: message.len() }
+        Reader { code, next, beginners: code.choices(None), followers, length: message.len() }
     }
 
     /// The words that may come after this reading of the first `at` symbols.
     fn choices(&self, reading: &[u8], at: usize) -> u32 {
-        let allowed = reading.last().map_or(u32::MAX, |&y| self.followers[y as usize]);
+        let allowed = reading.last().map_or(self.beginners, |&y| self.followers[y as usize]);
         self.next[at] & allowed
     }
 

@@ -1,4 +1,4 @@
-//! Taking in a code sheet: refusals 1 to 7, the lowest first.
+//! Taking in a code sheet: refusals 1 to 7 and 15, the lowest first.
 
 use crate::code::{Code, Refusal};
 
@@ -23,16 +23,23 @@ pub fn take_in(sheet: &[u8]) -> Result<Code, Refusal> {
     if records.iter().map(|record| record[0].len()).sum::<usize>() > Code::MAX_SYMBOLS {
         return Err(Refusal::TooManySymbols);
     }
-    if !records.iter().all(|record| record.len() == n + 1) {
+    let every_record_has = |fields: usize| records.iter().all(|record| record.len() == fields);
+    let marked = every_record_has(n + 2);
+    if !marked && !every_record_has(n + 1) {
         return Err(Refusal::FieldCount);
     }
-    let entry_fits = |entry: &&[u8]| **entry == *b"0" || **entry == *b"1";
-    if !records.iter().all(|record| record[1..].iter().all(entry_fits)) {
+    let entries = if marked { 2 } else { 1 };
+    let fits = |field: &&[u8]| **field == *b"0" || **field == *b"1";
+    if !records.iter().all(|record| record[entries..].iter().all(fits)) {
         return Err(Refusal::RowEntry);
+    }
+    if marked && !records.iter().all(|record| fits(&record[1])) {
+        return Err(Refusal::StartField);
     }
     Ok(Code {
         words: records.iter().map(|record| record[0].iter().map(|&b| symbol(b)).collect()).collect(),
-        rows: records.iter().map(|record| record[1..].iter().map(|entry| *entry == b"1").collect()).collect(),
+        starts: records.iter().map(|record| !marked || record[1] == b"1").collect(),
+        rows: records.iter().map(|record| record[entries..].iter().map(|entry| *entry == b"1").collect()).collect(),
     })
 }
 
@@ -63,13 +70,23 @@ fn symbol(digit: u8) -> u8 {
     }
 }
 
-/// A sheet that gives this code, each record ended by CR LF.
+/// The sheet that gives this code with the fewest fields: with start fields
+/// only where some word may not begin. Each record is ended by CR LF.
 pub fn write(code: &Code) -> Vec<u8> {
+    written(code, code.starts.contains(&false))
+}
+
+/// The sheet with start fields that gives this code, each record ended by CR LF.
+pub fn write_with_starts(code: &Code) -> Vec<u8> {
+    written(code, true)
+}
+
+fn written(code: &Code, with_starts: bool) -> Vec<u8> {
     let mut sheet = Vec::new();
-    for (word, row) in code.words.iter().zip(&code.rows) {
+    for ((word, start), row) in code.words.iter().zip(&code.starts).zip(&code.rows) {
         sheet.extend(word.iter().map(|&s| crate::print::digit(s)));
-        for &entry in row {
-            sheet.extend([b',', if entry { b'1' } else { b'0' }]);
+        for &field in with_starts.then_some(start).into_iter().chain(row) {
+            sheet.extend([b',', if field { b'1' } else { b'0' }]);
         }
         sheet.extend(b"\r\n");
     }

@@ -23,6 +23,8 @@ pub struct Row {
 pub struct Table {
     pub words: [Word; Code::MAX_WORDS],
     pub rows: [Row; Code::MAX_WORDS],
+    /// Entry X is 1 if word X may begin a message, else 0.
+    pub starts: [u8; Code::MAX_WORDS],
     pub count: usize,
 }
 
@@ -31,6 +33,7 @@ impl Table {
     pub const BLANK: Table = Table {
         words: [Word { symbols: [0; Code::MAX_WORD_SYMBOLS], len: 0 }; Code::MAX_WORDS],
         rows: [Row { entries: [0; Code::MAX_WORDS] }; Code::MAX_WORDS],
+        starts: [0; Code::MAX_WORDS],
         count: 0,
     };
 
@@ -38,6 +41,9 @@ impl Table {
     pub fn of(code: &Code) -> Table {
         let mut table = Table::BLANK;
         table.count = code.words.len();
+        for (mark, &start) in table.starts.iter_mut().zip(&code.starts) {
+            *mark = u8::from(start);
+        }
         for (x, (word, row)) in code.words.iter().zip(&code.rows).enumerate() {
             table.words[x].len = word.len();
             table.words[x].symbols[..word.len()].copy_from_slice(word);
@@ -59,13 +65,14 @@ impl Table {
         }
         let code = Code {
             words: words.iter().map(|word| word.symbols[..word.len].to_vec()).collect(),
+            starts: self.starts[..self.count].iter().map(|&mark| mark == 1).collect(),
             rows: self.rows[..self.count]
                 .iter()
                 .map(|row| row.entries[..self.count].iter().map(|&entry| entry == 1).collect())
                 .collect(),
         };
         let symbols_fit = code.words.iter().flatten().all(|&symbol| symbol < 16);
-        // Written out again, the code shows entries other than 0 and 1 and anything past the counts.
+        // Written out again, the code shows entries and marks other than 0 and 1 and anything past the counts.
         let fits = symbols_fit && code.symbols() <= Code::MAX_SYMBOLS && Table::of(&code) == *self;
         fits.then_some(code)
     }

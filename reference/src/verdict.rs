@@ -3,6 +3,7 @@
 use crate::code::Code;
 use crate::pairs;
 use crate::read::{first_two, Readings};
+use crate::rivals::Rivals;
 
 #[derive(Clone, PartialEq, Eq, Debug)]
 pub enum Verdict {
@@ -16,21 +17,30 @@ pub enum Verdict {
 }
 
 pub fn verdict(code: &Code) -> Verdict {
-    let graph = pairs::explore(code);
+    let rivals = Rivals::of(code);
+    if rivals.none() {
+        return Verdict::Delay(0);
+    }
+    let graph = pairs::explore(code, &rivals);
     if let Some(message) = graph.ambiguous_message() {
         return ambiguous(code, message);
     }
     match graph.longest_path() {
         None => Verdict::Unbounded,
-        // The start alone leaves no doubt when there is but one word.
-        Some(_) if code.words.len() == 1 => Verdict::Delay(0),
         Some(steps) => Verdict::Delay(steps + 1),
     }
 }
 
-fn ambiguous(code: &Code, message: Vec<u8>) -> Verdict {
+/// The verdict on an ambiguous code, given the least message that two rivals
+/// share. Where every word may begin, no opening is needed before it.
+fn ambiguous(code: &Code, after_opening: Vec<u8>) -> Verdict {
+    let message = if code.starts.contains(&false) {
+        pairs::explore_openings(code).ambiguous_message().expect("rivals stand after an opening")
+    } else {
+        after_opening
+    };
     match first_two(code, &message) {
         Some(Readings::Two(first, second)) => Verdict::Ambiguous { message, first, second },
-        _ => unreachable!("a pair of two ends gives two readings"),
+        _ => unreachable!("a pair of two different ends gives two readings"),
     }
 }

@@ -4,9 +4,10 @@
 use reference::brute::{by_prefixes, by_sequences, readings};
 use reference::code::{Code, Refusal};
 use reference::encode::{encode, joined, permitted};
+use reference::generate;
 use reference::random::Random;
 use reference::read::{read, Readings};
-use reference::sheet::{take_in, write};
+use reference::sheet::{take_in, write, write_with_starts};
 use reference::verdict::{verdict, Verdict};
 
 /// Beginnings kept at once before a brute-force verdict is given up.
@@ -33,24 +34,54 @@ fn rows_of_bits(count: usize, bits: u32) -> Vec<Vec<bool>> {
     (0..count).map(|x| (0..count).map(|y| bits >> (x * count + y) & 1 == 1).collect()).collect()
 }
 
-#[test]
-fn every_binary_code_of_three_words_and_four_symbols() {
-    let mut codes = 0;
-    for count in 1..=3 {
-        for words in word_lists(count, 4) {
-            for bits in 0..1u32 << (count * count) {
-                let code = Code { words: words.clone(), rows: rows_of_bits(count, bits) };
-                let answer = verdict(&code);
-                assert_eq!(answer, by_sequences(&code), "{code:?}");
-                assert_eq!(Some(&answer), by_prefixes(&code, MOST).as_ref(), "{code:?}");
-                codes += 1;
-            }
-        }
-    }
-    assert_eq!(codes, 30 * 2 + 68 * 16 + 56 * 512);
+fn starts_of_bits(count: usize, bits: u32) -> Vec<bool> {
+    (0..count).map(|x| bits >> x & 1 == 1).collect()
 }
 
-/// A random code with at most `symbols` symbols in all, over few different symbols.
+/// All binary codes of up to three words and at most so many symbols, with all
+/// bans; every word may begin.
+fn codes(symbols: usize) -> impl Iterator<Item = Code> {
+    let words = (1..=3).flat_map(move |count| word_lists(count, symbols));
+    words.flat_map(|words| {
+        let count = words.len();
+        (0..1u32 << (count * count)).map(move |bits| Code::new(words.clone(), rows_of_bits(count, bits)))
+    })
+}
+
+/// This code with each choice of words that may begin.
+fn with_all_starts(code: Code) -> impl Iterator<Item = Code> {
+    let count = code.words.len();
+    (0..1u32 << count).map(move |bits| Code { starts: starts_of_bits(count, bits), ..code.clone() })
+}
+
+fn agrees_with_prefixes(code: &Code) {
+    assert_eq!(Some(verdict(code)), by_prefixes(code, MOST), "{code:?}");
+}
+
+fn agrees_with_sequences(code: &Code) {
+    assert_eq!(verdict(code), by_sequences(code), "{code:?}");
+}
+
+#[test]
+fn every_binary_code_of_three_words_and_four_symbols() {
+    let codes = codes(4).inspect(agrees_with_sequences).inspect(agrees_with_prefixes);
+    assert_eq!(codes.count(), 30 * 2 + 68 * 16 + 56 * 512);
+}
+
+#[test]
+fn every_choice_of_words_that_may_begin() {
+    let codes = codes(4).flat_map(with_all_starts).inspect(agrees_with_prefixes);
+    assert_eq!(codes.count(), 30 * 4 + 68 * 64 + 56 * 4_096);
+}
+
+#[test]
+fn every_choice_of_words_that_may_begin_by_sequences() {
+    let codes = codes(3).flat_map(with_all_starts).inspect(agrees_with_sequences);
+    assert_eq!(codes.count(), 14 * 4 + 20 * 64 + 8 * 4_096);
+}
+
+/// A random code with at most `symbols` symbols in all, over few different
+/// symbols. In half of the codes every word may begin, in a quarter only one.
 fn small_code(random: &mut Random, symbols: usize) -> Code {
     let kinds = *random.pick(&[1, 2, 2, 2, 3]);
     let mut words = Vec::new();
@@ -62,7 +93,14 @@ fn small_code(random: &mut Random, symbols: usize) -> Code {
     }
     let bans = random.between(2, 6);
     let rows = words.iter().map(|_: &Vec<u8>| words.iter().map(|_| !random.one_in(bans)).collect()).collect();
-    Code { words, rows }
+    let only = random.below(words.len());
+    let style = random.below(4);
+    let starts = (0..words.len()).map(|word| match style {
+        0 | 1 => true,
+        2 => word == only,
+        _ => random.one_in(2),
+    });
+    Code { starts: starts.collect(), words, rows }
 }
 
 #[test]
@@ -86,13 +124,40 @@ fn random_codes_of_ten_symbols() {
     assert!(ambiguous > 1_000 && delayed > 1_000 && unbounded > 300 && given_up < 30);
 }
 
+/// Codes of the generator, many with openings that matter. Without bound brute
+/// force goes on for all pairs of notes, so those codes are small.
+#[test]
+fn generated_codes_of_sixty_symbols() {
+    let mut random = Random(6);
+    let (mut agreed, mut given_up, mut shared) = (0, 0, 0);
+    for _ in 0..10_000 {
+        let code = generate::code(&mut random);
+        let answer = verdict(&code);
+        if code.symbols() > if answer == Verdict::Unbounded { 12 } else { 60 } {
+            continue;
+        }
+        match by_prefixes(&code, 300) {
+            None => given_up += 1,
+            Some(brute) => {
+                assert_eq!(answer, brute, "{code:?}");
+                agreed += 1;
+            }
+        }
+        if let Verdict::Ambiguous { first, second, .. } = answer {
+            shared += usize::from(first[0] == second[0]);
+        }
+    }
+    println!("{agreed} agree, {given_up} given up, {shared} ambiguous after an opening");
+    assert!(agreed > 6_000 && given_up < 10 && shared > 500);
+}
+
 #[test]
 fn random_codes_of_four_symbols_by_sequences() {
     let mut random = Random(2);
-    for _ in 0..3_000 {
+    for _ in 0..10_000 {
         let code = small_code(&mut random, 4);
         if code.words.len() < 4 {
-            assert_eq!(verdict(&code), by_sequences(&code), "{code:?}");
+            agrees_with_sequences(&code);
         }
     }
 }
@@ -153,5 +218,6 @@ fn a_written_sheet_gives_its_code() {
     for _ in 0..1_000 {
         let code = small_code(&mut random, 30);
         assert_eq!(take_in(&write(&code)).as_ref(), Ok(&code));
+        assert_eq!(take_in(&write_with_starts(&code)).as_ref(), Ok(&code));
     }
 }

@@ -6,6 +6,7 @@ use reference::code::Code;
 use reference::encode::encode;
 use reference::pairs::{explore, Places};
 use reference::read::{read, Readings};
+use reference::rivals::Rivals;
 use reference::verdict::Verdict;
 
 #[test]
@@ -35,7 +36,7 @@ fn name(code: &Code, places: &Places, place: u8) -> String {
 fn figure_3_testing_table_of_code_u() {
     let code = code_u();
     let places = Places::new(&code);
-    let graph = explore(&code);
+    let graph = explore(&code, &Rivals::of(&code));
     let named = |number: u32| {
         let (p, q) = graph.pairs[number as usize];
         let (p, q) = (name(&code, &places, p), name(&code, &places, q));

@@ -2,6 +2,7 @@
 
 use reference::generate;
 use reference::random::Random;
+use reference::rivals::Rivals;
 use reference::sheet::{take_in, write};
 use reference::table::Table;
 
@@ -14,6 +15,27 @@ fn generated_codes_are_within_the_limits() {
         assert_eq!(Table::of(&code).code().as_ref(), Some(&code));
         assert!(take_in(&generate::sheet(&mut random)).is_ok());
     }
+}
+
+/// Half of the sheets have start fields. In half of these a single word begins and others compete after it.
+#[test]
+fn openings_matter_in_generated_sheets() {
+    let mut random = Random(4);
+    let (mut marked, mut compete_inside) = (0, 0);
+    for _ in 0..10_000 {
+        let sheet = generate::sheet(&mut random);
+        let code = take_in(&sheet).unwrap();
+        let record = sheet.split(|&byte| byte == b'\r').next().unwrap();
+        if record.iter().filter(|&&byte| byte == b',').count() == code.words.len() {
+            continue;
+        }
+        marked += 1;
+        let one_begins = code.starts.iter().filter(|&&start| start).count() == 1;
+        compete_inside += usize::from(one_begins && !Rivals::of(&code).none());
+    }
+    println!("{marked} with start fields, in {compete_inside} words compete after the only one that begins");
+    assert!((4_800..5_200).contains(&marked));
+    assert!((2_400..3_000).contains(&compete_inside));
 }
 
 #[test]

@@ -4,6 +4,7 @@ use reference::code::Code;
 use reference::encode::encode;
 use reference::largest;
 use reference::pairs::explore;
+use reference::rivals::Rivals;
 use reference::sheet::{take_in, write};
 use reference::verdict::{verdict, Verdict};
 
@@ -37,5 +38,5 @@ fn many_pairs_without_bound() {
     let code = largest::unbounded();
     at_the_limits(&code);
     assert_eq!(verdict(&code), Verdict::Unbounded);
-    assert_eq!(explore(&code).pairs.len(), 1_572);
+    assert_eq!(explore(&code, &Rivals::of(&code)).pairs.len(), 1_572);
 }

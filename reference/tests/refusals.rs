@@ -1,4 +1,4 @@
-//! Refusals 1 to 7 on sheets, the lowest first, and 9 to 14 on sequences and messages.
+//! Refusals 1 to 7 and 15 on sheets, the lowest first, and 9 to 14 on sequences and messages.
 
 use reference::code::{Code, Refusal};
 use reference::encode::encode;
@@ -42,13 +42,55 @@ fn bytes() {
 #[test]
 fn fields_and_entries() {
     assert_eq!(refused("0"), 6);
-    assert_eq!(refused("0,1,1"), 6);
+    assert_eq!(refused("0,1,1,1"), 6);
     assert_eq!(refused("0,1,1\r\n1,1"), 6);
     assert_eq!(refused("0,2"), 7);
     assert_eq!(refused("0,A"), 7);
     assert_eq!(refused("0,"), 7);
     assert_eq!(refused("0,01"), 7);
     assert_eq!(refused("0,1,1\r\n1,1,"), 7);
+}
+
+#[test]
+fn start_fields() {
+    for sheet in ["0,0,1", "0,1,1", "0,0,0\r\n", "0,1,1,1\r\n1,0,1,1\r\n"] {
+        assert_eq!(refused(sheet), 0, "{sheet:?}");
+    }
+    for field in ["", "2", "F", "00", "01", "10", "11"] {
+        assert_eq!(refused(&format!("0,{field},1")), 15, "{field:?}");
+        assert_eq!(refused(&format!("0,1,1,1\r\n1,{field},1,1")), 15, "{field:?}");
+    }
+    // Without start fields the second field is a row entry.
+    assert_eq!(refused("0,2"), 7);
+    assert_eq!(refused("0,2,1\r\n1,1,1"), 7);
+}
+
+#[test]
+fn every_record_has_the_same_fields() {
+    assert_eq!(refused("0,1,1,1\r\n1,1,1"), 6);
+    assert_eq!(refused("0,1,1\r\n1,1,1,1"), 6);
+    assert_eq!(refused("0,1,1,1,1\r\n1,1,1,1,1"), 6);
+    assert_eq!(refused("0,1,1,1,1\r\n1,1,1,1"), 6);
+    assert_eq!(refused("0,1\r\n1,1"), 6);
+}
+
+/// A start field 2 beside each of the other refusals of a sheet.
+#[test]
+fn a_start_field_is_tested_last() {
+    let long_word = "0".repeat(17);
+    let full_word = "0".repeat(16);
+    let row = ",1".repeat(9);
+    let many = format!("{}0,2{row}", format!("{full_word},2{row}\r\n").repeat(8));
+    assert_eq!(refused(&format!("0,2,1\r\n{}", "0".repeat(4_096))), 1);
+    assert_eq!(refused("0,2,1\n"), 2);
+    assert_eq!(refused(&format!("0,2{}\r\n", ",1".repeat(33)).repeat(33)), 3);
+    assert_eq!(refused(&format!("{long_word},2,1")), 4);
+    assert_eq!(refused(&many), 5);
+    assert_eq!(refused(&many[1..]), 15);
+    assert_eq!(refused("0,2,1,1\r\n1,1,1"), 6);
+    assert_eq!(refused("0,2,2"), 7);
+    assert_eq!(refused("0,2,1,1\r\n1,1,1,"), 7);
+    assert_eq!(refused("0,1,1,2\r\n1,2,1,1"), 7);
 }
 
 #[test]
@@ -67,6 +109,7 @@ fn the_lowest_is_returned() {
 fn refusals_are_printed() {
     assert_eq!(result(b""), b"refused,1\r\n");
     assert_eq!(result(b"0,2"), b"refused,7\r\n");
+    assert_eq!(result(b"0,2,1"), b"refused,15\r\n");
 }
 
 #[test]

@@ -4,7 +4,8 @@
 use reference::code::Code;
 use reference::print::result;
 use reference::sheet::take_in;
-use std::collections::{BTreeSet, VecDeque};
+use std::cmp::Reverse;
+use std::collections::{BTreeSet, BinaryHeap};
 use std::fs;
 
 #[derive(Clone, Copy, PartialEq)]
@@ -16,6 +17,13 @@ enum Slip {
     PairMetTwice,
     StepsForDelay,
     FirstPairOnly,
+    MarksIgnored,
+    MarkFromRowEntry,
+    UnreachedWordsGivePairs,
+    OnlyBeginningWordsGivePairs,
+    OpeningLeftOut,
+    OpeningCounted,
+    DelayWithoutRivals,
 }
 
 /// A word and the number of its symbols read.
@@ -34,38 +42,72 @@ fn next(code: &Code, slip: Slip, (word, read): Place, symbol: u8) -> Vec<Place> 
     (0..code.words.len()).filter(|&x| allowed(x) && code.words[x][0] == symbol).map(|x| (x, 1)).collect()
 }
 
-fn first_pairs(code: &Code, slip: Slip) -> Vec<(Place, Place)> {
-    let mut pairs = Vec::new();
-    for x in 0..code.words.len() {
-        for y in x..code.words.len() {
-            let wanted = x != y || slip == Slip::WordWithItself;
-            if wanted && code.words[x][0] == code.words[y][0] {
-                pairs.push(((x, 1), (y, 1)));
+/// The symbols of a shortest opening: of the empty one, and of one to each word that a message reaches.
+fn openings(code: &Code, slip: Slip) -> Vec<(Option<u8>, usize)> {
+    let mut openings = Vec::new();
+    let mut waiting = BTreeSet::from([(0, None)]);
+    while let Some((symbols, last)) = waiting.pop_first() {
+        if openings.iter().all(|&(other, _)| other != last) {
+            openings.push((last, symbols));
+            let next = (0..code.words.len()).filter(|&word| code.may_come(word, last));
+            waiting.extend(next.map(|word| (symbols + code.words[word].len(), Some(word as u8))));
+        }
+    }
+    if slip == Slip::UnreachedWordsGivePairs {
+        openings.extend((0..code.words.len()).map(|word| (Some(word as u8), 0)));
+    }
+    if slip == Slip::OnlyBeginningWordsGivePairs {
+        openings.truncate(1);
+    }
+    openings
+}
+
+/// The words that compete, in pairs, each with the symbols of a shortest opening.
+fn rivals(code: &Code, slip: Slip) -> Vec<(usize, (usize, usize))> {
+    let mut rivals = Vec::new();
+    for (last, symbols) in openings(code, slip) {
+        let next: Vec<usize> = (0..code.words.len()).filter(|&word| code.may_come(word, last)).collect();
+        for &x in &next {
+            for &y in next.iter().filter(|&&y| x < y || x == y && slip == Slip::WordWithItself) {
+                if rivals.iter().all(|&(_, pair)| pair != (x, y)) {
+                    rivals.push((symbols, (x, y)));
+                }
             }
         }
     }
-    if slip == Slip::FirstPairOnly {
-        pairs.truncate(1);
-    }
-    pairs
+    rivals
 }
 
 /// The first record that the wrong program prints; of an ambiguous message only the number of its symbols.
 fn printed(code: &Code, slip: Slip) -> String {
-    let mut queue: VecDeque<(usize, (Place, Place))> =
-        first_pairs(code, slip).into_iter().map(|pair| (1, pair)).collect();
-    let mut seen: BTreeSet<(Place, Place)> = queue.iter().map(|&(_, pair)| pair).collect();
+    let rivals = rivals(code, slip);
+    if rivals.is_empty() && slip != Slip::DelayWithoutRivals {
+        return "decipherable,0".to_string();
+    }
+    let mut first_pairs: Vec<(usize, (Place, Place))> = Vec::new();
+    for (opening, (x, y)) in rivals {
+        if code.words[x][0] == code.words[y][0] {
+            first_pairs.push((opening, ((x, 1), (y, 1))));
+        }
+    }
+    if slip == Slip::FirstPairOnly {
+        first_pairs.truncate(1);
+    }
+    let mut seen: BTreeSet<(Place, Place)> = first_pairs.iter().map(|&(_, pair)| pair).collect();
+    // The shortest message first, the opening included.
+    let mut queue: BinaryHeap<_> =
+        first_pairs.into_iter().map(|(opening, pair)| Reverse((opening + 1, 1, pair))).collect();
     let most = code.symbols() * (code.symbols() + 1) / 2;
     let mut longest = 0;
-    while let Some((steps, (p, q))) = queue.pop_front() {
+    while let Some(Reverse((symbols, steps, (p, q)))) = queue.pop() {
         let at_end = |(word, read): Place| read == code.words[word].len();
         if at_end(p) && at_end(q) {
-            return format!("ambiguous after {steps}");
+            return format!("ambiguous after {}", if slip == Slip::OpeningLeftOut { steps } else { symbols });
         }
         if steps > most {
             return "decipherable,unbounded".to_string();
         }
-        longest = longest.max(steps);
+        longest = longest.max(if slip == Slip::OpeningCounted { symbols } else { steps });
         for symbol in 0..16 {
             for p in next(code, slip, p, symbol) {
                 for q in next(code, slip, q, symbol) {
@@ -74,7 +116,7 @@ fn printed(code: &Code, slip: Slip) -> String {
                         return "decipherable,unbounded".to_string();
                     }
                     // Small codes only: paths are followed one by one.
-                    queue.push_back((steps + 1, pair));
+                    queue.push(Reverse((symbols + 1, steps + 1, pair)));
                 }
             }
         }
@@ -83,14 +125,26 @@ fn printed(code: &Code, slip: Slip) -> String {
     format!("decipherable,{delay}")
 }
 
-/// Holds a sheet's right result against what a program with the slip prints.
+/// Holds a sheet's right first record against what a program with the slip
+/// prints; of an ambiguous message only the number of its symbols.
 fn taught(name: &str, slip: Slip, right: &str, wrong: &str) {
     let path = format!("{}/../sheets/{name}.csv", env!("CARGO_MANIFEST_DIR"));
     let sheet = fs::read(path).unwrap();
     let code = take_in(&sheet).unwrap();
-    assert_eq!(String::from_utf8(result(&sheet)).unwrap(), format!("{right}\r\n"));
+    let stored = String::from_utf8(result(&sheet)).unwrap();
+    let first_record = match stored.lines().next().unwrap().split_once(',').unwrap() {
+        ("ambiguous", message) => format!("ambiguous after {}", message.len()),
+        (kind, value) => format!("{kind},{value}"),
+    };
+    assert_eq!(first_record, right);
     assert_eq!(printed(&code, Slip::None), right);
-    assert_eq!(printed(&code, slip), wrong);
+    let every_word = Code::new(code.words.clone(), code.rows.clone());
+    let seen = match slip {
+        Slip::MarksIgnored => every_word,
+        Slip::MarkFromRowEntry => Code { starts: code.rows.iter().map(|row| row[0]).collect(), ..every_word },
+        _ => code,
+    };
+    assert_eq!(printed(&seen, slip), wrong);
 }
 
 #[test]
@@ -122,4 +176,39 @@ fn slip_5_another_number_than_the_delay() {
     taught("slip-5-longest-path", Slip::FirstPairOnly, "decipherable,4", "decipherable,2");
     taught("code-u", Slip::StepsForDelay, "decipherable,4", "decipherable,3");
     taught("code-u", Slip::FirstPairOnly, "decipherable,4", "decipherable,3");
+}
+
+#[test]
+fn start_marks_ignored() {
+    taught("opening-code-t", Slip::MarksIgnored, "ambiguous after 4", "ambiguous after 3");
+    taught("opening-none-begins", Slip::MarksIgnored, "decipherable,0", "decipherable,2");
+    taught("opening-told-apart", Slip::MarksIgnored, "decipherable,1", "decipherable,unbounded");
+    taught("opening-equal-words", Slip::MarksIgnored, "ambiguous after 2", "ambiguous after 1");
+}
+
+#[test]
+fn start_mark_from_the_first_row_entry() {
+    taught("opening-none-begins", Slip::MarkFromRowEntry, "decipherable,0", "decipherable,2");
+    taught("opening-shared", Slip::MarkFromRowEntry, "ambiguous after 2", "ambiguous after 1");
+}
+
+#[test]
+fn other_first_pairs() {
+    taught("opening-not-reached", Slip::UnreachedWordsGivePairs, "decipherable,0", "ambiguous after 1");
+    taught("opening-delay", Slip::OnlyBeginningWordsGivePairs, "decipherable,2", "decipherable,0");
+    taught("opening-shared", Slip::OnlyBeginningWordsGivePairs, "ambiguous after 2", "decipherable,0");
+}
+
+#[test]
+fn the_opening_left_out_or_counted() {
+    taught("opening-code-t", Slip::OpeningLeftOut, "ambiguous after 4", "ambiguous after 3");
+    taught("opening-shared", Slip::OpeningLeftOut, "ambiguous after 2", "ambiguous after 1");
+    taught("opening-delay", Slip::OpeningCounted, "decipherable,2", "decipherable,3");
+}
+
+#[test]
+fn a_delay_where_no_words_compete() {
+    for name in ["one-word", "opening-forced", "opening-none-begins", "opening-not-reached"] {
+        taught(name, Slip::DelayWithoutRivals, "decipherable,0", "decipherable,1");
+    }
 }

@@ -1,5 +1,6 @@
 //! The image of a table: for each of the 32 words its 16 symbols and its
-//! length, then the 32 rows of 32 entries, then the count.
+//! length, then the 32 rows of 32 entries, then the 32 start marks, then the
+//! count.
 
 use crate::TABLE_BYTES;
 use reference::code::Code;
@@ -7,6 +8,7 @@ use reference::table::Table;
 
 const WORD: usize = Code::MAX_WORD_SYMBOLS + 1;
 const ROWS: usize = Code::MAX_WORDS * WORD;
+const STARTS: usize = ROWS + Code::MAX_WORDS * Code::MAX_WORDS;
 const COUNT: usize = TABLE_BYTES - 1;
 
 /// A number as a byte. Every number past 255 is too long for a word and too
@@ -21,9 +23,10 @@ pub fn pack(table: &Table) -> [u8; TABLE_BYTES] {
         to[..WORD - 1].copy_from_slice(&word.symbols);
         to[WORD - 1] = byte(word.len);
     }
-    for (row, to) in table.rows.iter().zip(image[ROWS..].chunks_exact_mut(Code::MAX_WORDS)) {
+    for (row, to) in table.rows.iter().zip(image[ROWS..STARTS].chunks_exact_mut(Code::MAX_WORDS)) {
         to.copy_from_slice(&row.entries);
     }
+    image[STARTS..COUNT].copy_from_slice(&table.starts);
     image[COUNT] = byte(table.count);
     image
 }
@@ -34,9 +37,10 @@ pub fn unpack(image: &[u8; TABLE_BYTES]) -> Table {
         word.symbols.copy_from_slice(&from[..WORD - 1]);
         word.len = from[WORD - 1] as usize;
     }
-    for (row, from) in table.rows.iter_mut().zip(image[ROWS..].chunks_exact(Code::MAX_WORDS)) {
+    for (row, from) in table.rows.iter_mut().zip(image[ROWS..STARTS].chunks_exact(Code::MAX_WORDS)) {
         row.entries.copy_from_slice(from);
     }
+    table.starts.copy_from_slice(&image[STARTS..COUNT]);
     table.count = image[COUNT] as usize;
     table
 }

@@ -10,7 +10,7 @@ pub mod linked;
 pub mod plain;
 
 /// Bytes of a table's image.
-pub const TABLE_BYTES: usize = 1_569;
+pub const TABLE_BYTES: usize = 1_601;
 /// Entries of an answer.
 pub const ANSWER_ENTRIES: usize = 4;
 

@@ -8,7 +8,7 @@ use reference::table::Table;
 
 pub struct Linked;
 
-const REFUSALS: [Refusal; 14] = [
+const REFUSALS: [Refusal; 15] = [
     Refusal::SheetSize,
     Refusal::SheetByte,
     Refusal::TooManyRecords,
@@ -23,6 +23,7 @@ const REFUSALS: [Refusal; 14] = [
     Refusal::MessageSymbol,
     Refusal::BufferTooShort,
     Refusal::NoReading,
+    Refusal::StartField,
 ];
 
 /// The refusal with this number; none for 0.

@@ -4,6 +4,7 @@
 use reference::code::{Code, Refusal};
 use reference::operations::{Buffers, VerdictLengths, VERDICT_ENTRIES, VERDICT_WORKING};
 use reference::read::{first_two, Readings};
+use reference::rivals::Rivals;
 use reference::table::Table;
 use reference::verdict::Verdict;
 use std::collections::{HashMap, HashSet, VecDeque};
@@ -63,8 +64,9 @@ impl Places {
         led(p).flat_map(|p| led(q).map(move |q| (p.min(q), p.max(q)))).collect()
     }
 
+    /// Are these two different ends?
     fn both_end(&self, (p, q): Pair) -> bool {
-        self.is_end[p as usize] && self.is_end[q as usize]
+        p != q && self.is_end[p as usize] && self.is_end[q as usize]
     }
 }
 
@@ -76,12 +78,18 @@ struct Group {
 }
 
 pub fn verdict(code: &Code) -> Verdict {
-    if code.words.len() == 1 {
+    let rivals = Rivals::of(code);
+    if rivals.none() {
         return Verdict::Delay(0);
     }
     let places = Places::new(code);
-    let firsts = first_pairs(code, &places);
-    if let Some(message) = shortest(&places, &firsts) {
+    let firsts = first_pairs(code, &places, |x, y| rivals.compete(x, y));
+    if let Some(mut message) = shortest(&places, &firsts) {
+        if code.starts.contains(&false) {
+            // Once more from the start of a message: a word with itself is an opening that both sequences share.
+            let openings = first_pairs(code, &places, |x, y| code.starts[x] && code.starts[y]);
+            message = shortest(&places, &openings).expect("rivals stand after an opening");
+        }
         let Some(Readings::Two(first, second)) = first_two(code, &message) else { unreachable!("two readings") };
         return Verdict::Ambiguous { message, first, second };
     }
@@ -96,12 +104,12 @@ pub fn verdict(code: &Code) -> Verdict {
     Verdict::Delay(longest + 1)
 }
 
-/// The first pairs, by their symbol.
-fn first_pairs(code: &Code, places: &Places) -> Vec<Vec<Pair>> {
+/// The first pairs of the words that are wanted, by their symbol.
+fn first_pairs(code: &Code, places: &Places, wanted: impl Fn(usize, usize) -> bool) -> Vec<Vec<Pair>> {
     let mut pairs = vec![Vec::new(); 16];
     for x in 0..code.words.len() {
-        for y in x + 1..code.words.len() {
-            if code.words[x][0] == code.words[y][0] {
+        for y in x..code.words.len() {
+            if wanted(x, y) && code.words[x][0] == code.words[y][0] {
                 pairs[code.words[x][0] as usize].push((places.first[x], places.first[y]));
             }
         }
@@ -109,7 +117,7 @@ fn first_pairs(code: &Code, places: &Places) -> Vec<Vec<Pair>> {
     pairs
 }
 
-/// The shortest ambiguous message, the earliest among equals.
+/// The shortest message from first pairs to two different ends, the earliest among equals.
 fn shortest(places: &Places, firsts: &[Vec<Pair>]) -> Option<Vec<u8>> {
     let mut met: HashSet<Pair> = HashSet::new();
     let mut groups: Vec<Group> = Vec::new();

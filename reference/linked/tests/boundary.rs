@@ -1,5 +1,5 @@
-//! What belongs to the boundary alone: the numbers of the header, a table too
-//! short to be read, and an answer too short to be told.
+//! What belongs to the boundary alone: the numbers of the header, the image of
+//! a table, a table too short to be read, and an answer too short to be told.
 
 use furlazon::linked::refusal;
 use furlazon::{ANSWER_ENTRIES, TABLE_BYTES};
@@ -55,12 +55,33 @@ fn refusals_of_the_header() {
         ("MESSAGE_SYMBOL", Refusal::MessageSymbol),
         ("SHORT_BUFFER", Refusal::BufferTooShort),
         ("NO_READING", Refusal::NoReading),
+        ("START_FIELD", Refusal::StartField),
     ];
     for (name, refusal) in names {
         assert_eq!(defined(&format!("REFUSED_{name}")), u64::from(refusal.number()), "{name}");
     }
     let header = include_str!("../../../include/furlazon.h");
     assert_eq!(header.matches("#define FURLAZON_REFUSED_").count(), names.len());
+}
+
+/// Where a word, its length, a row entry, a start mark and the count stand in the image.
+#[test]
+fn places_of_the_image() {
+    let mut table = [MARK; TABLE_BYTES];
+    assert_eq!(furlazon::take_in(b"0,1,0,0,0\r\nAB,0,1,0,1\r\nC,1,0,1,1\r\n", &mut table), 0);
+    let mut expected = [0; TABLE_BYTES];
+    for (word, symbols) in [&[0][..], &[0xA, 0xB], &[0xC]].into_iter().enumerate() {
+        expected[17 * word..17 * word + symbols.len()].copy_from_slice(symbols);
+        expected[17 * word + 16] = symbols.len() as u8;
+    }
+    for (x, y) in [(1, 0), (1, 2), (2, 1), (2, 2)] {
+        expected[544 + 32 * x + y] = 1;
+    }
+    for word in [0, 2] {
+        expected[1_568 + word] = 1;
+    }
+    expected[1_600] = 3;
+    assert_eq!(table, expected);
 }
 
 fn tables() -> (Vec<u8>, Vec<u8>) {

@@ -1,18 +1,21 @@
-//! Cases 11 to 14 of the scope paper and figures 2 and 3 of Gönenç, run by the
-//! proved library and by the reference: both give the same, lent buffers
-//! included, and it is what the papers say.
+//! Cases 11 to 14 of the scope paper, codes with start marks, and figures 2
+//! and 3 of Gönenç, run by the proved library and by the reference: both give
+//! the same, lent buffers included, and it is what the papers say.
 
 use furlazon::linked::Linked;
 use furlazon::{image, TABLE_BYTES};
 use reference::cases::{
-    code_t, code_u, codes_for_the_empty_message, figure_2, limit_sheets, turkish_six, turkish_twelve,
+    code_t, code_u, codes_for_the_empty_message, figure_2, limit_sheets, openings, turkish_six, turkish_twelve,
     FIGURE_3_LONGEST_PATH,
 };
-use reference::code::Refusal;
+use reference::code::{Code, Refusal};
 use reference::operations::{
     Buffers, Operations, ReadingLengths, Reference, VerdictLengths, VERDICT_ENTRIES, VERDICT_WORKING,
 };
+use reference::sheet::write_with_starts;
 use reference::table::Table;
+use reference::verdict::Verdict;
+use std::fs;
 
 /// What a lent entry holds before a call, so that a change shows.
 const MARK: u8 = 0x5A;
@@ -82,6 +85,24 @@ fn reads(table: &Table, message: &[u8], lengths: ReadingLengths, first: &[u8], s
     }
 }
 
+/// Both refuse the message as one without a reading, and leave the working buffer zero.
+fn does_not_read(table: &Table, message: &[u8]) {
+    let before = lent(message.len(), message.len() + 1);
+    let (mut ours, mut theirs) = (before.clone(), before.clone());
+    assert_eq!(Linked.read(table, message, &mut ours), Err(Refusal::NoReading));
+    assert_eq!(Reference.read(table, message, &mut theirs), Err(Refusal::NoReading));
+    assert_eq!(ours, theirs);
+    assert_eq!(ours, left(before, &[], &[], &[]));
+}
+
+/// Both refuse the sequence as one that is not permitted.
+fn does_not_encode(table: &Table, sequence: &[u8]) {
+    let mut message = vec![MARK; Code::MAX_WORD_SYMBOLS * sequence.len()];
+    assert_eq!(Linked.encode(table, sequence, &mut message), Err(Refusal::PairNotPermitted));
+    assert_eq!(Reference.encode(table, sequence, &mut message), Err(Refusal::PairNotPermitted));
+    assert!(message.iter().all(|&entry| entry == MARK));
+}
+
 /// Both encode the sequence as this message.
 fn encodes(table: &Table, sequence: &[u8], message: &[u8]) {
     for spare in SPARE {
@@ -122,6 +143,50 @@ fn case_14_the_limits() {
     for (sheet, refusal) in limit_sheets() {
         taken_in(&sheet, refusal);
     }
+}
+
+#[test]
+fn openings_in_the_verdict() {
+    for opening in openings() {
+        let path = format!("{}/../../sheets/{}.csv", env!("CARGO_MANIFEST_DIR"), opening.sheet);
+        let table = taken_in(&fs::read(path).unwrap(), None);
+        assert_eq!(table, Table::of(&opening.code), "{}", opening.sheet);
+        match opening.verdict {
+            Verdict::Ambiguous { message, first, second } => {
+                let [symbols, words, others] = [&message, &first, &second].map(Vec::len);
+                let lengths = VerdictLengths::Ambiguous { message: symbols, first: words, second: others };
+                gives(&table, lengths, &message, &first, &second);
+            }
+            Verdict::Delay(delay) => gives(&table, VerdictLengths::Delay(delay), &[], &[], &[]),
+            Verdict::Unbounded => gives(&table, VerdictLengths::Unbounded, &[], &[], &[]),
+        }
+    }
+}
+
+/// Code T where 01 may not begin: 010 keeps one of its two readings.
+#[test]
+fn openings_in_readings_and_sequences() {
+    let table = Table::of(&code_t().with_starts("1101"));
+    reads(&table, &[0, 1, 0], ReadingLengths::One(2), &[0, 1], &[]);
+    reads(&table, &[0, 0, 1, 0], ReadingLengths::Two(3, 3), &[0, 0, 1], &[0, 2, 0]);
+    encodes(&table, &[0, 2, 0], &[0, 0, 1, 0]);
+    does_not_read(&table, &[0, 1]);
+    does_not_encode(&table, &[2, 0]);
+    encodes(&table, &[], &[]);
+}
+
+#[test]
+fn a_column_of_ones_changes_nothing() {
+    let with = taken_in(&write_with_starts(&code_u()), None);
+    assert_eq!(with, taken_in(include_bytes!("../../../sheets/code-u.csv"), None));
+}
+
+#[test]
+fn start_fields_refused() {
+    taken_in(include_bytes!("../../../sheets/refusal-15-start-field.csv"), Some(Refusal::StartField));
+    taken_in(include_bytes!("../../../sheets/refusal-15-empty-start-field.csv"), Some(Refusal::StartField));
+    taken_in(include_bytes!("../../../sheets/refusal-several-start-field.csv"), Some(Refusal::RowEntry));
+    taken_in(include_bytes!("../../../sheets/refusal-6-mixed-fields.csv"), Some(Refusal::FieldCount));
 }
 
 #[test]

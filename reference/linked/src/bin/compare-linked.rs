@@ -44,7 +44,7 @@ fn fail<T>(difference: &str) -> T {
 /// What was met, in words.
 fn told(met: &Met) -> String {
     let Met { accepted, encoded, one_reading, two_readings, ambiguous, delayed, unbounded, refused } = met;
-    let refused: Vec<String> = (1..15).map(|number| format!("{number}: {}", refused[number])).collect();
+    let refused: Vec<String> = (1..refused.len()).map(|number| format!("{number}: {}", refused[number])).collect();
     format!(
         "{accepted} sheets accepted, {encoded} encoded, {one_reading} with one reading, {two_readings} with more, \
          {ambiguous} ambiguous, {delayed} with a delay, {unbounded} without bound; refused {}",
@@ -69,7 +69,8 @@ fn images(start: u64, rounds: usize) -> Result<Met, String> {
     Ok(met)
 }
 
-/// An image or an answer that is too short is refused with 13, unless the sheet for the image is refused itself, and nothing changes.
+/// An image or an answer that is too short is refused with 13, unless the sheet
+/// for the image is refused with a lower number, and nothing changes.
 fn short_buffers(start: u64, rounds: usize) -> Result<(), String> {
     let mut random = Random(start);
     let mut work = Lent::new();
@@ -117,8 +118,8 @@ impl Lent {
             furlazon::read(image, &joined, first, second, work, answer),
             furlazon::verdict(image, message, first, second, work, answer),
         ];
-        // A sheet's own refusal comes first.
-        let sheet_number = Reference.take_in(&sheet).0.map_or(short, |refusal| u64::from(refusal.number()));
+        // Of a sheet's own refusal and that of the short image the lower is returned.
+        let sheet_number = Reference.take_in(&sheet).0.map_or(short, |refusal| u64::from(refusal.number()).min(short));
         let taken =
             image.len() == TABLE_BYTES || furlazon::take_in(&sheet, &mut message[..image.len()]) == sheet_number;
         numbers == [short; 3] && taken && self.unchanged()
