@@ -2,7 +2,7 @@
 -- read gets 13 by itself. Where the answer is too short, 13 holds beside the operation's own refusals, and no buffer changes. All else is the operation's answer.
 use mathlib.Core.Path.{_≡_}
 use mathlib.Core.List.{List, [], _∷_, _++_}
-use Prim.Native.Nat.{ℕ, _≤_, _<_}
+use Prim.Native.Nat.{ℕ, _≤_, _<_, min}
 use lib.Dec.{ltb}
 use lib.ListN.{length}
 use Rattle.code.specs.declared.Code.{Code}
@@ -23,10 +23,10 @@ use Rattle.furlazon.specs.Answers.{answerLength, encodingNumber, encodin
 abbrev pub shortNumber : ℕ
 shortNumber = refusalNumber ShortBuffer
 
--- The sheet's own refusals, 1 to 7, come before 13, which the buffer of an accepted sheet's table gets where it is too short.
+-- Where the buffer for the table is too short, 13 holds beside the sheet's own refusal, which is below it or, for a start field, above.
 abbrev pub sheetNumber : SheetAnswer → List ℕ → ℕ
 sheetNumber Accepted b = if ltb (length b) imageLength then shortNumber else 0
-sheetNumber (Refused r) b = refusalNumber r
+sheetNumber (Refused r) b = if ltb (length b) imageLength then min (refusalNumber r) shortNumber else refusalNumber r
 
 -- An accepted sheet's table is written as its image; a refusal changes nothing.
 abbrev pub afterSheet : SheetAnswer → Code → List ℕ → List ℕ

@@ -37,7 +37,8 @@ some-number StartField = omega arith
 accepted : (a : SheetAnswer) (b : List ℕ) → 0 ≡ sheetNumber a b → Dec (length b < imageLength) → (a ≡ Accepted) × (imageLength ≤ length b)
 accepted Accepted b e (yes h) = let n = rw (lt-ltb (length b) imageLength h) at e in absurd (omega arith)
 accepted Accepted b e (no h) = (refl, omega arith)
-accepted (Refused r) b e d = absurd (omega (arith, some-number r))
+accepted (Refused r) b e (yes h) = let n = rw (lt-ltb (length b) imageLength h) at e in absurd (omega (arith, some-number r))
+accepted (Refused r) b e (no h) = let n = rw (le-ltb (length b) imageLength (omega arith)) at e in absurd (omega (arith, some-number r))
 
 -- After a 0, the sheet was accepted, and the buffer holds its code.
 pub sheet-held : (s b b′ : List ℕ) → TakesIn s b b′ 0 → (taken limits s .answer ≡ Accepted) × (codeIn b′ ≡ taken limits s .code)

@@ -1,7 +1,9 @@
 -- The ways through the exported functions, one for each end of a call.
 use mathlib.Core.Path.{_≡_, refl, sym, _∙_}
 use mathlib.Core.List.{List, []}
-use Prim.Native.Nat.{ℕ, _≤_, _<_}
+use Prim.Native.Nat.{ℕ, _≤_, _<_, min}
+use native.Mathlib.Omega.{arith}
+use lib.Dec.{ltb}
 use lib.ListN.{length}
 use borrow.Author.Tests.{lt-ltb, le-ltb}
 use Rattle.code.specs.declared.Code.{Code}
@@ -12,6 +14,7 @@ use Rattle.code.specs.declared.Encoding.{Encoding}
 use Rattle.code.specs.declared.Reading.{Reading}
 use Rattle.code.specs.declared.Judgement.{Judgement}
 use Rattle.code.specs.Definitions.Answers.{refusalNumber}
+use Rattle.code.specs.Definitions.Lists.{if_then_else_}
 use Rattle.code.specs.Definitions.Operations.{written, encodingConditions, readingConditions, verdictConditions, Encodes, ReadsMessage, Judges}
 use Rattle.code.specs.Definitions.Sheets.{limits, taken}
 use Rattle.table.specs.Given.{well}
@@ -32,8 +35,20 @@ module _ (s b : List ℕ) (t : Taken) (gives : t ≡ taken limits s) where
   pub sheet-accepted : (b′ : List ℕ) → t .answer ≡ Accepted → imageLength ≤ length b → b′ ≡ written (imageOf (t .code)) b → TakesIn s b b′ 0
   sheet-accepted b′ a h e = let l = le-ltb (length b) imageLength h in record { number = rw (← gives, a, l); table = rw (← gives, a, l) e }
 
-  pub sheet-refused : (r : Refusal) (n : ℕ) → t .answer ≡ Refused r → n ≡ refusalNumber r → TakesIn s b b n
-  sheet-refused r n a e = record { number = rw (← gives, a) e; table = rw (← gives, a) }
+  pub sheet-refused : (r : Refusal) (k n : ℕ) → t .answer ≡ Refused r → k ≡ refusalNumber r → n ≡ (if ltb (length b) imageLength then min k shortNumber else k)
+      → TakesIn s b b n
+  sheet-refused r k n a e h = record { number = rw (← gives, a, ← e) h; table = rw (← gives, a) }
+
+-- The lower number
+module _ (n table : ℕ) {s : ℕ} (is : s ≡ shortNumber) where
+  pub lower-short : table < imageLength → s < n → s ≡ (if ltb table imageLength then min n shortNumber else n)
+  lower-short h l = rw (lt-ltb table imageLength h) (omega arith)
+
+  pub lower-own : table < imageLength → n ≤ s → n ≡ (if ltb table imageLength then min n shortNumber else n)
+  lower-own h l = rw (lt-ltb table imageLength h) (omega arith)
+
+  pub lower-long : imageLength ≤ table → n ≡ (if ltb table imageLength then min n shortNumber else n)
+  lower-long h = rw (le-ltb table imageLength h)
 
 -- The other operations: an image that is too short to be read, an answer that is too short to be told, and the operation's answer
 

@@ -18,7 +18,25 @@ use image::unpack;
 use untold::untold_encoding;
 use untold::untold_reading;
 use untold::untold_verdict;
-ghost use Rattle.furlazon.specs.Calls.{TakesIn, EncodeCall, ReadCall, VerdictCall};
+ghost use mathlib.Core.Path.{_≡_};
+ghost use Prim.Native.Nat.{min};
+ghost use lib.Dec.{ltb};
+ghost use Rattle.code.specs.Definitions.Lists.{if_then_else_};
+ghost use Rattle.furlazon.specs.Image.{imageLength};
+ghost use Rattle.furlazon.specs.Calls.{shortNumber, TakesIn, EncodeCall, ReadCall, VerdictCall};
+
+// The lower of a sheet's refusal and 13, where a buffer of this length is too short for a table.
+fn lower(refusal: u64, table: usize) -> u64
+    ensures { λ r. ⌜ r ≡ (if ltb table imageLength then min refusal shortNumber else refusal) ⌝ }
+{
+    let short = number(Refusal::ShortBuffer);
+    if table < Image::LENGTH {
+        if short < refusal {
+            return short;
+        }
+    }
+    refusal
+}
 
 // Takes in a sheet. 0: accepted, and the table's image stands at the start of `table`. Else the refusal's number, and `table` is as it was.
 #[no_mangle]
@@ -36,7 +54,7 @@ pub extern "C" fn furlazon_take_in(sheet: &[u8], table: &mut [u8]) -> u64
             pack(code, table);
             0
         }
-        SheetAnswer::Refused(r) => number(r),
+        SheetAnswer::Refused(r) => lower(number(r), table.len()),
     }
 }
 
