@@ -18,14 +18,18 @@ use Rattle.table.specs.Exactly.{Exactly, exactly-iff, exactly-on, exactly-same,
 use Rattle.bits.specs.Bits.{bitOf, width, shift-one, bit-power, bit-digit}
 use Rattle.bits.specs.Sets.{exactly-join}
 
--- r has the start, which is n, and of the first y words those that the row has.
+-- k is the start, which is n, or one of the first y words and in the row.
+abbrev pub InRow : (row : Row) (n y k : ℕ) → Type 0
+InRow row n y k = (k ≡ n) ⊎ ((k < y) × (getD (row .entries) k 0 ≡ 1))
+
+-- r is the set of these.
 pub record RowSet (row : Row) (n y r : ℕ) : Type 0 where
-  pub is : (k : ℕ) → Exactly (bitOf r k) ((k ≡ n) ⊎ ((k < y) × (getD (row .entries) k 0 ≡ 1)))
+  pub is : (k : ℕ) → Exactly (bitOf r k) (InRow row n y k)
 
 pub row-none : (row : Row) (n : ℕ) → n < width → RowSet row n 0 (1 * 2 ^ n % 2 ^ width)
 row-none row n h = rw (shift-one n h) (record { is = λ k. exactly-iff (inl, back k) (bit-power n k) })
   where
-    back : (k : ℕ) → (k ≡ n) ⊎ ((k < 0) × (getD (row .entries) k 0 ≡ 1)) → k ≡ n
+    back : (k : ℕ) → InRow row n 0 k → k ≡ n
     back k (inl e) = e
     back k (inr p) = absurd (omega (arith, p .0))
 
@@ -33,16 +37,16 @@ pub row-more : {row : Row} {n y r : ℕ} (e : ℕ) → e ≡ getD (row .entries)
     → RowSet row n (y + 1) (bitOr r (e * 2 ^ y % 2 ^ width))
 row-more {row} {n} {y} {r} e q h l s = record { is = λ k. exactly-iff (up k, down k) (exactly-join r (e * 2 ^ y % 2 ^ width) k (s .is k) (bit-digit e y k h l)) }
   where
-    up : (k : ℕ) → ((k ≡ n) ⊎ ((k < y) × (getD (row .entries) k 0 ≡ 1))) ⊎ ((k ≡ y) × (e ≡ 1)) → (k ≡ n) ⊎ ((k < y + 1) × (getD (row .entries) k 0 ≡ 1))
+    up : (k : ℕ) → InRow row n y k ⊎ ((k ≡ y) × (e ≡ 1)) → InRow row n (y + 1) k
     up k (inl (inl a)) = inl a
     up k (inl (inr a)) = inr (omega (arith, a .0), a .1)
     up k (inr a) = inr (omega (arith, a .0), rw (a .0, ← q) (a .1))
 
-    down : (k : ℕ) → (k ≡ n) ⊎ ((k < y + 1) × (getD (row .entries) k 0 ≡ 1)) → ((k ≡ n) ⊎ ((k < y) × (getD (row .entries) k 0 ≡ 1))) ⊎ ((k ≡ y) × (e ≡ 1))
+    down : (k : ℕ) → InRow row n (y + 1) k → InRow row n y k ⊎ ((k ≡ y) × (e ≡ 1))
     down k (inl a) = inl (inl a)
     down k (inr a) = by (ℕ-discrete k y)
       where
-        by : Dec (k ≡ y) → ((k ≡ n) ⊎ ((k < y) × (getD (row .entries) k 0 ≡ 1))) ⊎ ((k ≡ y) × (e ≡ 1))
+        by : Dec (k ≡ y) → InRow row n y k ⊎ ((k ≡ y) × (e ≡ 1))
         by (yes b) = inr (b, rw (q, ← b) (a .1))
         by (no b) = inl (inr (omega (arith, a .0), a .1))
 
@@ -50,7 +54,7 @@ module _ {row : Row} {n r : ℕ} (s : RowSet row n n r) where
   pub row-entry : (k : ℕ) → k < n → bitOf r k ≡ eqb (getD (row .entries) k 0) 1
   row-entry k h = exactly-same (exactly-iff (up, (λ e. inr (h, e))) (s .is k)) (exactly-eq (getD (row .entries) k 0) 1)
     where
-      up : (k ≡ n) ⊎ ((k < n) × (getD (row .entries) k 0 ≡ 1)) → getD (row .entries) k 0 ≡ 1
+      up : InRow row n n k → getD (row .entries) k 0 ≡ 1
       up (inl e) = absurd (omega arith)
       up (inr p) = p .1
 
