@@ -1,16 +1,11 @@
 pub mod Firsts
-pub mod Text
+pub mod FirstWords
 pub mod Walks
-pub mod Flat
 pub mod Readings
-pub mod Matches
-pub mod Marks
 pub mod Choices
-pub mod Marking
 pub mod Shown
 pub mod Steps
 pub mod Answers
 pub mod Core
-pub mod Layout
 pub mod Parts
 pub mod Public

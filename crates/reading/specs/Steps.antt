@@ -10,11 +10,12 @@ use lib.Dec.{ltb}
 use lib.ListN.{length, take, drop, getD, set, length-append, take-append-drop}
 use lib.Seq.{length-take-le, drop-cons, set-at}
 use Rattle.code.specs.Definitions.Lists.{if_then_else_}
+use Rattle.sets.specs.Sets.{lengthAt, Shaped}
+use Rattle.marking.specs.Text.{Text, Bounded, From, Can, Begins}
 use Rattle.reading.specs.declared.walks.Walk.{Walk}
 use Rattle.reading.specs.Firsts.{Least, Only, FirstPair, only-least}
-use Rattle.reading.specs.Text.{Text, Bounded, From, Can, Begins, Lowest, only-end}
+use Rattle.reading.specs.FirstWords.{Lowest, only-end}
 use Rattle.reading.specs.Walks.{Walked, Branch, walked-none, branch-none, walked-on, branch-kept, branch-new}
-use Rattle.reading.specs.Flat.{lengthAt, Shaped}
 use Rattle.reading.specs.Choices.{Sought, Tells, sought-some, sought-lowest, sought-next, sought-highest}
 use Rattle.reading.specs.Shown.{shown, Sure, sure-tells}
 
@@ -30,11 +31,12 @@ advanced w x len z n = record {
 }
 
 -- What a walk over marks needs.
-pub record Walkable (base follow work : List ℕ) (n end : ℕ) : Type 0 where
-  pub shaped : Shaped base follow n
+pub record Walkable (rows lengths work : List ℕ) (n end : ℕ) : Type 0 where
+  pub shaped : Shaped rows lengths n
   pub long : end < length work
   pub near : end < 2 ^ 32
-  pub sure : Sure base follow work n end
+  pub sure : Sure rows lengths work n end
+  pub bound : (p : ℕ) → getD work p 0 < 2 ^ n
 
 -- The walk w set out at p₀ after y₀ and wrote its words from index k on into the list `old`, which is then `new`.
 pub record Walking (K : Text) (n p₀ y₀ k : ℕ) (old new : List ℕ) (w : Walk) : Type 0 where
@@ -116,38 +118,36 @@ walking-end {K} {w = w} bounded h e = record {
     rest = only-end bounded (w .last) (omega (arith, h .within))
 
 -- What taking word x at position p rests on.
-pub record Taken (base : List ℕ) (n end p x : ℕ) : Type 0 where
+pub record Taken (lengths : List ℕ) (n end p x : ℕ) : Type 0 where
   pub known : x < n
-  pub rises : getD base x 0 ≤ getD base (x + 1) 0
-  pub some : 1 ≤ lengthAt base x
-  pub fits : p + lengthAt base x ≤ end
+  pub some : 1 ≤ lengthAt lengths x
+  pub fits : p + lengthAt lengths x ≤ end
 
-module _ {base follow work : List ℕ} {n end : ℕ} (walkable : Walkable base follow work n end) where
+module _ {rows lengths work : List ℕ} {n end : ℕ} (walkable : Walkable rows lengths work n end) where
   -- A word that begins at p can be taken there.
-  pub begins-taken : {p x : ℕ} → x < n → Begins (shown base follow work n end) p x → Taken base n end p x
+  pub begins-taken : {p x : ℕ} → x < n → Begins (shown rows lengths work n end) p x → Taken lengths n end p x
   begins-taken {p} {x} h b = record {
     known = h;
-    rises = omega (arith, walkable .shaped .rises x h);
-    some = omega (arith, walkable .shaped .rises x h);
+    some = walkable .shaped .some x h;
     fits = walkable .sure .bounded .fits p x (b .here);
   }
 
   -- So can the word that is found from 0 on, where the message can be read on.
-  pub sought-taken : {p y x : ℕ} → p < end → Can (shown base follow work n end) p y → Sought work follow n p y 0 x → Taken base n end p x
+  pub sought-taken : {p y x : ℕ} → p < end → Can (shown rows lengths work n end) p y → Sought work rows n p y 0 x → Taken lengths n end p x
   sought-taken {p} {y} {x} h can s = begins-taken known (sought-lowest tells s known .opens .begins)
     where
-      tells : Tells (shown base follow work n end) work follow n p
+      tells : Tells (shown rows lengths work n end) work rows n p
       tells = sure-tells (walkable .sure) p
 
       known : x < n
       known = sought-some tells s h can
 
-  module _ {p₀ y₀ k x z : ℕ} {old new : List ℕ} {w : Walk} (h : Walking (shown base follow work n end) n p₀ y₀ k old new w) (before : w .pos < end)
-      (room : end ≤ length old) (s : Sought work follow n (w .pos) (w .last) 0 x) (t : Sought work follow n (w .pos) (w .last) (x + 1) z) where
-    taken : Taken base n end (w .pos) x
+  module _ {p₀ y₀ k x z : ℕ} {old new : List ℕ} {w : Walk} (h : Walking (shown rows lengths work n end) n p₀ y₀ k old new w) (before : w .pos < end)
+      (room : end ≤ length old) (s : Sought work rows n (w .pos) (w .last) 0 x) (t : Sought work rows n (w .pos) (w .last) (x + 1) z) where
+    taken : Taken lengths n end (w .pos) x
     taken = sought-taken before (h .can) s
 
-    lowest : Lowest (shown base follow work n end) (w .pos) (w .last) x
+    lowest : Lowest (shown rows lengths work n end) (w .pos) (w .last) x
     lowest = sought-lowest (sure-tells (walkable .sure) (w .pos)) s (taken .known)
 
     written : set new (k + w .count) x ≡ take k old ++ (h .words ++ (x ∷ [])) ++ drop (k + (w .count + 1)) old
@@ -155,10 +155,10 @@ module _ {base follow work : List ℕ} {n end : ℕ} (walkable : Walkable base f
 
     -- The step, whatever it does to the branch.
     walking-step : (at start other : ℕ)
-        → Branch (shown base follow work n end) p₀ y₀ n (w .pos + lengthAt base x) x (h .words ++ (x ∷ [])) at start other
+        → Branch (shown rows lengths work n end) p₀ y₀ n (w .pos + lengthAt lengths x) x (h .words ++ (x ∷ [])) at start other
         → (other < n → k + at ≤ start)
-        → Walking (shown base follow work n end) n p₀ y₀ k old (set new (k + w .count) x)
-        (record { count = w .count + 1; pos = w .pos + lengthAt base x; last = x; at = at; start = start; other = other })
+        → Walking (shown rows lengths work n end) n p₀ y₀ k old (set new (k + w .count) x)
+        (record { count = w .count + 1; pos = w .pos + lengthAt lengths x; last = x; at = at; start = start; other = other })
     walking-step at start other branch early = record {
       words = h .words ++ (x ∷ []);
       size = rw (length-append, h .size);
@@ -172,16 +172,16 @@ module _ {base follow work : List ℕ} {n end : ℕ} (walkable : Walkable base f
       early = early;
     }
 
-    branch-at : z < n → Branch (shown base follow work n end) p₀ y₀ n (w .pos + lengthAt base x) x (h .words ++ (x ∷ [])) (w .count) (w .pos) z
+    branch-at : z < n → Branch (shown rows lengths work n end) p₀ y₀ n (w .pos + lengthAt lengths x) x (h .words ++ (x ∷ [])) (w .count) (w .pos) z
     branch-at q = branch-new (walkable .sure .bounded) (h .walked) (h .size) lowest (sought-next (sure-tells (walkable .sure) (w .pos)) t q) q
 
-    branch-before : n ≤ z → Branch (shown base follow work n end) p₀ y₀ n (w .pos + lengthAt base x) x (h .words ++ (x ∷ [])) (w .at) (w .start) (w .other)
+    branch-before : n ≤ z → Branch (shown rows lengths work n end) p₀ y₀ n (w .pos + lengthAt lengths x) x (h .words ++ (x ∷ [])) (w .at) (w .start) (w .other)
     branch-before q = branch-kept (walkable .sure .bounded) (h .branch) lowest (sought-highest (sure-tells (walkable .sure) (w .pos)) t q)
 
     -- One step more, with the lowest word and the next above it as the search found them.
-    pub walking-on : Walking (shown base follow work n end) n p₀ y₀ k old (set new (k + w .count) x) (advanced w x (lengthAt base x) z n)
+    pub walking-on : Walking (shown rows lengths work n end) n p₀ y₀ k old (set new (k + w .count) x) (advanced w x (lengthAt lengths x) z n)
     walking-on = by (decLt z n)
       where
-        by : Dec (z < n) → Walking (shown base follow work n end) n p₀ y₀ k old (set new (k + w .count) x) (advanced w x (lengthAt base x) z n)
+        by : Dec (z < n) → Walking (shown rows lengths work n end) n p₀ y₀ k old (set new (k + w .count) x) (advanced w x (lengthAt lengths x) z n)
         by (yes q) = rw (lt-ltb z n q) (walking-step (w .count) (w .pos) z (branch-at q) (λ o. h .room))
         by (no q) = rw (le-ltb z n (omega arith)) (walking-step (w .at) (w .start) (w .other) (branch-before (omega arith)) (h .early))

@@ -1,7 +1,6 @@
 // Reading a message: whether no, one or several permitted sequences of words have it, and the first two of them.
 
-pub mod layout;
-mod marks;
+mod choices;
 mod walks;
 
 use code::Code;
@@ -9,36 +8,40 @@ use code::Message;
 use code::Reading;
 use code::Refusal;
 use code::Word;
-ghost use Prim.Native.Nat.{_^_, _≤_, _<_};
+use sets::Sets;
+ghost use mathlib.Core.Path.{_≡_};
+ghost use Prim.Native.Nat.{_+_, _^_, _≤_, _<_};
 ghost use lib.ListN.{length};
 ghost use Rattle.code.specs.Definitions.Sheets.{limits};
 ghost use Rattle.code.specs.Definitions.Operations.{HasHigh, ReadsMessage};
 ghost use Rattle.table.specs.Exactly.{Exactly};
 ghost use Rattle.table.specs.WellFormed.{WellFormed};
-ghost use Rattle.reading.specs.Marking.{Ready};
-ghost use Rattle.reading.specs.Core.{ReadsFlat};
+ghost use Rattle.sets.specs.Sets.{SetsOf};
+ghost use Rattle.reading.specs.Core.{ReadsSets};
 ghost use Rattle.reading.specs.Public.{Short, FindsAll};
 
-// Reads a message by a code that is laid out flat: the symbols of all words, where each of the `n` words begins, and the follow matrix. The marks
-// stand in the working buffer, which is cleared before and after.
+// Reads a message by the sets of a code's words, which may serve many messages. The marks stand in the working buffer, which need not be clear before and is
+// zero after.
 pub fn read_core(
-    symbols: &[u8],
-    base: &[usize],
-    follow: &[u8],
+    having: &[u64],
+    ends: &[u64],
+    rows: &[u64],
+    lengths: &[usize],
     n: usize,
+    longest: usize,
     message: &[u8],
     first: &mut [u8],
     second: &mut [u8],
     work: &mut [u64],
 ) -> Reading
-    requires { ⌜ Ready (now symbols) (now base) (now follow) n (now message) (now work)
-        × (length (now message) ≤ length (now first)) × (length (now message) ≤ length (now second)) ⌝ }
-    ensures { λ r. ⌜ ReadsFlat (now (symbols .entry)) (now (base .entry)) (now (follow .entry)) n (now (message .entry))
+    requires { ⌜ SetsOf (now having) (now ends) (now rows) (now lengths) n longest
+        × (length (now work) ≡ length (now message) + 1) × (length (now message) < 2 ^ 32) × (length (now message) ≤ length (now first))
+        × (length (now message) ≤ length (now second)) ⌝ }
+    ensures { λ r. ⌜ ReadsSets (now (having .entry)) (now (ends .entry)) (now (rows .entry)) (now (lengths .entry)) n longest (now (message .entry))
         (now (first .entry)) (now (second .entry)) (now (work .entry)) (now (first .exit)) (now (second .exit)) (now (work .exit)) r ⌝ }
 {
-    bits::clear(work);
-    marks::mark_all(symbols, base, follow, n, message, work);
-    let r = walks::first_readings(base, follow, n, message.len(), work, first, second);
+    marking::mark_all(having, ends, rows, longest, message, work);
+    let r = walks::first_readings(rows, lengths, n, message.len(), work, first, second);
     bits::clear(work);
     r
 }
@@ -56,18 +59,21 @@ pub fn find_readings(
     ensures { λ r. ⌜ FindsAll code (now (message .entry)) (now (first .entry)) (now (second .entry)) (now (work .entry))
         (now (first .exit)) (now (second .exit)) (now (work .exit)) r ⌝ }
 {
-    let mut symbols = [0u8; Code::SYMBOLS];
-    let mut base = [0usize; Code::WORDS + 1];
-    let mut follow = [0u8; Code::WORDS * Code::WORDS];
-    layout::lay(code, &mut symbols, &mut base, &mut follow);
-    // What the marks do not need is cleared once.
+    let mut having = [0u64; Sets::SYMBOLS];
+    let mut ends = [0u64; Word::SYMBOLS];
+    let mut rows = [0u64; Code::WORDS];
+    let mut lengths = [0usize; Code::WORDS];
+    let longest = sets::lay(code, &mut having, &mut ends, &mut rows, &mut lengths);
+    // Only the rest is cleared: the marks need no clear entries, and leave theirs zero.
     let used = message.len() + 1;
     bits::clear(&mut work[used..]);
     read_core(
-        &symbols,
-        &base,
-        &follow,
+        &having,
+        &ends,
+        &rows,
+        &lengths,
         code.count,
+        longest,
         message,
         first,
         second,

@@ -1,7 +1,7 @@
 // The readings that the marks show: the first, and from the last step where another word could be taken, the second.
 
-use crate::marks::continues;
-use crate::marks::seek;
+use crate::choices::continues;
+use crate::choices::seek;
 use code::Reading;
 use code::Refusal;
 use code::WordCount;
@@ -10,7 +10,7 @@ ghost use mathlib.Core.Path.{_≡_};
 ghost use Prim.Native.Nat.{_+_, _^_, _≤_, _<_};
 ghost use mathlib.Core.List.{_∷_, _++_};
 ghost use lib.ListN.{length, take, drop};
-ghost use Rattle.reading.specs.Text.{Can};
+ghost use Rattle.marking.specs.Text.{Can};
 ghost use Rattle.reading.specs.Shown.{shown};
 ghost use Rattle.reading.specs.Steps.{advanced, Walkable, Taken, Ended};
 ghost use Rattle.reading.specs.Answers.{Branched, Second, Answer};
@@ -53,8 +53,8 @@ fn advance(w: Walk, x: usize, len: usize, z: usize, n: usize) -> Walk
 
 // Writes the least reading from `pos` after `last` into `out`, from index `from` on.
 fn least_reading(
-    base: &[usize],
-    follow: &[u8],
+    rows: &[u64],
+    lengths: &[usize],
     n: usize,
     end: usize,
     work: &[u64],
@@ -63,9 +63,9 @@ fn least_reading(
     pos: usize,
     last: usize,
 ) -> Walk
-    requires { ⌜ Walkable (now base) (now follow) (now work) n end × Can (shown (now base) (now follow) (now work) n end) pos last
+    requires { ⌜ Walkable (now rows) (now lengths) (now work) n end × Can (shown (now rows) (now lengths) (now work) n end) pos last
         × (from ≤ pos) × (pos ≤ end) × (last ≤ n) × (end ≤ length (now out)) ⌝ }
-    ensures { λ r. ⌜ Ended (shown (now (base .entry)) (now (follow .entry)) (now (work .entry)) n end) n pos last from (now (out .entry)) (now (out .exit)) r ⌝ }
+    ensures { λ r. ⌜ Ended (shown (now (rows .entry)) (now (lengths .entry)) (now (work .entry)) n end) n pos last from (now (out .entry)) (now (out .exit)) r ⌝ }
 {
     let mut w = Walk {
         count: 0,
@@ -77,11 +77,11 @@ fn least_reading(
     };
     while w.pos < end {
         let here = w.pos;
-        let x = seek(follow, n, work, here, w.last, 0);
-        let z = seek(follow, n, work, here, w.last, x + 1);
+        let x = seek(rows, n, work, here, w.last, 0);
+        let z = seek(rows, n, work, here, w.last, x + 1);
         let i = from + w.count;
         out[i] = x as u8;
-        w = advance(w, x, base[x + 1] - base[x], z, n);
+        w = advance(w, x, lengths[x], z, n);
     }
     w
 }
@@ -97,8 +97,8 @@ fn copy_branch(first: &[u8], second: &mut [u8], at: usize, other: usize)
 
 // Writes into `second` the words of `first` before step `at` of the walk, the other word there, and the least reading after it. Gives how many words these are.
 fn second_reading(
-    base: &[usize],
-    follow: &[u8],
+    rows: &[u64],
+    lengths: &[usize],
     n: usize,
     end: usize,
     work: &[u64],
@@ -106,38 +106,38 @@ fn second_reading(
     second: &mut [u8],
     w: Walk,
 ) -> usize
-    requires { ⌜ Walkable (now base) (now follow) (now work) n end × Branched (shown (now base) (now follow) (now work) n end) n w
-        × Taken (now base) n end (w .start) (w .other) × (w .at ≤ length (now first)) × (end ≤ length (now second)) ⌝ }
-    ensures { λ r. ⌜ Second (shown (now (base .entry)) (now (follow .entry)) (now (work .entry)) n end) (now (first .entry)) (now (second .entry)) (now (second .exit)) w r ⌝ }
+    requires { ⌜ Walkable (now rows) (now lengths) (now work) n end × Branched (shown (now rows) (now lengths) (now work) n end) n w
+        × Taken (now lengths) n end (w .start) (w .other) × (w .at ≤ length (now first)) × (end ≤ length (now second)) ⌝ }
+    ensures { λ r. ⌜ Second (shown (now (rows .entry)) (now (lengths .entry)) (now (work .entry)) n end) (now (first .entry)) (now (second .entry)) (now (second .exit)) w r ⌝ }
 {
     let at = w.at;
     let other = w.other;
     copy_branch(first, second, at, other);
-    let after = w.start + (base[other + 1] - base[other]);
-    let v = least_reading(base, follow, n, end, work, second, at + 1, after, other);
+    let after = w.start + lengths[other];
+    let v = least_reading(rows, lengths, n, end, work, second, at + 1, after, other);
     at + 1 + v.count
 }
 
 // The first two readings that the marks show, as far as there are any.
 pub fn first_readings(
-    base: &[usize],
-    follow: &[u8],
+    rows: &[u64],
+    lengths: &[usize],
     n: usize,
     end: usize,
     work: &[u64],
     first: &mut [u8],
     second: &mut [u8],
 ) -> Reading
-    requires { ⌜ Walkable (now base) (now follow) (now work) n end × (end ≤ length (now first)) × (end ≤ length (now second)) ⌝ }
-    ensures { λ r. ⌜ Answer (shown (now (base .entry)) (now (follow .entry)) (now (work .entry)) n end) n
+    requires { ⌜ Walkable (now rows) (now lengths) (now work) n end × (end ≤ length (now first)) × (end ≤ length (now second)) ⌝ }
+    ensures { λ r. ⌜ Answer (shown (now (rows .entry)) (now (lengths .entry)) (now (work .entry)) n end) n
         (now (first .entry)) (now (second .entry)) (now (first .exit)) (now (second .exit)) r ⌝ }
 {
-    if continues(follow, n, end, work, 0, n) {
-        let w = least_reading(base, follow, n, end, work, first, 0, 0, n);
+    if continues(rows, n, end, work, 0, n) {
+        let w = least_reading(rows, lengths, n, end, work, first, 0, 0, n);
         if w.other == n {
             return Reading::One(WordCount(w.count));
         }
-        let count = second_reading(base, follow, n, end, work, first, second, w);
+        let count = second_reading(rows, lengths, n, end, work, first, second, w);
         return Reading::Two(WordCount(w.count), WordCount(count));
     }
     Reading::Refused(Refusal::NoReading)

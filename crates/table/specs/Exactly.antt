@@ -1,7 +1,7 @@
--- A Bool that says exactly whether something holds, and how two such Bools are joined: by `_&&_`, and along an index.
-use mathlib.Core.Path.{_≡_, refl}
-use mathlib.Core.Bool.{Bool, true, false, true≢false, false≢true, _&&_}
-use mathlib.Core.Logic.{_↔_}
+-- A Bool that says exactly whether something holds, and how two such Bools are joined: by `_&&_`, by `_||_`, and along an index.
+use mathlib.Core.Path.{_≡_, refl, sym, _∙_}
+use mathlib.Core.Bool.{Bool, true, false, true≢false, false≢true, _&&_, _||_}
+use mathlib.Core.Logic.{_↔_, _⊎_, inl, inr}
 use Prim.Native.Nat.{ℕ, _+_, _≤_, _<_}
 use native.Mathlib.Omega.{arith}
 use lib.Dec.{ltb, leb, eqb}
@@ -25,6 +25,30 @@ pub exactly-and : {a b : Bool} {P Q : Type 0} → Exactly a P → Exactly b Q �
 exactly-and {a = true} {b = true} t u = exactly-true (t .yes refl, u .yes refl)
 exactly-and {a = true} {b = false} t u = exactly-false (λ p. u .no refl (p .1))
 exactly-and {a = false} t u = exactly-false (λ p. t .no refl (p .0))
+
+pub exactly-or : {a b : Bool} {P Q : Type 0} → Exactly a P → Exactly b Q → Exactly (a || b) (P ⊎ Q)
+exactly-or {a = true} t u = exactly-true (inl (t .yes refl))
+exactly-or {a = false} {b = true} t u = exactly-true (inr (u .yes refl))
+exactly-or {a = false} {b = false} {P = P} {Q = Q} t u = exactly-false neither
+  where
+    neither : P ⊎ Q → ⊥
+    neither (inl p) = t .no refl p
+    neither (inr q) = u .no refl q
+
+-- Every Bool says whether it is true.
+pub exactly-itself : (r : Bool) → Exactly r (r ≡ true)
+exactly-itself r = record { yes = λ e. e; no = λ e f. false≢true (sym e ∙ f) }
+
+-- Where it holds, the Bool is true.
+pub exactly-on : {r : Bool} {P : Type 0} → Exactly r P → P → r ≡ true
+exactly-on {r = true} t p = refl
+exactly-on {r = false} t p = absurd (t .no refl p)
+
+-- Two Bools that say the same are equal.
+pub exactly-same : {r q : Bool} {P : Type 0} → Exactly r P → Exactly q P → r ≡ q
+exactly-same {r = true} t u = sym (exactly-on u (t .yes refl))
+exactly-same {r = false} {q = true} t u = absurd (t .no refl (u .yes refl))
+exactly-same {r = false} {q = false} t u = refl
 
 -- Tests of numbers
 

@@ -34,7 +34,7 @@ fn main() {
             bench.encode(name, &code, symbols);
         }
     }
-    for name in ["turkish-six", "largest-unbounded"] {
+    for name in ["turkish-six", "turkish-twelve", "largest-unbounded"] {
         let code = read_code(&sheets, name);
         for symbols in [20, Code::MAX_MESSAGE_SYMBOLS] {
             bench.read(name, &code, symbols);

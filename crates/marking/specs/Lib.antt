@@ -1,0 +1,5 @@
+pub mod Text
+pub mod Tails
+pub mod Message
+pub mod Steps
+pub mod Marks

@@ -1,0 +1,4 @@
+pub mod Sets
+pub mod Words
+pub mod Rows
+pub mod Laid
