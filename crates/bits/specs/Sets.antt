@@ -9,7 +9,7 @@ use lib.Bits.{bitAnd, bitOr, or-lt}
 use lib.ListN.{length, getD, set}
 use lib.Pow.{pow-lt}
 use Rattle.graph.specs.Cells.{on-set}
-use Rattle.table.specs.Exactly.{Exactly, exactly-iff, exactly-and, exactly-or, exactly-bit}
+use Rattle.table.specs.Exactly.{Exactly, exactly-iff, exactly-and, exactly-or, exactly-itself}
 use Rattle.bits.specs.Bits.{bitOf, bit-and, bit-or, bit-power}
 
 pub exactly-meet : (a b k : ℕ) {P Q : Type 0} → Exactly (bitOf a k) P → Exactly (bitOf b k) Q → Exactly (bitOf (bitAnd a b) k) (P × Q)
@@ -22,19 +22,22 @@ exactly-join a b k t u = rw (bit-or a b k) (exactly-or t u)
 abbrev pub putIn : List ℕ → ℕ → ℕ → List ℕ
 putIn list i x = set list i (bitOr (getD list i 0) (2 ^ x))
 
--- What entry a then has: what it had, and in entry i also x.
-pub put-bit : (list : List ℕ) (i x a k : ℕ) → i < length list
-    → Exactly (bitOf (getD (putIn list i x) a 0) k) ((bitOf (getD list a 0) k ≡ true) ⊎ ((a ≡ i) × (k ≡ x)))
-put-bit list i x a k h =
-    on-set list i (bitOr (getD list i 0) (2 ^ x)) h (λ b v. Exactly (bitOf v k) ((bitOf (getD list b 0) k ≡ true) ⊎ ((b ≡ i) × (k ≡ x)))) here other a
-  where
-    here : Exactly (bitOf (bitOr (getD list i 0) (2 ^ x)) k) ((bitOf (getD list i 0) k ≡ true) ⊎ ((i ≡ i) × (k ≡ x)))
-    here = exactly-join (getD list i 0) (2 ^ x) k (exactly-bit (bitOf (getD list i 0) k)) (exactly-iff ((λ e. (refl, e)), (λ p. p .1)) (bit-power x k))
+-- k was in entry a, or it is x and entry a is entry i.
+abbrev pub AfterPut : List ℕ → (i x a k : ℕ) → Type 0
+AfterPut list i x a k = (bitOf (getD list a 0) k ≡ true) ⊎ ((a ≡ i) × (k ≡ x))
 
-    other : (b : ℕ) → (b ≡ i → ⊥) → Exactly (bitOf (getD list b 0) k) ((bitOf (getD list b 0) k ≡ true) ⊎ ((b ≡ i) × (k ≡ x)))
-    other b ne = exactly-iff (inl, back) (exactly-bit (bitOf (getD list b 0) k))
+-- What an entry then has.
+pub put-bit : (list : List ℕ) (i x a k : ℕ) → i < length list → Exactly (bitOf (getD (putIn list i x) a 0) k) (AfterPut list i x a k)
+put-bit list i x a k h =
+    on-set list i (bitOr (getD list i 0) (2 ^ x)) h (λ b v. Exactly (bitOf v k) (AfterPut list i x b k)) here other a
+  where
+    here : Exactly (bitOf (bitOr (getD list i 0) (2 ^ x)) k) (AfterPut list i x i k)
+    here = exactly-join (getD list i 0) (2 ^ x) k (exactly-itself (bitOf (getD list i 0) k)) (exactly-iff ((λ e. (refl, e)), (λ p. p .1)) (bit-power x k))
+
+    other : (b : ℕ) → (b ≡ i → ⊥) → Exactly (bitOf (getD list b 0) k) (AfterPut list i x b k)
+    other b ne = exactly-iff (inl, back) (exactly-itself (bitOf (getD list b 0) k))
       where
-        back : (bitOf (getD list b 0) k ≡ true) ⊎ ((b ≡ i) × (k ≡ x)) → bitOf (getD list b 0) k ≡ true
+        back : AfterPut list i x b k → bitOf (getD list b 0) k ≡ true
         back (inl e) = e
         back (inr p) = absurd (ne (p .0))
 

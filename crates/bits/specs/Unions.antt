@@ -9,7 +9,7 @@ use native.Mathlib.Decide.{decLt, ℕ-discrete}
 use native.Mathlib.Omega.{arith}
 use lib.Bits.{bitOr}
 use lib.ListN.{length, getD}
-use Rattle.table.specs.Exactly.{Exactly, exactly-false, exactly-iff, exactly-bit}
+use Rattle.table.specs.Exactly.{Exactly, exactly-false, exactly-iff, exactly-itself}
 use Rattle.bits.specs.Bits.{bitOf, bit-none, bit-out, bit-below}
 use Rattle.bits.specs.Sets.{exactly-join}
 use Rattle.bits.specs.Lowest.{LowestOf, lowest-in, lowest-between}
@@ -32,7 +32,7 @@ union-none sets members = record { is = λ y. rw (bit-none y) (exactly-false (λ
 pub union-more : {sets : List ℕ} (members z : ℕ) {left r union : ℕ} → left ≡ members / 2 ^ z → LowestOf left r → UnionOf sets members z union
     → UnionOf sets members (z + r + 1) (bitOr union (getD sets (z + r) 0))
 union-more {sets} members z {left} {r} {union} e f u =
-    record { is = λ y. exactly-iff (up y, down y) (exactly-join union (getD sets (z + r) 0) y (u .is y) (exactly-bit (bitOf (getD sets (z + r) 0) y))) }
+    record { is = λ y. exactly-iff (up y, down y) (exactly-join union (getD sets (z + r) 0) y (u .is y) (exactly-itself (bitOf (getD sets (z + r) 0) y))) }
   where
     up : (y : ℕ) → Within sets members z y ⊎ (bitOf (getD sets (z + r) 0) y ≡ true) → Within sets members (z + r + 1) y
     up y (inl w) = record { from = w .from; below = omega (arith, w .below); member = w .member; has = w .has }

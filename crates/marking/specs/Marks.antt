@@ -11,7 +11,7 @@ use lib.ListN.{length, getD, set, replicate, length-set, List·getD-eq-default}
 use lib.Pow.{pow-pos}
 use lib.Seq.{getD-set-same}
 use Rattle.graph.specs.Cells.{on-set, zeros}
-use Rattle.table.specs.Exactly.{Exactly, exactly-true, exactly-false, exactly-iff, exactly-on, exactly-bit}
+use Rattle.table.specs.Exactly.{Exactly, exactly-true, exactly-false, exactly-iff, exactly-on, exactly-itself}
 use Rattle.bits.specs.Bits.{bitOf, width, bit-none, bit-all, bit-below}
 use Rattle.bits.specs.Sets.{exactly-meet, exactly-join}
 use Rattle.bits.specs.Unions.{Within, UnionOf}
@@ -65,7 +65,7 @@ module _ {having ends rows lengths : List ℕ} {n longest : ℕ} (m : List ℕ) 
             (exactly-meet (bitOr (getD tails (j + 1) 0) (bitAnd onward (getD ends j 0))) (havingAt having (getD m p 0) j) x
             (exactly-join (getD tails (j + 1) 0) (bitAnd onward (getD ends j 0)) x (t .is (j + 1) x k)
             (exactly-meet onward (getD ends j 0) x (g .is x k) (sets .ending j x k)))
-            (exactly-iff ((λ e. record { inside = inside; here = e }), (λ f. f .here)) (exactly-bit (bitOf (havingAt having (getD m p 0) j) x))))
+            (exactly-iff ((λ e. record { inside = inside; here = e }), (λ f. f .here)) (exactly-itself (bitOf (havingAt having (getD m p 0) j) x))))
 
         by : (j x : ℕ) → x < width → Dec (j < longest) → Exactly (bitOf (getD new j 0) x) (Tail K (Fits having m) p j x)
         by j x k (yes l) = rw (s .tails j l) (tail j x k)
@@ -131,6 +131,7 @@ pub record RightFor (having ends rows : List ℕ) (longest : ℕ) (m tails work 
   pub each : (lengths : List ℕ) (n : ℕ) → SetsOf having ends rows lengths n longest
       → Right (text having rows lengths n m) (Fits having m) n longest tails work onward p
 
+-- So are the marks of all positions.
 pub record MarksAll (having ends rows : List ℕ) (longest : ℕ) (m work : List ℕ) : Type 0 where
   pub each : (lengths : List ℕ) (n : ℕ) → SetsOf having ends rows lengths n longest → Marked (text having rows lengths n m) n work 0
 

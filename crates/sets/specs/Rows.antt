@@ -17,14 +17,18 @@ use Rattle.table.specs.Exactly.{Exactly, exactly-iff, exactly-same, exactly-eq}
 use Rattle.bits.specs.Bits.{bitOf, width, bit-digit}
 use Rattle.bits.specs.Sets.{exactly-join}
 
--- r has the start, which is n, if its digit is 1, and of the first y words those that the row has.
+-- k is the start, which is n, if its mark is 1, or one of the first y words and in the row.
+abbrev pub InRow : (row : Row) (start n y k : ℕ) → Type 0
+InRow row start n y k = ((k ≡ n) × (start ≡ 1)) ⊎ ((k < y) × (getD (row .entries) k 0 ≡ 1))
+
+-- r is the set of these.
 pub record RowSet (row : Row) (start n y r : ℕ) : Type 0 where
-  pub is : (k : ℕ) → Exactly (bitOf r k) (((k ≡ n) × (start ≡ 1)) ⊎ ((k < y) × (getD (row .entries) k 0 ≡ 1)))
+  pub is : (k : ℕ) → Exactly (bitOf r k) (InRow row start n y k)
 
 pub row-none : (row : Row) (start n : ℕ) → start < 2 → n < width → RowSet row start n 0 (start * 2 ^ n % 2 ^ width)
 row-none row start n d h = record { is = λ k. exactly-iff (inl, back k) (bit-digit start n k d h) }
   where
-    back : (k : ℕ) → ((k ≡ n) × (start ≡ 1)) ⊎ ((k < 0) × (getD (row .entries) k 0 ≡ 1)) → (k ≡ n) × (start ≡ 1)
+    back : (k : ℕ) → InRow row start n 0 k → (k ≡ n) × (start ≡ 1)
     back k (inl e) = e
     back k (inr p) = absurd (omega (arith, p .0))
 
@@ -32,16 +36,16 @@ pub row-more : {row : Row} {start n y r : ℕ} (e : ℕ) → e ≡ getD (row .en
     → RowSet row start n (y + 1) (bitOr r (e * 2 ^ y % 2 ^ width))
 row-more {row} {start} {n} {y} {r} e q h l s = record { is = λ k. exactly-iff (up k, down k) (exactly-join r (e * 2 ^ y % 2 ^ width) k (s .is k) (bit-digit e y k h l)) }
   where
-    up : (k : ℕ) → (((k ≡ n) × (start ≡ 1)) ⊎ ((k < y) × (getD (row .entries) k 0 ≡ 1))) ⊎ ((k ≡ y) × (e ≡ 1)) → ((k ≡ n) × (start ≡ 1)) ⊎ ((k < y + 1) × (getD (row .entries) k 0 ≡ 1))
+    up : (k : ℕ) → InRow row start n y k ⊎ ((k ≡ y) × (e ≡ 1)) → InRow row start n (y + 1) k
     up k (inl (inl a)) = inl a
     up k (inl (inr a)) = inr (omega (arith, a .0), a .1)
     up k (inr a) = inr (omega (arith, a .0), rw (a .0, ← q) (a .1))
 
-    down : (k : ℕ) → ((k ≡ n) × (start ≡ 1)) ⊎ ((k < y + 1) × (getD (row .entries) k 0 ≡ 1)) → (((k ≡ n) × (start ≡ 1)) ⊎ ((k < y) × (getD (row .entries) k 0 ≡ 1))) ⊎ ((k ≡ y) × (e ≡ 1))
+    down : (k : ℕ) → InRow row start n (y + 1) k → InRow row start n y k ⊎ ((k ≡ y) × (e ≡ 1))
     down k (inl a) = inl (inl a)
     down k (inr a) = by (ℕ-discrete k y)
       where
-        by : Dec (k ≡ y) → (((k ≡ n) × (start ≡ 1)) ⊎ ((k < y) × (getD (row .entries) k 0 ≡ 1))) ⊎ ((k ≡ y) × (e ≡ 1))
+        by : Dec (k ≡ y) → InRow row start n y k ⊎ ((k ≡ y) × (e ≡ 1))
         by (yes b) = inr (b, rw (q, ← b) (a .1))
         by (no b) = inl (inr (omega (arith, a .0), a .1))
 
@@ -49,14 +53,14 @@ module _ {row : Row} {start n r : ℕ} (s : RowSet row start n n r) where
   pub row-entry : (k : ℕ) → k < n → bitOf r k ≡ eqb (getD (row .entries) k 0) 1
   row-entry k h = exactly-same (exactly-iff (up, (λ e. inr (h, e))) (s .is k)) (exactly-eq (getD (row .entries) k 0) 1)
     where
-      up : ((k ≡ n) × (start ≡ 1)) ⊎ ((k < n) × (getD (row .entries) k 0 ≡ 1)) → getD (row .entries) k 0 ≡ 1
+      up : InRow row start n n k → getD (row .entries) k 0 ≡ 1
       up (inl e) = absurd (omega (arith, e .0))
       up (inr p) = p .1
 
   pub row-start : bitOf r n ≡ eqb start 1
   row-start = exactly-same (exactly-iff (up, (λ e. inl (refl, e))) (s .is n)) (exactly-eq start 1)
     where
-      up : ((n ≡ n) × (start ≡ 1)) ⊎ ((n < n) × (getD (row .entries) n 0 ≡ 1)) → start ≡ 1
+      up : InRow row start n n n → start ≡ 1
       up (inl e) = e .1
       up (inr p) = absurd (omega (arith, p .0))
 

@@ -60,7 +60,7 @@ pub record Shaped (rows lengths : List ℕ) (n : ℕ) : Type 0 where
   pub sized : n ≤ length lengths
   pub some : (x : ℕ) → x < n → 1 ≤ lengthAt lengths x
 
--- The lists serve words of at most `longest` symbols, and hold words that have rows.
+-- The lists serve words of at most `longest` symbols, and every word in `having` has a row.
 pub record Sized (having ends rows : List ℕ) (longest : ℕ) : Type 0 where
   pub least : 1 ≤ longest
   pub most : longest ≤ limits .symbols
@@ -68,7 +68,7 @@ pub record Sized (having ends rows : List ℕ) (longest : ℕ) : Type 0 where
   pub ended : longest ≤ length ends
   pub bound : (i : ℕ) → getD having i 0 < 2 ^ length rows
 
--- The lists are the sets of n words of these lengths, the greatest of which is `longest`.
+-- The lists are the sets of n words of these lengths, none above `longest`.
 pub record SetsOf (having ends rows lengths : List ℕ) (n longest : ℕ) : Type 0 where
   pub shaped : Shaped rows lengths n
   pub sized : Sized having ends rows longest

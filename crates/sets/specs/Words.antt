@@ -14,10 +14,10 @@ use Rattle.code.specs.declared.Word.{Word}
 use Rattle.code.specs.Definitions.Tables.{noWord}
 use Rattle.code.specs.Definitions.Sheets.{limits}
 use Rattle.graph.specs.Cells.{on-set, on-push, zeros}
-use Rattle.table.specs.Exactly.{Exactly, exactly-false, exactly-iff, exactly-on, exactly-bit}
+use Rattle.table.specs.Exactly.{Exactly, exactly-false, exactly-iff, exactly-on, exactly-itself}
 use Rattle.table.specs.WellFormed.{lenOf, WordFits}
 use Rattle.bits.specs.Bits.{bitOf, bit-none}
-use Rattle.bits.specs.Sets.{putIn, put-bit, put-bound}
+use Rattle.bits.specs.Sets.{putIn, AfterPut, put-bit, put-bound}
 use Rattle.sets.specs.Sets.{symbolSets, blockOf, lengthAt}
 
 -- Set i is that of one of the first j symbols of w.
@@ -26,16 +26,20 @@ pub record Own (w : Word) (j i : ℕ) : Type 0 where
   pub below : index < j
   pub place : i ≡ blockOf (getD (w .symbols) index 0) + index
 
+-- k was in set i, or it is word x and set i is that of one of its first j symbols.
+abbrev pub AfterSpread : (w : Word) (x j : ℕ) (old : List ℕ) (i k : ℕ) → Type 0
+AfterSpread w x j old i k = (bitOf (getD old i 0) k ≡ true) ⊎ (Own w j i × (k ≡ x))
+
 -- `new` is `old` with word x put into the sets of its first j symbols.
 pub record Spread (w : Word) (x j : ℕ) (old new : List ℕ) : Type 0 where
   pub long : length new ≡ length old
-  pub is : (i k : ℕ) → Exactly (bitOf (getD new i 0) k) ((bitOf (getD old i 0) k ≡ true) ⊎ (Own w j i × (k ≡ x)))
+  pub is : (i k : ℕ) → Exactly (bitOf (getD new i 0) k) (AfterSpread w x j old i k)
   pub bound : (n : ℕ) → x < n → ((i : ℕ) → getD old i 0 < 2 ^ n) → (i : ℕ) → getD new i 0 < 2 ^ n
 
 pub spread-none : (w : Word) (x : ℕ) (old : List ℕ) → Spread w x 0 old old
-spread-none w x old = record { long = refl; is = λ i k. exactly-iff (inl, down i k) (exactly-bit (bitOf (getD old i 0) k)); bound = λ n h b. b }
+spread-none w x old = record { long = refl; is = λ i k. exactly-iff (inl, down i k) (exactly-itself (bitOf (getD old i 0) k)); bound = λ n h b. b }
   where
-    down : (i k : ℕ) → (bitOf (getD old i 0) k ≡ true) ⊎ (Own w 0 i × (k ≡ x)) → bitOf (getD old i 0) k ≡ true
+    down : (i k : ℕ) → AfterSpread w x 0 old i k → bitOf (getD old i 0) k ≡ true
     down i k (inl e) = e
     down i k (inr o) = absurd (omega (arith, o .0 .below))
 
@@ -50,19 +54,19 @@ spread-more {w} {x} {j} {old} {new} a e h s = record {
   bound = λ n l b. put-bound new a x h l (s .bound n l b);
 }
   where
-    up : (i k : ℕ) → (bitOf (getD new i 0) k ≡ true) ⊎ ((i ≡ a) × (k ≡ x)) → (bitOf (getD old i 0) k ≡ true) ⊎ (Own w (j + 1) i × (k ≡ x))
+    up : (i k : ℕ) → AfterPut new a x i k → AfterSpread w x (j + 1) old i k
     up i k (inl o) = wider (s .is i k .yes o)
       where
-        wider : (bitOf (getD old i 0) k ≡ true) ⊎ (Own w j i × (k ≡ x)) → (bitOf (getD old i 0) k ≡ true) ⊎ (Own w (j + 1) i × (k ≡ x))
+        wider : AfterSpread w x j old i k → AfterSpread w x (j + 1) old i k
         wider (inl q) = inl q
         wider (inr q) = inr (own-more (q .0), q .1)
     up i k (inr q) = inr (record { index = j; below = omega arith; place = q .0 ∙ e }, q .1)
 
-    down : (i k : ℕ) → (bitOf (getD old i 0) k ≡ true) ⊎ (Own w (j + 1) i × (k ≡ x)) → (bitOf (getD new i 0) k ≡ true) ⊎ ((i ≡ a) × (k ≡ x))
+    down : (i k : ℕ) → AfterSpread w x (j + 1) old i k → AfterPut new a x i k
     down i k (inl q) = inl (exactly-on (s .is i k) (inl q))
     down i k (inr q) = by (ℕ-discrete (q .0 .index) j)
       where
-        by : Dec (q .0 .index ≡ j) → (bitOf (getD new i 0) k ≡ true) ⊎ ((i ≡ a) × (k ≡ x))
+        by : Dec (q .0 .index ≡ j) → AfterPut new a x i k
         by (yes f) = inr (q .0 .place ∙ rw f (sym e), q .1)
         by (no f) = inl (exactly-on (s .is i k) (inr (record { index = q .0 .index; below = omega (arith, q .0 .below); place = q .0 .place }, q .1)))
 
@@ -106,28 +110,28 @@ module _ {c : Code} {x longest more : ℕ} {having ends lengths new : List ℕ} 
   symbol-more : (i k : ℕ) → Exactly (bitOf (getD new i 0) k) (Has c (x + 1) i k)
   symbol-more i k = exactly-iff (up, down) (spread .is i k)
     where
-      up : (bitOf (getD having i 0) k ≡ true) ⊎ (Own (getD (c .words) x noWord) (lenOf c x) i × (k ≡ x)) → Has c (x + 1) i k
+      up : AfterSpread (getD (c .words) x noWord) x (lenOf c x) having i k → Has c (x + 1) i k
       up (inl e) = let h = laid .symbol i k .yes e in record { known = omega (arith, h .known); own = h .own }
       up (inr o) = record { known = omega (arith, o .1); own = rw (o .1) (o .0) }
 
-      down : Has c (x + 1) i k → (bitOf (getD having i 0) k ≡ true) ⊎ (Own (getD (c .words) x noWord) (lenOf c x) i × (k ≡ x))
+      down : Has c (x + 1) i k → AfterSpread (getD (c .words) x noWord) x (lenOf c x) having i k
       down h = by (ℕ-discrete k x)
         where
-          by : Dec (k ≡ x) → (bitOf (getD having i 0) k ≡ true) ⊎ (Own (getD (c .words) x noWord) (lenOf c x) i × (k ≡ x))
+          by : Dec (k ≡ x) → AfterSpread (getD (c .words) x noWord) x (lenOf c x) having i k
           by (yes e) = inr (rw e at (h .own), e)
           by (no n) = inl (exactly-on (laid .symbol i k) (record { known = omega (arith, h .known); own = h .own }))
 
   ending-more : (j k : ℕ) → Exactly (bitOf (getD (putIn ends (lenOf c x - 1) x) j 0) k) ((k < x + 1) × (lenOf c k ≡ j + 1))
   ending-more j k = exactly-iff (up, down) (put-bit ends (lenOf c x - 1) x j k (omega (arith, fits .short, fits .some known, laid .ends-long)))
     where
-      up : (bitOf (getD ends j 0) k ≡ true) ⊎ ((j ≡ lenOf c x - 1) × (k ≡ x)) → (k < x + 1) × (lenOf c k ≡ j + 1)
+      up : AfterPut ends (lenOf c x - 1) x j k → (k < x + 1) × (lenOf c k ≡ j + 1)
       up (inl e) = let h = laid .ending j k .yes e in (omega (arith, h .0), h .1)
       up (inr o) = (omega (arith, o .1), rw (o .1) (omega (arith, o .0, fits .some known)))
 
-      down : (k < x + 1) × (lenOf c k ≡ j + 1) → (bitOf (getD ends j 0) k ≡ true) ⊎ ((j ≡ lenOf c x - 1) × (k ≡ x))
+      down : (k < x + 1) × (lenOf c k ≡ j + 1) → AfterPut ends (lenOf c x - 1) x j k
       down h = by (ℕ-discrete k x)
         where
-          by : Dec (k ≡ x) → (bitOf (getD ends j 0) k ≡ true) ⊎ ((j ≡ lenOf c x - 1) × (k ≡ x))
+          by : Dec (k ≡ x) → AfterPut ends (lenOf c x - 1) x j k
           by (yes e) = let q : lenOf c x ≡ j + 1 = rw e at (h .1) in inr (omega arith, e)
           by (no n) = inl (exactly-on (laid .ending j k) (omega (arith, h .0), h .1))
 

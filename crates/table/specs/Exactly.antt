@@ -36,8 +36,8 @@ exactly-or {a = false} {b = false} {P = P} {Q = Q} t u = exactly-false neither
     neither (inr q) = u .no refl q
 
 -- Every Bool says whether it is true.
-pub exactly-bit : (r : Bool) → Exactly r (r ≡ true)
-exactly-bit r = record { yes = λ e. e; no = λ e f. false≢true (sym e ∙ f) }
+pub exactly-itself : (r : Bool) → Exactly r (r ≡ true)
+exactly-itself r = record { yes = λ e. e; no = λ e f. false≢true (sym e ∙ f) }
 
 -- Where it holds, the Bool is true.
 pub exactly-on : {r : Bool} {P : Type 0} → Exactly r P → P → r ≡ true
