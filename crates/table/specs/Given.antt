@@ -8,7 +8,7 @@ use native.Mathlib.Decide.{decLt}
 use lib.Dec.{ltb, eqb}
 use lib.ListN.{length, drop, getD, length-drop, List·getD-eq-default}
 use lib.Seq.{getD-drop}
-use borrow.Author.Tests.{lt-ltb, le-ltb, ltb-false, eqb-true, eqb-false}
+use borrow.Author.Tests.{lt-ltb, ltb-false, eqb-true, eqb-false}
 use Rattle.code.specs.declared.Word.{Word}
 use Rattle.code.specs.declared.Code.{Code}
 use Rattle.code.specs.declared.Limits.{Limits}
@@ -18,7 +18,7 @@ use Rattle.code.specs.Definitions.Sheets.{isDigit, valueOf, body, records, grid
 use Rattle.code.specs.Laws.Lists.{length-table, getD-table, getD-table-past, table-same, table-map, any-at, sum-past, or-neither}
 use Rattle.code.specs.Laws.Clean.{clean-body, records-some}
 use Rattle.code.specs.Laws.Fits.{Fits}
-use Rattle.code.specs.Laws.Records.{place-some, wide-at, width, bits}
+use Rattle.code.specs.Laws.Records.{place-some, wide-at, begins-past, width, bits}
 use Rattle.table.specs.WellFormed.{lenOf, CellsFit, WordFits, RowFits, WellFormed}
 use Rattle.table.specs.Accepts.{accepts}
 use Rattle.table.specs.Digits.{value-symbol, entryValue, first-digits}
@@ -91,15 +91,8 @@ module _ (l : Limits) (g : List (List (List ℕ))) where
           }
 
     -- the start marks
-    mark-unused : (x : ℕ) → length g ≤ x → beginsOf l g x ≡ 0
-    mark-unused x h = by-starts (hasStarts g)
-      where
-        by-starts : (t : Bool) → (if t then entryValue (startField (getD g x [])) else if ltb x (length g) then 1 else 0) ≡ 0
-        by-starts true = rw (nothing x h)
-        by-starts false = rw (le-ltb x (length g) h)
-
     mark-low : (x : ℕ) → Dec (x < length g) → beginsOf l g x < 2
-    mark-low x (no h) = omega (arith, mark-unused x (omega arith))
+    mark-low x (no h) = omega (arith, begins-past l g x (omega arith))
     mark-low x (yes h) = by-starts (hasStarts g) refl
       where
         by-starts : (t : Bool) → hasStarts g ≡ t → (if t then entryValue (startField (getD g x [])) else if ltb x (length g) then 1 else 0) < 2
@@ -107,7 +100,7 @@ module _ (l : Limits) (g : List (List (List ℕ))) where
         by-starts false e = rw (lt-ltb x (length g) h) (omega arith)
 
     marks-fit : CellsFit 2 (length g) (table (beginsOf l g) (l .words))
-    marks-fit = table-cells 2 (length g) (l .words) (beginsOf l g) (omega arith) (λ x. mark-low x (decLt x (length g))) mark-unused
+    marks-fit = table-cells 2 (length g) (l .words) (beginsOf l g) (omega arith) (λ x. mark-low x (decLt x (length g))) (begins-past l g)
 
   module _ (words : refused4 l g ≡ false) (digits : (k p : ℕ) → isDigit (getD (firstField (getD g k [])) p 48) ≡ true) (k : ℕ) where
     tests : k < length g → (eqb (wordLength (getD g k [])) 0 ≡ false) × (ltb (l .symbols) (wordLength (getD g k [])) ≡ false)

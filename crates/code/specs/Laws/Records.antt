@@ -4,12 +4,12 @@ use mathlib.Core.Bool.{Bool, true, false, not, _&&_, _||_, or-false}
 use mathlib.Core.List.{List, [], _∷_}
 use Prim.Native.Nat.{ℕ, _+_, _≤_, _<_}
 use native.Mathlib.Omega.{arith}
-use lib.Dec.{eqb}
-use lib.ListN.{length, getD}
-use borrow.Author.Tests.{eqb-true, not-false}
+use lib.Dec.{ltb, eqb}
+use lib.ListN.{length, getD, List·getD-eq-default}
+use borrow.Author.Tests.{le-ltb, eqb-true, not-false}
 use Rattle.code.specs.declared.Limits.{Limits}
 use Rattle.code.specs.Definitions.Lists.{any, if_then_else_}
-use Rattle.code.specs.Definitions.Sheets.{allWide, hasStarts, rowPlace, badEntry, badRow, startField}
+use Rattle.code.specs.Definitions.Sheets.{valueOf, allWide, hasStarts, rowPlace, badEntry, badRow, startField, beginsOf}
 use Rattle.code.specs.Laws.Lists.{any-at, any-none, every-at}
 use Rattle.code.specs.Laws.Fits.{Fits}
 
@@ -35,6 +35,14 @@ module _ (g : List (List (List ℕ))) where
       → length (getD g x []) ≡ length g + (if t then 2 else 1)
   by-starts true e s x h = wide-at (length g + 2) x s h
   by-starts false e s x h = wide-at (length g + 1) x (rw or-false at (not-false (allWide (length g + 1) g || false) e)) h
+
+-- Past the last record there is no start mark.
+pub begins-past : (l : Limits) (g : List (List (List ℕ))) (x : ℕ) → length g ≤ x → beginsOf l g x ≡ 0
+begins-past l g x h = by-test (hasStarts g)
+  where
+    by-test : (t : Bool) → (if t then valueOf (getD (startField (getD g x [])) 0 48) else if ltb x (length g) then 1 else 0) ≡ 0
+    by-test true = rw (List·getD-eq-default g [] {n = x} h)
+    by-test false = rw (le-ltb x (length g) h)
 
 module _ {l : Limits} {g : List (List (List ℕ))} (f : Fits l g) where
   -- the word, the start field if there is one, and a row entry for each record
