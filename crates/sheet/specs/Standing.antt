@@ -4,7 +4,6 @@ use mathlib.Core.Bool.{Bool, true, false, false≢true}
 use mathlib.Core.List.{List, [], _∷_, head-eq-of-cons-eq, tail-eq-of-cons-eq}
 use Prim.Native.Nat.{ℕ, suc, _+_, _*_, _-_, _≤_, _<_}
 use native.Mathlib.Numerals.{add-one}
-use native.Mathlib.Nat.{add-zero}
 use native.Mathlib.Omega.{arith}
 use native.Mathlib.Decide.{decLt, ℕ-discrete}
 use lib.Dec.{eqb, ltb}
@@ -13,7 +12,7 @@ use lib.Seq.{drop-cons, drop-drop, getD-drop}
 use borrow.Author.Tests.{ltb-false, lt-ltb}
 use Rattle.code.specs.declared.Row.{Row}
 use Rattle.code.specs.Definitions.Lists.{if_then_else_, any, table}
-use Rattle.code.specs.Definitions.Sheets.{limits, isDigit, valueOf, firstField, startField, wordLength, hasStarts, rowPlace, rowOf, beginsOf, badEntry, badRow, badWord}
+use Rattle.code.specs.Definitions.Sheets.{limits, isDigit, valueOf, firstField, wordLength, hasStarts, rowPlace, rowOf, beginsOf, badEntry, badRow, badWord}
 use Rattle.code.specs.Laws.Lists.{any-at, or-neither, table-same, getD-within}
 use Rattle.code.specs.Laws.Clean.{Clean, recordFields, recordFields-some}
 use Rattle.code.specs.Laws.Fits.{Fits}
@@ -64,7 +63,7 @@ row-from p q j same =
 
 -- the bytes of entries that stand from `at` on
 module _ (s : List ℕ) (at : ℕ) {r : List (List ℕ)} {g : List (List (List ℕ))} (e : Entries (drop at s) r g) (y : ℕ) (h : y < length r) where
-  pub entry-within : at + 2 * y < length s
+  entry-within : at + 2 * y < length s
   entry-within = omega (arith, e .long, length-drop at s)
 
   byte-at : getD (drop at s) (2 * y) 48 ≡ getD s (at + 2 * y) 0
