@@ -1,7 +1,9 @@
 pub mod Fields
 pub mod Front
 pub mod Survey
+pub mod Judging
 pub mod Passing
 pub mod Rows
+pub mod Standing
 pub mod Building
 pub mod Taking

@@ -16,7 +16,7 @@ use Rattle.sheet.specs.declared.survey.Survey.{Survey}
 use Rattle.sheet.specs.declared.survey.Cursor.{Cursor}
 use Rattle.sheet.specs.Fields.{leading}
 use Rattle.sheet.specs.Front.{field-last, field-comma, field-line}
-use Rattle.sheet.specs.Survey.{parts, entryBad, takeWord, takeEntry, takeSpan, takeField, endRecord, surveyFields, surveyRecords, start}
+use Rattle.sheet.specs.Survey.{parts, entryBad, takeWord, takeSecond, takeLater, takeSpan, takeField, endRecord, surveyFields, surveyRecords, start}
 
 -- the records from a position on; a position past the end is past the last record
 abbrev pub restOf : List ℕ → ℕ → List (List (List ℕ))
@@ -59,22 +59,27 @@ entry-zero n b h k = rw (h, k)
 pub entry-other : (n b : ℕ) → n ≡ 1 → (b ≡ 48 → ⊥) → not (eqb b 49) ≡ entryBad n b
 entry-other n b h k = rw (h, ne-eqb b 48 k)
 
--- a field counts for the word or for the row
+-- a field by its place in the record
 pub span-word : (v : Survey) (n b : ℕ) → v .fields ≡ 0 → takeWord v n ≡ takeSpan v n b
 unfolding takeSpan
-span-word v n b h = rw h
+span-word v n b h = rw (eq-eqb (v .fields) 0 h)
 
-pub span-entry : (v : Survey) (n b : ℕ) → (v .fields ≡ 0 → ⊥) → takeEntry v n b ≡ takeSpan v n b
+pub span-second : (v : Survey) (n b : ℕ) → v .fields ≡ 1 → takeSecond v n b ≡ takeSpan v n b
 unfolding takeSpan
-span-entry v n b h = rw (ne-eqb (v .fields) 0 h)
+span-second v n b h = rw (ne-eqb (v .fields) 0 (λ e. omega arith), eq-eqb (v .fields) 1 h)
+
+pub span-later : (v : Survey) (n b : ℕ) → (v .fields ≡ 0 → ⊥) → (v .fields ≡ 1 → ⊥) → takeLater v n b ≡ takeSpan v n b
+unfolding takeSpan
+span-later v n b h i = rw (ne-eqb (v .fields) 0 h, ne-eqb (v .fields) 1 i)
 
 -- the first record, and a later one
-pub end-first : (v : Survey) → v .records ≡ 0 → parts (v .records + 1) 0 (v .fields) (v .symbols) (v .badword) (v .badwidth) (v .badentry) ≡ endRecord v
+pub end-first : (v : Survey) → v .records ≡ 0 → parts (v .records + 1) 0 (v .fields) (v .symbols) (v .badword) (v .badwidth) (v .badsecond) (v .badlater) ≡ endRecord v
 unfolding endRecord
 end-first v h = rw (h, eq-eqb (v .fields) (v .fields) refl, or-false)
 
 pub end-later : (v : Survey) → (v .records ≡ 0 → ⊥)
-    → parts (v .records + 1) 0 (v .width) (v .symbols) (v .badword) (v .badwidth || not (eqb (v .fields) (v .width))) (v .badentry) ≡ endRecord v
+    → parts (v .records + 1) 0 (v .width) (v .symbols) (v .badword) (v .badwidth || not (eqb (v .fields) (v .width))) (v .badsecond) (v .badlater)
+    ≡ endRecord v
 unfolding endRecord
 end-later v h = rw (ne-eqb (v .records) 0 h)
 
@@ -84,13 +89,17 @@ record Counts (v w : Survey) (n : ℕ) : Type 0 where
   pub fields : w .fields ≤ v .fields + 1
   pub symbols : w .symbols ≤ v .symbols + n
 
-span-counts : (v : Survey) (n b : ℕ) (t : Bool) → eqb (v .fields) 0 ≡ t → Counts v (takeSpan v n b) n
+span-counts : (v : Survey) (n b : ℕ) (t u : Bool) → eqb (v .fields) 0 ≡ t → eqb (v .fields) 1 ≡ u → Counts v (takeSpan v n b) n
 unfolding takeSpan
-span-counts v n b true e = rw e record { records = refl; fields = omega arith; symbols = omega arith }
-span-counts v n b false e = rw e record { records = refl; fields = omega arith; symbols = omega arith }
+span-counts v n b true u e f = rw e record { records = refl; fields = omega arith; symbols = omega arith }
+span-counts v n b false true e f = rw (e, f) record { records = refl; fields = omega arith; symbols = omega arith }
+span-counts v n b false false e f = rw (e, f) record { records = refl; fields = omega arith; symbols = omega arith }
+
+counts : (v : Survey) (n b : ℕ) → Counts v (takeSpan v n b) n
+counts v n b = span-counts v n b (eqb (v .fields) 0) (eqb (v .fields) 1) refl refl
 
 pub span-records : (v w : Survey) (n b : ℕ) → w ≡ takeSpan v n b → w .records ≡ v .records
-span-records v w n b e = let k = span-counts v n b (eqb (v .fields) 0) refl in ap (λ (u : Survey). u .records) e ∙ k .records
+span-records v w n b e = let k = counts v n b in ap (λ (u : Survey). u .records) e ∙ k .records
 
 comma-rest : (v w : Survey) (f : List ℕ) (g : List (List (List ℕ))) → w ≡ takeField v f → g ≡ getD g 0 [] ∷ drop 1 g
     → surveyRecords w g ≡ surveyRecords v ((f ∷ getD g 0 []) ∷ drop 1 g)
@@ -117,7 +126,7 @@ module _ (s : List ℕ) (c : Cursor) (e : ℕ) (v : Survey) (clean : Clean (drop
       taken ∙ rw n (span-field (c .survey) s (c .at))
 
   counted : Counts (c .survey) v (e - c .at)
-  counted = rw taken (span-counts (c .survey) (e - c .at) (getD s (c .at) 0) (eqb (c .survey .fields) 0) refl)
+  counted = rw taken (counts (c .survey) (e - c .at) (getD s (c .at) 0))
 
   line-bounded : Bounded (record { survey = endRecord v; at = e + 2 })
   unfolding endRecord

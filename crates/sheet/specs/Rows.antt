@@ -4,7 +4,8 @@ use mathlib.Core.Bool.{true, false, _||_, true≢false}
 use mathlib.Core.List.{List, [], _∷_, nil≢cons, head-eq-of-cons-eq, tail-eq-of-cons-eq}
 use Prim.Native.Nat.{ℕ, zero, suc, _+_, _*_, _-_, _≤_, _<_}
 use native.Mathlib.Omega.{arith}
-use lib.ListN.{length, drop, getD}
+use lib.ListN.{length, drop, getD, length-drop}
+use lib.Seq.{getD-drop, drop-drop}
 use borrow.Author.Tests.{ne-eqb}
 use Rattle.code.specs.Definitions.Lists.{any}
 use Rattle.code.specs.Definitions.Sheets.{isDigit, badEntry, records, fields}
@@ -130,3 +131,18 @@ pub row-entries : (r : List (List ℕ)) (t : List ℕ) (g : List (List (List ℕ
     → Entries t r g
 row-entries [] t g c e h o = absurd (omega arith)
 row-entries (f ∷ r) t g c e h o = entries-on r f t g c e o
+
+-- The entries after the first stand two bytes further.
+pub entries-rest : (t : List ℕ) (f : List ℕ) (r : List (List ℕ)) (g : List (List (List ℕ))) → Entries t (f ∷ r) g → 1 ≤ length r → Entries (drop 2 t) r g
+entries-rest t f r g e h = record {
+  bytes = λ y l. rw (at y) (e .bytes (suc y) (omega arith));
+  digits = λ y l. rw (at y) (e .digits (suc y) (omega arith));
+  long = omega (arith, e .long, length-drop 2 t);
+  after = rw gone (e .after);
+}
+  where
+    at : (y : ℕ) → getD (drop 2 t) (2 * y) 48 ≡ getD t (2 * suc y) 48
+    at y = let two : 2 + 2 * y ≡ 2 * suc y = omega arith in getD-drop 2 t (2 * y) 48 ∙ rw two
+
+    gone : drop (2 * length r - 1) (drop 2 t) ≡ drop (2 * suc (length r) - 1) t
+    gone = let two : 2 + (2 * length r - 1) ≡ 2 * suc (length r) - 1 = omega arith in drop-drop (2 * length r - 1) 2 t ∙ rw two

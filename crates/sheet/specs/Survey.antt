@@ -1,44 +1,47 @@
--- A survey of the records, field by field, and that its counts and flags are the refusals 3 to 7.
-use mathlib.Core.Path.{_≡_, refl, ap, ap₂, _∙_}
-use mathlib.Core.Bool.{Bool, true, false, not, _&&_, _||_, or-false, or-true, or-assoc}
+-- A survey of the records, field by field: what it counts and flags, and what it answers.
+use mathlib.Core.Path.{_≡_, refl, ap₂, _∙_}
+use mathlib.Core.Bool.{Bool, false, not, _&&_, _||_, or-false, or-assoc}
 use mathlib.Core.List.{List, [], _∷_, map}
-use Prim.Native.Nat.{ℕ, suc, _+_, _≤_}
+use Prim.Native.Nat.{ℕ, suc, _+_}
 use native.Mathlib.Nat.{add-zero}
 use native.Mathlib.Omega.{arith}
 use lib.Dec.{ltb, eqb}
-use lib.ListN.{length, getD}
-use borrow.Author.Tests.{ne-eqb, eqb-true, eq-eqb}
+use lib.ListN.{length, take, drop, getD}
+use borrow.Author.Tests.{ne-eqb, eq-eqb}
 use Rattle.code.specs.declared.SheetAnswer.{SheetAnswer}
 use Rattle.code.specs.declared.SheetAnswer.the-variants.{Accepted, Refused}
-use Rattle.code.specs.declared.Refusal.the-variants.{RecordCount, WordLength, CodeLength, FieldCount, RowEntry}
-use Rattle.code.specs.declared.Taken.{Taken}
+use Rattle.code.specs.declared.Refusal.{Refusal}
+use Rattle.code.specs.declared.Refusal.the-variants.{RecordCount, WordLength, CodeLength, FieldCount, RowEntry, StartField}
 use Rattle.code.specs.Definitions.Lists.{if_then_else_, any, sum}
-use Rattle.code.specs.Definitions.Sheets.{limits, fields, badEntry, badRow, badWord, wordLength, refused6, takenGrid, refusedBy, codeOf}
+use Rattle.code.specs.Definitions.Sheets.{limits, badEntry, badRow, badWord, wordLength}
 use Rattle.sheet.specs.declared.survey.Survey.{Survey}
 
--- a survey by its parts: records, fields, width, symbols, and the flags of refusals 4, 6 and 7
-abbrev pub parts : ℕ → ℕ → ℕ → ℕ → Bool → Bool → Bool → Survey
-parts n k w y a b c = record { records = n; fields = k; width = w; symbols = y; badword = a; badwidth = b; badentry = c }
+-- a survey by its parts: records, fields, width, symbols, and the flags for words, widths, second and later fields
+abbrev pub parts : ℕ → ℕ → ℕ → ℕ → Bool → Bool → Bool → Bool → Survey
+parts n k w y a b c d = record { records = n; fields = k; width = w; symbols = y; badword = a; badwidth = b; badsecond = c; badlater = d }
 
 abbrev pub start : Survey
-start = parts 0 0 0 0 false false false
+start = parts 0 0 0 0 false false false false
 
--- the first field of a record is its word, every other an entry of its row
+-- the first field of a record is its word
 -- (n digits, of which the first is the byte b)
 abbrev pub wordBad : ℕ → Bool
 wordBad n = eqb n 0 || ltb 16 n
 
 abbrev pub takeWord : Survey → ℕ → Survey
-takeWord v n = parts (v .records) 1 (v .width) (v .symbols + n) (v .badword || wordBad n) (v .badwidth) (v .badentry)
+takeWord v n = parts (v .records) (v .fields + 1) (v .width) (v .symbols + n) (v .badword || wordBad n) (v .badwidth) (v .badsecond) (v .badlater)
 
 abbrev pub entryBad : ℕ → ℕ → Bool
 entryBad n b = not (eqb n 1 && (eqb b 48 || eqb b 49))
 
-abbrev pub takeEntry : Survey → ℕ → ℕ → Survey
-takeEntry v n b = parts (v .records) (v .fields + 1) (v .width) (v .symbols) (v .badword) (v .badwidth) (v .badentry || entryBad n b)
+abbrev pub takeSecond : Survey → ℕ → ℕ → Survey
+takeSecond v n b = parts (v .records) (v .fields + 1) (v .width) (v .symbols) (v .badword) (v .badwidth) (v .badsecond || entryBad n b) (v .badlater)
+
+abbrev pub takeLater : Survey → ℕ → ℕ → Survey
+takeLater v n b = parts (v .records) (v .fields + 1) (v .width) (v .symbols) (v .badword) (v .badwidth) (v .badsecond) (v .badlater || entryBad n b)
 
 unfoldable pub takeSpan : Survey → ℕ → ℕ → Survey
-takeSpan v n b = if eqb (v .fields) 0 then takeWord v n else takeEntry v n b
+takeSpan v n b = if eqb (v .fields) 0 then takeWord v n else if eqb (v .fields) 1 then takeSecond v n b else takeLater v n b
 
 abbrev pub takeField : Survey → List ℕ → Survey
 takeField v f = takeSpan v (length f) (getD f 0 0)
@@ -48,7 +51,8 @@ abbrev pub widthOf : Survey → ℕ
 widthOf v = if eqb (v .records) 0 then v .fields else v .width
 
 unfoldable pub endRecord : Survey → Survey
-endRecord v = parts (v .records + 1) 0 (widthOf v) (v .symbols) (v .badword) (v .badwidth || not (eqb (v .fields) (widthOf v))) (v .badentry)
+endRecord v =
+    parts (v .records + 1) 0 (widthOf v) (v .symbols) (v .badword) (v .badwidth || not (eqb (v .fields) (widthOf v))) (v .badsecond) (v .badlater)
 
 unfoldable pub surveyFields : Survey → List (List ℕ) → Survey
 surveyFields v [] = v
@@ -58,38 +62,57 @@ unfoldable pub surveyRecords : Survey → List (List (List ℕ)) → Survey
 surveyRecords v [] = v
 surveyRecords v (r ∷ g) = surveyRecords (endRecord (surveyFields v r)) g
 
--- what the survey says of the sheet: the refusals 3 to 7 in turn
-abbrev pub answerBy : Bool → Bool → Bool → Bool → Bool → SheetAnswer
-answerBy a b c d e =
-    if a then Refused RecordCount else
-    if b then Refused WordLength else
-    if c then Refused CodeLength else
-    if d then Refused FieldCount else
-    if e then Refused RowEntry else
-    Accepted
+-- whether the sheet has start fields
+abbrev pub marked : Survey → Bool
+marked v = not (v .badwidth) && eqb (v .width) (v .records + 2)
 
-abbrev pub answerOf : Survey → SheetAnswer
-answerOf v = answerBy (ltb 32 (v .records)) (v .badword) (ltb 128 (v .symbols)) (v .badwidth || not (eqb (v .width) (v .records + 1))) (v .badentry)
+-- what the survey says of the sheet: the refusals in turn
+abbrev pub inTurn : Bool → Refusal → SheetAnswer → SheetAnswer
+inTurn t r a = if t then Refused r else a
 
--- One record: its word first, then its entries.
-entries : (n k w y : ℕ) (a b c : Bool) (r : List (List ℕ))
-    → surveyFields (parts n (k + 1) w y a b c) r ≡ parts n (k + 1 + length r) w y a b (c || any badEntry r)
+abbrev pub answerMarked : Survey → SheetAnswer
+answerMarked v = inTurn (v .badlater) RowEntry (inTurn (v .badsecond) StartField Accepted)
+
+abbrev pub answerPlain : Survey → SheetAnswer
+answerPlain v = inTurn (v .badwidth || not (eqb (v .width) (v .records + 1))) FieldCount (inTurn (v .badsecond || v .badlater) RowEntry Accepted)
+
+abbrev pub answerOf : Survey → Bool → SheetAnswer
+answerOf v starts =
+    inTurn (ltb 32 (v .records)) RecordCount
+    (inTurn (v .badword) WordLength
+    (inTurn (ltb 128 (v .symbols)) CodeLength
+    (if starts then answerMarked v else answerPlain v)))
+
+-- One record: its word first, then the second field, then the others.
+laters : (n k w y : ℕ) (a b c d : Bool) (r : List (List ℕ))
+    → surveyFields (parts n (k + 2) w y a b c d) r ≡ parts n (k + 2 + length r) w y a b c (d || any badEntry r)
 unfolding surveyFields takeSpan any
-entries n k w y a b c [] = rw (add-zero (k + 1), or-false)
-entries n k w y a b c (f ∷ r) =
-    rw (ne-eqb (k + 1) 0 (λ e. omega arith))
-    (entries n (k + 1) w y a b (c || badEntry f) r
-    ∙ ap₂ (λ (m : ℕ) (t : Bool). parts n m w y a b t) (omega arith) (or-assoc c (badEntry f) (any badEntry r)))
+laters n k w y a b c d [] = rw (add-zero (k + 2), or-false)
+laters n k w y a b c d (f ∷ r) =
+    let next : k + 2 + 1 ≡ k + 1 + 2 = omega arith in
+    rw (ne-eqb (k + 2) 0 (λ e. omega arith), ne-eqb (k + 2) 1 (λ e. omega arith), next)
+    (laters n (k + 1) w y a b c (d || badEntry f) r
+    ∙ ap₂ (λ (m : ℕ) (t : Bool). parts n m w y a b c t) (omega arith) (or-assoc d (badEntry f) (any badEntry r)))
 
-one : (n w y : ℕ) (a b c : Bool) (f : List ℕ) (r : List (List ℕ))
-    → surveyFields (parts n 0 w y a b c) (f ∷ r) ≡ parts n (suc (length r)) w (y + length f) (a || badWord limits (f ∷ r)) b (c || badRow (f ∷ r))
+seconds : (n w y : ℕ) (a b c d : Bool) (r : List (List ℕ))
+    → surveyFields (parts n 1 w y a b c d) r ≡ parts n (suc (length r)) w y a b (c || any badEntry (take 1 r)) (d || any badEntry (drop 1 r))
+unfolding surveyFields takeSpan any
+seconds n w y a b c d [] = rw (or-false, or-false)
+seconds n w y a b c d (f ∷ r) =
+    laters n 0 w y a b (c || badEntry f) d r
+    ∙ ap₂ (λ (m : ℕ) (t : Bool). parts n m w y a b t (d || any badEntry r)) (omega arith) (rw or-false)
+
+abbrev pub badSecond : List (List ℕ) → Bool
+badSecond r = any badEntry (take 1 (drop 1 r))
+
+one : (n w y : ℕ) (a b c d : Bool) (f : List ℕ) (r : List (List ℕ))
+    → surveyFields (parts n 0 w y a b c d) (f ∷ r)
+    ≡ parts n (suc (length r)) w (y + length f) (a || badWord limits (f ∷ r)) b (c || badSecond (f ∷ r)) (d || badRow 2 (f ∷ r))
 unfolding surveyFields takeSpan
-one n w y a b c f r =
-    entries n 0 w (y + length f) (a || badWord limits (f ∷ r)) b c r
-    ∙ ap (λ (m : ℕ). parts n m w (y + length f) (a || badWord limits (f ∷ r)) b (c || badRow (f ∷ r))) (omega arith)
+one n w y a b c d f r = seconds n w (y + length f) (a || badWord limits (f ∷ r)) b c d r
 
 -- Records after the first: each is held to the first one's width.
-abbrev otherWidth : ℕ → List (List ℕ) → Bool
+abbrev pub otherWidth : ℕ → List (List ℕ) → Bool
 otherWidth w r = not (eqb (length r) w)
 
 -- a record has a first field
@@ -97,81 +120,36 @@ pub data Rows : List (List (List ℕ)) → Type 0 where
   no-row : Rows []
   row : {f : List ℕ} {r : List (List ℕ)} {g : List (List (List ℕ))} → Rows g → Rows ((f ∷ r) ∷ g)
 
-parts-same : (w : ℕ) {m n y z : ℕ} {a b c d e f : Bool} → m ≡ n → y ≡ z → a ≡ b → c ≡ d → e ≡ f → parts m 0 w y a c e ≡ parts n 0 w z b d f
-parts-same w p q r s t = rw (p, q, r, s, t)
+-- the survey of g behind n records of width w, of which the others amount to y, a, b, c and d
+abbrev pub surveyed : (n w y : ℕ) (a b c d : Bool) → List (List (List ℕ)) → Survey
+surveyed n w y a b c d g =
+    parts (n + length g) 0 w (y + sum (map wordLength g)) (a || any (badWord limits) g) (b || any (otherWidth w) g) (c || any badSecond g) (d || any (badRow 2) g)
 
-later-on : (n w y : ℕ) (a b c : Bool) (f : List ℕ) (r : List (List ℕ)) (g : List (List (List ℕ)))
-    → ((n y : ℕ) (a b c : Bool) → surveyRecords (parts (n + 1) 0 w y a b c) g
-    ≡ parts (n + 1 + length g) 0 w (y + sum (map wordLength g)) (a || any (badWord limits) g) (b || any (otherWidth w) g) (c || any badRow g))
-    → surveyRecords (parts (n + 1) 0 w y a b c) ((f ∷ r) ∷ g)
-    ≡ parts (n + 1 + suc (length g)) 0 w (y + sum (map wordLength ((f ∷ r) ∷ g))) (a || any (badWord limits) ((f ∷ r) ∷ g))
-    (b || any (otherWidth w) ((f ∷ r) ∷ g)) (c || any badRow ((f ∷ r) ∷ g))
+parts-same : (w : ℕ) {m n y z : ℕ} {a b c d e f h i : Bool} → m ≡ n → y ≡ z → a ≡ b → c ≡ d → e ≡ f → h ≡ i → parts m 0 w y a c e h ≡ parts n 0 w z b d f i
+parts-same w p q r s t u = rw (p, q, r, s, t, u)
+
+later-on : (n w y : ℕ) (a b c d : Bool) (f : List ℕ) (r : List (List ℕ)) (g : List (List (List ℕ)))
+    → ((n y : ℕ) (a b c d : Bool) → surveyRecords (parts (n + 1) 0 w y a b c d) g ≡ surveyed (n + 1) w y a b c d g)
+    → surveyRecords (parts (n + 1) 0 w y a b c d) ((f ∷ r) ∷ g) ≡ surveyed (n + 1) w y a b c d ((f ∷ r) ∷ g)
 unfolding surveyRecords endRecord any sum
-later-on n w y a b c f r g ih =
-    rw (one (n + 1) w y a b c f r, ne-eqb (n + 1) 0 (λ e. omega arith))
-    (ih (n + 1) (y + length f) (a || badWord limits (f ∷ r)) (b || otherWidth w (f ∷ r)) (c || badRow (f ∷ r))
+later-on n w y a b c d f r g ih =
+    rw (one (n + 1) w y a b c d f r, ne-eqb (n + 1) 0 (λ e. omega arith))
+    (ih (n + 1) (y + length f) (a || badWord limits (f ∷ r)) (b || otherWidth w (f ∷ r)) (c || badSecond (f ∷ r)) (d || badRow 2 (f ∷ r))
     ∙ parts-same w (omega arith) (omega arith) (or-assoc a (badWord limits (f ∷ r)) (any (badWord limits) g))
-    (or-assoc b (otherWidth w (f ∷ r)) (any (otherWidth w) g)) (or-assoc c (badRow (f ∷ r)) (any badRow g)))
+    (or-assoc b (otherWidth w (f ∷ r)) (any (otherWidth w) g)) (or-assoc c (badSecond (f ∷ r)) (any badSecond g))
+    (or-assoc d (badRow 2 (f ∷ r)) (any (badRow 2) g)))
 
-later : (w : ℕ) {g : List (List (List ℕ))} → Rows g → (n y : ℕ) (a b c : Bool) → surveyRecords (parts (n + 1) 0 w y a b c) g
-    ≡ parts (n + 1 + length g) 0 w (y + sum (map wordLength g)) (a || any (badWord limits) g) (b || any (otherWidth w) g) (c || any badRow g)
+later : (w : ℕ) {g : List (List (List ℕ))} → Rows g → (n y : ℕ) (a b c d : Bool)
+    → surveyRecords (parts (n + 1) 0 w y a b c d) g ≡ surveyed (n + 1) w y a b c d g
 unfolding surveyRecords any sum
-later w no-row n y a b c = rw (add-zero (n + 1), add-zero y, or-false, or-false, or-false)
-later w (row {f} {r} {g} rs) n y a b c = later-on n w y a b c f r g (later w rs)
+later w no-row n y a b c d = rw (add-zero (n + 1), add-zero y, or-false, or-false, or-false, or-false)
+later w (row {f} {r} {g} rs) n y a b c d = later-on n w y a b c d f r g (later w rs)
 
--- The first record gives the width; the flags then are the refusals.
-first : (f : List ℕ) (r : List (List ℕ)) {g : List (List (List ℕ))} → Rows g → surveyRecords start ((f ∷ r) ∷ g)
-    ≡ parts (suc (length g)) 0 (suc (length r)) (sum (map wordLength ((f ∷ r) ∷ g))) (any (badWord limits) ((f ∷ r) ∷ g))
-    (any (otherWidth (suc (length r))) g) (any badRow ((f ∷ r) ∷ g))
-unfolding surveyRecords endRecord any sum
+-- The first record gives the width.
+pub first : (f : List ℕ) (r : List (List ℕ)) {g : List (List (List ℕ))} → Rows g → surveyRecords start ((f ∷ r) ∷ g)
+    ≡ surveyed 1 (suc (length r)) (length f) (badWord limits (f ∷ r)) false (badSecond (f ∷ r)) (badRow 2 (f ∷ r)) g
+unfolding surveyRecords endRecord
 first f r {g} rs =
-    rw (one 0 0 0 false false false f r, eq-eqb (suc (length r)) (suc (length r)) refl)
-    (later (suc (length r)) rs 0 (0 + length f) (badWord limits (f ∷ r)) false (badRow (f ∷ r))
-    ∙ parts-same (suc (length r)) (omega arith) (omega arith) refl refl refl)
-
-widths : (w m : ℕ) (g : List (List (List ℕ))) (t : Bool) → eqb w m ≡ t
-    → any (otherWidth w) g || not (eqb w m) ≡ not (eqb w m) || any (otherWidth m) g
-widths w m g true e = rw (eqb-true w m e, eq-eqb m m refl, or-false)
-widths w m g false e = rw (e, or-true)
-
--- The answer with its table.
-abbrev pub resultOf : SheetAnswer → List (List (List ℕ)) → Taken
-resultOf Accepted g = record { answer = Accepted; code = codeOf limits g }
-resultOf (Refused r) g = refusedBy limits r
-
-chain : (a b c d e : Bool) (g : List (List (List ℕ)))
-    → (if a then refusedBy limits RecordCount else if b then refusedBy limits WordLength else if c then refusedBy limits CodeLength else
-    if d then refusedBy limits FieldCount else if e then refusedBy limits RowEntry else record { answer = Accepted; code = codeOf limits g })
-    ≡ resultOf (answerBy a b c d e) g
-chain true b c d e g = refl
-chain false true c d e g = refl
-chain false false true d e g = refl
-chain false false false true e g = refl
-chain false false false false true g = refl
-chain false false false false false g = refl
-
--- What the survey of all records says.
-pub record Flags (g : List (List (List ℕ))) (v : Survey) : Type 0 where
-  pub records : v .records ≡ length g
-  pub symbols : v .symbols ≡ sum (map wordLength g)
-  pub word : v .badword ≡ any (badWord limits) g
-  pub width : v .badwidth || not (eqb (v .width) (v .records + 1)) ≡ refused6 g
-  pub entry : v .badentry ≡ any badRow g
-
-flags : (f : List ℕ) (r : List (List ℕ)) {g : List (List (List ℕ))} → Rows g → Flags ((f ∷ r) ∷ g) (surveyRecords start ((f ∷ r) ∷ g))
-unfolding any
-flags f r {g} rs =
-    let w : ℕ = suc (length r) in
-    let m : ℕ = suc (length g) + 1 in
-    rw (first f r rs) record { records = refl; symbols = refl; word = refl; width = widths w m g (eqb w m) refl; entry = refl }
-
-pub survey-flags : {g : List (List (List ℕ))} → Rows g → 1 ≤ length g → Flags g (surveyRecords start g)
-survey-flags no-row h = absurd (omega arith)
-survey-flags (row {f} {r} rs) h = flags f r rs
-
--- The survey's answer is the definition's.
-pub survey-answers : (g : List (List (List ℕ))) (v : Survey) → Flags g v → takenGrid limits g ≡ resultOf (answerOf v) g
-unfolding takenGrid
-survey-answers g v f =
-    rw (f .width, f .records, f .symbols, f .word, f .entry)
-    (chain (ltb 32 (length g)) (any (badWord limits) g) (ltb 128 (sum (map wordLength g))) (refused6 g) (any badRow g) g)
+    rw (one 0 0 0 false false false false f r, eq-eqb (suc (length r)) (suc (length r)) refl)
+    (later (suc (length r)) rs 0 (0 + length f) (badWord limits (f ∷ r)) false (badSecond (f ∷ r)) (badRow 2 (f ∷ r))
+    ∙ parts-same (suc (length r)) refl (omega arith) refl refl refl refl)

@@ -1,21 +1,22 @@
 -- Taking in a sheet: what the survey says of its records, and one lemma for each way out.
-use mathlib.Core.Path.{_≡_, refl, sym, ap, _∙_}
-use mathlib.Core.Bool.{Bool, true, false, not, _||_}
+use mathlib.Core.Path.{_≡_, sym, ap, _∙_}
+use mathlib.Core.Bool.{Bool, true, false}
 use mathlib.Core.List.{List, [], _∷_, map}
-use Prim.Native.Nat.{ℕ, _+_, _≤_, _<_}
+use Prim.Native.Nat.{ℕ, _≤_, _<_}
 use native.Mathlib.Omega.{arith}
-use lib.Dec.{ltb, eqb}
 use lib.ListN.{length}
-use borrow.Author.Tests.{ne-eqb, lt-ltb, le-ltb, ltb-false}
+use borrow.Author.Tests.{ne-eqb, lt-ltb, le-ltb}
 use Rattle.code.specs.declared.SheetAnswer.{SheetAnswer}
 use Rattle.code.specs.declared.SheetAnswer.the-variants.{Accepted, Refused}
 use Rattle.code.specs.declared.Refusal.{Refusal}
 use Rattle.code.specs.declared.Refusal.the-variants.{SheetLength, SheetBytes}
-use Rattle.code.specs.Definitions.Sheets.{limits, records, fields, grid, body, badBytes, codeOf, refusedBy, taken, takenGrid}
+use Rattle.code.specs.declared.Taken.{Taken}
+use Rattle.code.specs.Definitions.Sheets.{limits, records, fields, grid, body, badBytes, hasStarts, codeOf, refusedBy, taken, takenGrid}
 use Rattle.code.specs.Laws.Clean.{recordFields, records-some, fields-some}
+use Rattle.code.specs.Laws.Fits.{Fits, fits}
 use Rattle.sheet.specs.declared.survey.Survey.{Survey}
-use Rattle.sheet.specs.Survey.{start, surveyRecords, answerBy, answerOf, Rows, no-row, row, resultOf, survey-answers, survey-flags, Flags}
-use Rattle.sheet.specs.Building.{Fits}
+use Rattle.sheet.specs.Survey.{start, surveyRecords, marked, answerOf, Rows, no-row, row}
+use Rattle.sheet.specs.Judging.{Flags, survey-flags, resultOf, starts, survey-answers}
 
 -- every record has a first field
 row-on : (a : List ℕ) {g : List (List (List ℕ))} → Rows g → Rows (fields a ∷ g)
@@ -28,46 +29,32 @@ rows (a ∷ l) = row-on a (rows l)
 record-count : (s : List ℕ) → 1 ≤ length (recordFields s)
 record-count s = rw (records-some s) (omega arith)
 
-pub flags-of : (s : List ℕ) → Flags (recordFields s) (surveyRecords start (recordFields s))
+flags-of : (s : List ℕ) → Flags (recordFields s) (surveyRecords start (recordFields s))
 flags-of s = survey-flags (rows (records s)) (record-count s)
 
--- an accepted answer: no refusal holds
-not-accepted : (r : Refusal) → Refused r ≡ Accepted → ⊥
-not-accepted r e = let z : _≡_ {A = ℕ} 0 1 = cc in omega arith
-
-none-holds : (a b c d e : Bool) → answerBy a b c d e ≡ Accepted → (a ≡ false) × (b ≡ false) × (d ≡ false) × (e ≡ false)
-none-holds true b c d e q = absurd (not-accepted _ q)
-none-holds false true c d e q = absurd (not-accepted _ q)
-none-holds false false true d e q = absurd (not-accepted _ q)
-none-holds false false false true e q = absurd (not-accepted _ q)
-none-holds false false false false true q = absurd (not-accepted _ q)
-none-holds false false false false false q = (refl, refl, refl, refl)
-
-module _ (s : List ℕ) (v : Survey) (surveyed : v ≡ surveyRecords start (recordFields s)) where
+module _ (s : List ℕ) (v : Survey) (t : Bool) (surveyed : v ≡ surveyRecords start (recordFields s)) (told : t ≡ marked v) where
   flags-v : Flags (recordFields s) v
   flags-v = rw surveyed (flags-of s)
 
-  -- a refused sheet, and an accepted one
-  pub way-refused : (r : Refusal) → answerOf v ≡ Refused r → refusedBy limits r ≡ takenGrid limits (recordFields s)
-  way-refused r e = sym (survey-answers (recordFields s) v flags-v ∙ ap (λ (a : SheetAnswer). resultOf a (recordFields s)) e)
+  -- the answer decides
+  result : (a : SheetAnswer) → answerOf v t ≡ a → resultOf a (recordFields s) ≡ takenGrid limits (recordFields s)
+  result a e = sym (survey-answers (recordFields s) v flags-v ∙ rw (← told, e))
 
-  pub way-accepted : answerOf v ≡ Accepted → record { answer = Accepted; code = codeOf limits (recordFields s) } ≡ takenGrid limits (recordFields s)
-  way-accepted e = sym (survey-answers (recordFields s) v flags-v ∙ ap (λ (a : SheetAnswer). resultOf a (recordFields s)) e)
+  -- a refused sheet, and an accepted one
+  pub way-refused : (r : Refusal) → answerOf v t ≡ Refused r → refusedBy limits r ≡ takenGrid limits (recordFields s)
+  way-refused r = result (Refused r)
+
+  pub way-accepted : answerOf v t ≡ Accepted → record { answer = Accepted; code = codeOf limits (recordFields s) } ≡ takenGrid limits (recordFields s)
+  way-accepted = result Accepted
 
   pub count-accepted : v .records ≡ length (recordFields s)
   count-accepted = flags-v .records
 
-  pub fits-accepted : answerOf v ≡ Accepted → Fits (recordFields s)
-  fits-accepted e =
-      let f = flags-v in
-      let n = none-holds (ltb 32 (v .records)) (v .badword) (ltb 128 (v .symbols)) (v .badwidth || not (eqb (v .width) (v .records + 1))) (v .badentry) e in
-      record {
-        some = record-count s;
-        most = ltb-false 32 (length (recordFields s)) (sym (ap (ltb 32) (f .records)) ∙ n .0);
-        words = sym (f .word) ∙ n .1;
-        widths = sym (f .width) ∙ n .2;
-        rows = sym (f .entry) ∙ n .3;
-      }
+  pub starts-accepted : t ≡ hasStarts (recordFields s)
+  starts-accepted = told ∙ starts (recordFields s) v flags-v
+
+  pub fits-accepted : answerOf v t ≡ Accepted → Fits limits (recordFields s)
+  fits-accepted e = fits limits (recordFields s) (ap (λ (u : Taken). u .answer) (sym (way-accepted e)))
 
 -- the refusals 1 and 2, and what is left
 pub way-empty : (s : List ℕ) → length s ≡ 0 → refusedBy limits SheetLength ≡ taken limits s

@@ -6,14 +6,17 @@ use code::Code;
 use code::Row;
 use code::Word;
 ghost use mathlib.Core.Path.{_≡_};
+ghost use mathlib.Core.Bool.{true};
 ghost use mathlib.Core.List.{[]};
-ghost use Prim.Native.Nat.{_+_, _*_, _≤_};
-ghost use lib.ListN.{length, drop};
-ghost use Rattle.code.specs.Definitions.Sheets.{limits, wordOf, rowOf, codeOf, blankCode};
+ghost use Prim.Native.Nat.{_+_, _≤_, _<_};
+ghost use lib.ListN.{length, drop, getD};
+ghost use Rattle.code.specs.Definitions.Sheets.{limits, isDigit, hasStarts, wordOf, rowOf, codeOf, blankCode};
 ghost use Rattle.code.specs.Definitions.Lists.{table};
 ghost use Rattle.code.specs.Laws.Clean.{Clean, recordFields};
+ghost use Rattle.code.specs.Laws.Fits.{Fits};
 ghost use Rattle.sheet.specs.Fields.{leading};
-ghost use Rattle.sheet.specs.Building.{Fits, RowAt, rowByte};
+ghost use Rattle.sheet.specs.Standing.{rowStart, markAt};
+ghost use Rattle.sheet.specs.Building.{RowAt, rowByte};
 
 fn blank_word() -> Word
     ensures { λ r. ⌜ r ≡ wordOf limits [] ⌝ }
@@ -25,7 +28,7 @@ fn blank_word() -> Word
 }
 
 fn blank_row() -> Row
-    ensures { λ r. ⌜ r ≡ rowOf limits [] ⌝ }
+    ensures { λ r. ⌜ r ≡ rowOf limits 1 [] ⌝ }
 {
     Row {
         entries: [0; Code::WORDS],
@@ -62,6 +65,25 @@ fn read_row(s: &[u8], at: usize, n: usize) -> Row
     row
 }
 
+// The start mark that stands at `at`; without start fields every word may begin.
+fn read_mark(s: &[u8], at: usize, starts: bool) -> u8
+    requires { ⌜ (starts ≡ true → (at < length (now s)) × (isDigit (getD (now s) at 0) ≡ true)) ⌝ }
+    ensures { λ r. ⌜ r ≡ markAt (now (s .entry)) at starts ⌝ }
+{
+    if starts {
+        return value_of(s[at]);
+    }
+    1
+}
+
+// Where the row begins whose word ends at e: behind a comma, or behind a start field between two.
+fn row_start(e: usize, starts: bool) -> usize
+    requires { ⌜ e ≤ limits .bytes ⌝ }
+    ensures { λ r. ⌜ (r ≡ rowStart e starts) × (r ≤ e + 3) ⌝ }
+{
+    if starts { e + 3 } else { e + 1 }
+}
+
 // No words, and all zero.
 pub fn blank_code() -> Code
     ensures { λ r. ⌜ r ≡ blankCode limits ⌝ }
@@ -71,13 +93,14 @@ pub fn blank_code() -> Code
     Code {
         words: words,
         rows: rows,
+        begins: [0; Code::WORDS],
         count: 0,
     }
 }
 
-// The table of n records.
-pub fn build(s: &[u8], n: usize) -> Code
-    requires { ⌜ Clean (now s) × (length (now s) ≤ 4096) × Fits (recordFields (now s)) × (n ≡ length (recordFields (now s))) ⌝ }
+// The table of n records, with start fields or without.
+pub fn build(s: &[u8], n: usize, starts: bool) -> Code
+    requires { ⌜ Clean (now s) × (length (now s) ≤ limits .bytes) × Fits limits (recordFields (now s)) × (n ≡ length (recordFields (now s))) × (starts ≡ hasStarts (recordFields (now s))) ⌝ }
     ensures { λ r. ⌜ r ≡ codeOf limits (recordFields (now (s .entry))) ⌝ }
 {
     let mut code = blank_code();
@@ -86,10 +109,13 @@ pub fn build(s: &[u8], n: usize) -> Code
     while k < n {
         let e = field_end(s, at);
         let word = read_word(s, at, e);
-        let row = read_row(s, e + 1, n);
+        let mark = read_mark(s, e + 1, starts);
+        let first = row_start(e, starts);
+        let row = read_row(s, first, n);
         code.words[k] = word;
         code.rows[k] = row;
-        at = e + 2 * n + 2;
+        code.begins[k] = mark;
+        at = first + 2 * n + 1;
         k += 1;
     }
     code.count = n;

@@ -13,6 +13,7 @@ use code::Refusal;
 use code::Sheet;
 use code::SheetAnswer;
 use code::Taken;
+use survey::has_starts;
 use survey::judge;
 use survey::survey_all;
 ghost use mathlib.Core.Path.{_≡_};
@@ -37,17 +38,18 @@ fn take_body(s: &[u8]) -> Taken
     ensures { λ r. ⌜ r ≡ takenGrid limits (recordFields (now (s .entry))) ⌝ }
 {
     let v = survey_all(s);
-    let answer = judge(v);
+    let starts = has_starts(v);
+    let answer = judge(v, starts);
     match answer {
         SheetAnswer::Refused(r) => refuse(r),
         SheetAnswer::Accepted => Taken {
             answer: SheetAnswer::Accepted,
-            code: build(s, v.records),
+            code: build(s, v.records, starts),
         },
     }
 }
 
-// Takes in a sheet of any bytes. The answer is the lowest refusal from 1 to 7 that holds, with the blank table; or that the sheet is accepted,
+// Takes in a sheet of any bytes. The answer is the lowest refusal that holds, of 1 to 7 and 15, with the blank table; or that the sheet is accepted,
 // with its table.
 pub fn take_in(sheet: &[u8]) -> Taken
     ensures { λ r. ⌜ r ≡ taken limits (now (sheet .entry)) ⌝ }

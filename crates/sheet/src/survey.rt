@@ -9,11 +9,13 @@ use code::Word;
 ghost use mathlib.Core.Path.{_≡_};
 ghost use Prim.Native.Nat.{_+_, _≤_, _<_};
 ghost use lib.ListN.{length, drop, getD};
+ghost use Rattle.code.specs.Definitions.Sheets.{limits};
 ghost use Rattle.code.specs.Laws.Clean.{Clean, recordFields};
-ghost use Rattle.sheet.specs.Survey.{start, entryBad, wordBad, takeSpan, endRecord, surveyRecords, answerOf};
+ghost use Rattle.sheet.specs.Survey.{start, entryBad, wordBad, takeSpan, endRecord, surveyRecords, marked, answerMarked, answerOf};
 ghost use Rattle.sheet.specs.Passing.{Bounded, Step};
 
 // `records` and `fields` count what has ended: records, and fields of the current record. `width` is the number of fields of the first record.
+// Which fields are row entries is known only at the end: so the second field has a flag of its own, and the later ones have another.
 pub struct Survey {
     pub records: usize,
     pub fields: usize,
@@ -21,7 +23,8 @@ pub struct Survey {
     pub symbols: usize,
     pub badword: bool,
     pub badwidth: bool,
-    pub badentry: bool,
+    pub badsecond: bool,
+    pub badlater: bool,
 }
 
 // A survey of what stands before `at`, where a field begins.
@@ -40,7 +43,7 @@ fn byte_at(s: &[u8], at: usize) -> u8
     0
 }
 
-// A row entry is the single digit 0 or 1; here it has n bytes, of which b is the first.
+// A start field or a row entry is the single digit 0 or 1; here it has n bytes, of which b is the first.
 fn entry_bad(n: usize, b: u8) -> bool
     ensures { λ r. ⌜ r ≡ entryBad n b ⌝ }
 {
@@ -68,14 +71,17 @@ fn take_span(v: Survey, n: usize, b: u8) -> Survey
     ensures { λ r. ⌜ r ≡ takeSpan v n b ⌝ }
 {
     let mut next = v;
+    next.fields = v.fields + 1;
     if v.fields == 0 {
-        next.fields = 1;
         next.symbols = v.symbols + n;
         next.badword = or(v.badword, word_bad(n));
         return next;
     }
-    next.fields = v.fields + 1;
-    next.badentry = or(v.badentry, entry_bad(n, b));
+    if v.fields == 1 {
+        next.badsecond = or(v.badsecond, entry_bad(n, b));
+        return next;
+    }
+    next.badlater = or(v.badlater, entry_bad(n, b));
     next
 }
 
@@ -125,7 +131,7 @@ fn next_field(s: &[u8], c: Cursor) -> Cursor
 // The survey of all records.
 pub fn survey_all(s: &[u8]) -> Survey
     requires { ⌜ Clean (now s) × (length (now s) ≤ 4096) ⌝ }
-    ensures { λ r. ⌜ (r ≡ surveyRecords start (recordFields (now (s .entry)))) × (r .records ≤ 4098) ⌝ }
+    ensures { λ r. ⌜ (r ≡ surveyRecords start (recordFields (now (s .entry)))) × (r .records ≤ limits .bytes + 2) ⌝ }
 {
     let mut c = Cursor {
         survey: Survey {
@@ -135,7 +141,8 @@ pub fn survey_all(s: &[u8]) -> Survey
             symbols: 0,
             badword: false,
             badwidth: false,
-            badentry: false,
+            badsecond: false,
+            badlater: false,
         },
         at: 0,
     };
@@ -145,10 +152,34 @@ pub fn survey_all(s: &[u8]) -> Survey
     c.survey
 }
 
-// What the survey says of the sheet: the lowest refusal from 3 to 7, or that it is accepted.
-pub fn judge(v: Survey) -> SheetAnswer
-    requires { ⌜ v .records ≤ 4098 ⌝ }
-    ensures { λ r. ⌜ r ≡ answerOf v ⌝ }
+// Whether every record has a start field: then it has two fields more than there are records.
+pub fn has_starts(v: Survey) -> bool
+    requires { ⌜ v .records ≤ limits .bytes + 2 ⌝ }
+    ensures { λ r. ⌜ r ≡ marked v ⌝ }
+{
+    if v.badwidth {
+        return false;
+    }
+    v.width == v.records + 2
+}
+
+// With start fields: the row entries are the fields behind them.
+fn judge_marked(v: Survey) -> SheetAnswer
+    ensures { λ r. ⌜ r ≡ answerMarked v ⌝ }
+{
+    if v.badlater {
+        return SheetAnswer::Refused(Refusal::RowEntry);
+    }
+    if v.badsecond {
+        return SheetAnswer::Refused(Refusal::StartField);
+    }
+    SheetAnswer::Accepted
+}
+
+// What the survey says of the sheet, with start fields or without: the lowest refusal from 3 on, or that it is accepted.
+pub fn judge(v: Survey, starts: bool) -> SheetAnswer
+    requires { ⌜ v .records ≤ limits .bytes + 2 ⌝ }
+    ensures { λ r. ⌜ r ≡ answerOf v starts ⌝ }
 {
     if Code::WORDS < v.records {
         return SheetAnswer::Refused(Refusal::RecordCount);
@@ -159,10 +190,13 @@ pub fn judge(v: Survey) -> SheetAnswer
     if Code::SYMBOLS < v.symbols {
         return SheetAnswer::Refused(Refusal::CodeLength);
     }
+    if starts {
+        return judge_marked(v);
+    }
     if or(v.badwidth, v.width != v.records + 1) {
         return SheetAnswer::Refused(Refusal::FieldCount);
     }
-    if v.badentry {
+    if or(v.badsecond, v.badlater) {
         return SheetAnswer::Refused(Refusal::RowEntry);
     }
     SheetAnswer::Accepted

@@ -8,16 +8,17 @@ use native.Mathlib.Decide.{decLt}
 use lib.Dec.{ltb, eqb}
 use lib.ListN.{length, drop, getD, length-drop, List·getD-eq-default}
 use lib.Seq.{getD-drop}
-use borrow.Author.Tests.{lt-ltb, le-ltb, ltb-false, eqb-true, eqb-false}
+use borrow.Author.Tests.{lt-ltb, ltb-false, eqb-true, eqb-false}
 use Rattle.code.specs.declared.Word.{Word}
 use Rattle.code.specs.declared.Code.{Code}
 use Rattle.code.specs.declared.Limits.{Limits}
 use Rattle.code.specs.Definitions.Lists.{if_then_else_, table, sum}
 use Rattle.code.specs.Definitions.Tables.{noWord, noRow}
-use Rattle.code.specs.Definitions.Sheets.{isDigit, valueOf, body, records, grid, firstField, wordLength, hasStarts, rowPlace, badEntry, badRow, startField, badWord, wordOf, rowOf, beginsOf, codeOf, refused3, refused4, refused5, refused6, refused7, refused15, FromSheet}
+use Rattle.code.specs.Definitions.Sheets.{isDigit, valueOf, body, records, grid, firstField, wordLength, hasStarts, rowPlace, badEntry, badRow, startField, badWord, wordOf, rowOf, beginsOf, codeOf, refused4, FromSheet}
 use Rattle.code.specs.Laws.Lists.{length-table, getD-table, getD-table-past, table-same, table-map, any-at, sum-past, or-neither}
 use Rattle.code.specs.Laws.Clean.{clean-body, records-some}
-use Rattle.code.specs.Laws.Records.{place-some, wide-at, width, bits}
+use Rattle.code.specs.Laws.Fits.{Fits}
+use Rattle.code.specs.Laws.Records.{place-some, wide-at, begins-past, width, bits}
 use Rattle.table.specs.WellFormed.{lenOf, CellsFit, WordFits, RowFits, WellFormed}
 use Rattle.table.specs.Accepts.{accepts}
 use Rattle.table.specs.Digits.{value-symbol, entryValue, first-digits}
@@ -48,7 +49,7 @@ module _ (l : Limits) (g : List (List (List ℕ))) where
   nothing : (k : ℕ) → length g ≤ k → getD g k [] ≡ []
   nothing k h = List·getD-eq-default g [] h
 
-  module _ (widths : refused6 g ≡ false) (entries : refused7 g ≡ false) (starts : refused15 g ≡ false) where
+  module _ (f : Fits l g) where
     -- Every field behind the word stands for 0 or 1.
     field-bit : (x j : ℕ) → x < length g → j + 1 < length (getD g x []) → entryValue (getD (getD g x []) (j + 1) []) < 2
     field-bit x j h i =
@@ -56,7 +57,7 @@ module _ (l : Limits) (g : List (List (List ℕ))) where
         let within : j < length (drop 1 r) = omega (arith, length-drop 1 r) in
         let at : 1 + j ≡ j + 1 = omega arith in
         rw (← at, ← getD-drop 1 r j [])
-        (entry-bit (getD (drop 1 r) j []) (any-at badEntry (drop 1 r) [] (any-at (badRow 1) g [] (bits g widths entries starts) x h) j within))
+        (entry-bit (getD (drop 1 r) j []) (any-at badEntry (drop 1 r) [] (any-at (badRow 1) g [] (bits f) x h) j within))
 
     entry : ℕ → ℕ → ℕ
     entry x y = entryValue (getD (getD g x []) (y + rowPlace g) [])
@@ -68,14 +69,14 @@ module _ (l : Limits) (g : List (List (List ℕ))) where
 
       entry-after : (y : ℕ) → length g ≤ y → Dec (x < length g) → entry x y ≡ 0
       unfolding entry
-      entry-after y h (yes i) = ap entryValue (List·getD-eq-default (getD g x []) [] (omega (arith, width g widths x i)))
+      entry-after y h (yes i) = ap entryValue (List·getD-eq-default (getD g x []) [] (omega (arith, width f x i)))
       entry-after y h (no i) = entry-unused (omega arith) y
 
       entry-low : (y : ℕ) → Dec (x < length g) → Dec (y < length g) → entry x y < 2
       unfolding entry
       entry-low y (yes h) (yes i) =
           let at : y + (rowPlace g - 1) + 1 ≡ y + rowPlace g = omega (arith, place-some g) in
-          rw at at (field-bit x (y + (rowPlace g - 1)) h (omega (arith, width g widths x h, place-some g)))
+          rw at at (field-bit x (y + (rowPlace g - 1)) h (omega (arith, width f x h, place-some g)))
       entry-low y (yes h) (no i) = omega (arith, entry-after y (omega arith) (yes h))
       entry-low y (no h) i = omega (arith, entry-unused (omega arith) y)
 
@@ -90,15 +91,8 @@ module _ (l : Limits) (g : List (List (List ℕ))) where
           }
 
     -- the start marks
-    mark-unused : (x : ℕ) → length g ≤ x → beginsOf l g x ≡ 0
-    mark-unused x h = by-starts (hasStarts g)
-      where
-        by-starts : (t : Bool) → (if t then entryValue (startField (getD g x [])) else if ltb x (length g) then 1 else 0) ≡ 0
-        by-starts true = rw (nothing x h)
-        by-starts false = rw (le-ltb x (length g) h)
-
     mark-low : (x : ℕ) → Dec (x < length g) → beginsOf l g x < 2
-    mark-low x (no h) = omega (arith, mark-unused x (omega arith))
+    mark-low x (no h) = omega (arith, begins-past l g x (omega arith))
     mark-low x (yes h) = by-starts (hasStarts g) refl
       where
         by-starts : (t : Bool) → hasStarts g ≡ t → (if t then entryValue (startField (getD g x [])) else if ltb x (length g) then 1 else 0) < 2
@@ -106,7 +100,7 @@ module _ (l : Limits) (g : List (List (List ℕ))) where
         by-starts false e = rw (lt-ltb x (length g) h) (omega arith)
 
     marks-fit : CellsFit 2 (length g) (table (beginsOf l g) (l .words))
-    marks-fit = table-cells 2 (length g) (l .words) (beginsOf l g) (omega arith) (λ x. mark-low x (decLt x (length g))) mark-unused
+    marks-fit = table-cells 2 (length g) (l .words) (beginsOf l g) (omega arith) (λ x. mark-low x (decLt x (length g))) (begins-past l g)
 
   module _ (words : refused4 l g ≡ false) (digits : (k p : ℕ) → isDigit (getD (firstField (getD g k [])) p 48) ≡ true) (k : ℕ) where
     tests : k < length g → (eqb (wordLength (getD g k [])) 0 ≡ false) × (ltb (l .symbols) (wordLength (getD g k [])) ≡ false)
@@ -147,27 +141,26 @@ module _ (l : Limits) (g : List (List (List ℕ))) where
       ∙ ap sum (table-map wordLength g [])
 
   -- The table of records and fields that no refusal holds of.
-  given : 1 ≤ length g → ((k p : ℕ) → isDigit (getD (firstField (getD g k [])) p 48) ≡ true) → refused3 l g ≡ false → refused4 l g ≡ false → refused5 l g ≡ false
-      → refused6 g ≡ false → refused7 g ≡ false → refused15 g ≡ false → WellFormed l (codeOf l g)
+  given : 1 ≤ length g → ((k p : ℕ) → isDigit (getD (firstField (getD g k [])) p 48) ≡ true) → Fits l g → WellFormed l (codeOf l g)
   unfolding codeOf
-  given some digits count words total widths entries starts =
-      let most : length g ≤ l .words = ltb-false (l .words) (length g) count in
+  given some digits f =
+      let most : length g ≤ l .words = ltb-false (l .words) (length g) (f .records) in
       record {
         one = some;
         most = most;
         words = length-table (λ k. wordOf l (firstField (getD g k []))) (l .words);
         rows = length-table (λ k. rowOf l (rowPlace g) (getD g k [])) (l .words);
         begins = length-table (beginsOf l g) (l .words);
-        marks = marks-fit widths entries starts;
-        word = λ k h. rw (getD-table (λ i. wordOf l (firstField (getD g i []))) (l .words) k noWord h) (word-fits words digits k);
-        row = λ x h. rw (getD-table (λ i. rowOf l (rowPlace g) (getD g i [])) (l .words) x noRow h) (row-fits widths entries starts x);
-        total = rw (total-given most) (ltb-false (l .total) (sum (map wordLength g)) total);
+        marks = marks-fit f;
+        word = λ k h. rw (getD-table (λ i. wordOf l (firstField (getD g i []))) (l .words) k noWord h) (word-fits (f .words) digits k);
+        row = λ x h. rw (getD-table (λ i. rowOf l (rowPlace g) (getD g i [])) (l .words) x noRow h) (row-fits f x);
+        total = rw (total-given most) (ltb-false (l .total) (sum (map wordLength g)) (f .symbols));
       }
 
 -- Every table that an accepted sheet gives is well-formed.
 pub well : {l : Limits} {c : Code} → FromSheet l c → WellFormed l c
 unfolding grid
-well {l} {c} f =
-    let a = accepts l (f .sheet) c (f .gives) in
+well {l} f =
+    let a = accepts l (f .sheet) (f .gives) in
     let some : 1 ≤ length (grid (f .sheet)) = rw (records-some (body (f .sheet))) (omega arith) in
-    rw (a .gives) at (given l (grid (f .sheet)) some (first-digits (clean-body (f .sheet) (a .bytes))) (a .records) (a .words) (a .symbols) (a .widths) (a .entries) (a .starts))
+    rw (a .gives) at (given l (grid (f .sheet)) some (first-digits (clean-body (f .sheet) (a .bytes))) (a .records))

@@ -18,6 +18,7 @@ use Rattle.code.specs.Definitions.Lists.{table, sum}
 use Rattle.code.specs.Definitions.Tables.{noWord, noRow, symbolsOf, entryOf}
 use Rattle.code.specs.Definitions.Sheets.{valueOf, firstField, wordLength, hasStarts, rowPlace, badWord, badEntry, badRow, startField, wordOf, rowOf, beginsOf, codeOf, refused3, refused5, taken, FromSheet}
 use Rattle.code.specs.Laws.Lists.{length-table, getD-table, getD-table-past, table-list, table-same, map-table, any-table, every-table}
+use Rattle.code.specs.Laws.Fits.{Fits}
 use Rattle.table.specs.WellFormed.{lenOf, WellFormed}
 use Rattle.table.specs.Accepts.{accepted}
 use Rattle.table.specs.Given.{well}
@@ -75,6 +76,16 @@ module _ (l : Limits) (c : Code) (w : WellFormed l c) where
   mark-fits : (x : ℕ) → x < c .count → badEntry (startField (fieldsOf c x)) ≡ false
   mark-fits x h = bit-digit (getD (c .begins) x 0) (w .marks .below x)
 
+  written-fits : Fits l (gridOf c)
+  written-fits = record {
+    records = count-fits;
+    words = any-table (badWord l) (fieldsOf c) (c .count) word-fits;
+    symbols = total-fits;
+    widths = rw (starts-written, or-true);
+    entries = rw starts-written (any-table (badRow 2) (fieldsOf c) (c .count) row-fits);
+    starts = rw starts-written (any-table (λ r. badEntry (startField r)) (fieldsOf c) (c .count) mark-fits);
+  }
+
   -- and their table is the one that was written.
 
   word-back : (k : ℕ) → k < l .words → Dec (k < c .count) → firstField (getD (gridOf c) k []) ≡ wordField c k
@@ -130,16 +141,11 @@ module _ (l : Limits) (c : Code) (w : WellFormed l c) where
   -- The sheet is accepted, and gives the table back.
   pub round : Roomy l → taken l (print c) ≡ record { answer = Accepted; code = c }
   round room =
-      accepted l (print c) c
+      accepted l (print c)
       record {
         size = rw (ne-eqb (length (print c)) 0 (λ e. omega (arith, written-some l c w)), le-ltb (l .bytes) (length (print c)) (written-short l c w room));
         bytes = written-bytes l c w;
-        records = rw (written-grid l c w) count-fits;
-        words = rw (written-grid l c w) (any-table (badWord l) (fieldsOf c) (c .count) word-fits);
-        symbols = rw (written-grid l c w) total-fits;
-        widths = rw (written-grid l c w, starts-written, or-true);
-        entries = rw (written-grid l c w, starts-written) (any-table (badRow 2) (fieldsOf c) (c .count) row-fits);
-        starts = rw (written-grid l c w, starts-written) (any-table (λ r. badEntry (startField r)) (fieldsOf c) (c .count) mark-fits);
+        records = rw (written-grid l c w) written-fits;
         gives = rw (written-grid l c w) same-code;
       }
 

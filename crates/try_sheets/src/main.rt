@@ -1,5 +1,5 @@
 // Takes in each file that it is given and writes a line for it: its name, then `refused` and the number, or `accepted` and the table, each word's
-// digits with its row.
+// digits with its start mark and its row.
 use code::Code;
 use code::Row;
 use code::Sheet;
@@ -50,6 +50,8 @@ fn write_table(table: Code) {
         if x < n {
             io::write_all(STDOUT_FILENO, b" ");
             write_word(table.words[x]);
+            io::write_all(STDOUT_FILENO, b"/");
+            write_digit(table.begins[x]);
             io::write_all(STDOUT_FILENO, b"/");
             write_row(table.rows[x], n);
         }

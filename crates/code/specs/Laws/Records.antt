@@ -4,12 +4,14 @@ use mathlib.Core.Bool.{Bool, true, false, not, _&&_, _||_, or-false}
 use mathlib.Core.List.{List, [], _∷_}
 use Prim.Native.Nat.{ℕ, _+_, _≤_, _<_}
 use native.Mathlib.Omega.{arith}
-use lib.Dec.{eqb}
-use lib.ListN.{length, getD}
-use borrow.Author.Tests.{eqb-true, not-false}
+use lib.Dec.{ltb, eqb}
+use lib.ListN.{length, getD, List·getD-eq-default}
+use borrow.Author.Tests.{le-ltb, eqb-true, not-false}
+use Rattle.code.specs.declared.Limits.{Limits}
 use Rattle.code.specs.Definitions.Lists.{any, if_then_else_}
-use Rattle.code.specs.Definitions.Sheets.{allWide, hasStarts, rowPlace, badEntry, badRow, startField, refused6, refused7, refused15}
+use Rattle.code.specs.Definitions.Sheets.{valueOf, allWide, hasStarts, rowPlace, badEntry, badRow, startField, beginsOf}
 use Rattle.code.specs.Laws.Lists.{any-at, any-none, every-at}
+use Rattle.code.specs.Laws.Fits.{Fits}
 
 -- a record with a start field
 row-from-two : (r : List (List ℕ)) → 2 ≤ length r → badEntry (startField r) ≡ false → badRow 2 r ≡ false → badRow 1 r ≡ false
@@ -34,19 +36,26 @@ module _ (g : List (List (List ℕ))) where
   by-starts true e s x h = wide-at (length g + 2) x s h
   by-starts false e s x h = wide-at (length g + 1) x (rw or-false at (not-false (allWide (length g + 1) g || false) e)) h
 
-  module _ (widths : refused6 g ≡ false) where
-    -- the word, the start field if there is one, and a row entry for each record
-    pub width : (x : ℕ) → x < length g → length (getD g x []) ≡ length g + rowPlace g
-    width = by-starts (hasStarts g) widths refl
+-- Past the last record there is no start mark.
+pub begins-past : (l : Limits) (g : List (List (List ℕ))) (x : ℕ) → length g ≤ x → beginsOf l g x ≡ 0
+begins-past l g x h = by-test (hasStarts g)
+  where
+    by-test : (t : Bool) → (if t then valueOf (getD (startField (getD g x [])) 0 48) else if ltb x (length g) then 1 else 0) ≡ 0
+    by-test true = rw (List·getD-eq-default g [] {n = x} h)
+    by-test false = rw (le-ltb x (length g) h)
 
-    module _ (entries : refused7 g ≡ false) (starts : refused15 g ≡ false) where
-      good-fields : (t : Bool) → hasStarts g ≡ t → any (badRow (if t then 2 else 1)) g ≡ false → t && any (λ r. badEntry (startField r)) g ≡ false
-          → any (badRow 1) g ≡ false
-      good-fields false s e o = e
-      good-fields true s e o =
-          any-none (badRow 1) g []
-          (λ x h. row-from-two (getD g x []) (omega (arith, wide-at (length g + 2) x s h)) (any-at (λ r. badEntry (startField r)) g [] o x h) (any-at (badRow 2) g [] e x h))
+module _ {l : Limits} {g : List (List (List ℕ))} (f : Fits l g) where
+  -- the word, the start field if there is one, and a row entry for each record
+  pub width : (x : ℕ) → x < length g → length (getD g x []) ≡ length g + rowPlace g
+  width = by-starts g (hasStarts g) (f .widths) refl
 
-      -- Every field behind the word is a digit 0 or 1.
-      pub bits : any (badRow 1) g ≡ false
-      bits = good-fields (hasStarts g) refl entries starts
+  good-fields : (t : Bool) → hasStarts g ≡ t → any (badRow (if t then 2 else 1)) g ≡ false → t && any (λ r. badEntry (startField r)) g ≡ false
+      → any (badRow 1) g ≡ false
+  good-fields false s e o = e
+  good-fields true s e o =
+      any-none (badRow 1) g []
+      (λ x h. row-from-two (getD g x []) (omega (arith, wide-at g (length g + 2) x s h)) (any-at (λ r. badEntry (startField r)) g [] o x h) (any-at (badRow 2) g [] e x h))
+
+  -- Every field behind the word is a digit 0 or 1.
+  pub bits : any (badRow 1) g ≡ false
+  bits = good-fields (hasStarts g) refl (f .entries) (f .starts)

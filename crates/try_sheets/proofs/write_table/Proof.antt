@@ -5,10 +5,10 @@ use Rattle.try_sheets.proofs.write_table.Statement.{statement}
 use Rattle.try_sheets.proofs.write_table.Tie as tie
 
 abbrev Inv-loop : tie.InvT-loop
-Inv-loop table n x₀ t5 t6 x = x ≤ 32
+Inv-loop table n x₀ t5 t6 t7 x = x ≤ 32
 
 abbrev μ-loop : tie.MeasureT-loop
-μ-loop table n x₀ t5 t6 x = 32 - x
+μ-loop table n x₀ t5 t6 t7 x = 32 - x
 
 pub write-table-spec : {M : Type 1} → statement M
 write-table-spec =
@@ -20,6 +20,10 @@ write-table-spec =
     (λ c. search needs)
     (λ c κs. search needs)
     (λ c. search needs)
+    (λ c. search needs)
+    (λ c κs. search needs)
+    (λ c. search needs)
+    (λ c κs. search needs)
     (λ c. search needs)
     (λ c κs. search needs)
     (λ c. search needs)

@@ -1,12 +1,12 @@
 -- An array with one value throughout is the table of that value.
-use Rattle.code.specs.Definitions.Lists.{table}
+use Rattle.code.specs.Definitions.Lists.{every, table}
 use Rattle.code.specs.Definitions.Sheets.{blankCode, codeOf}
 use borrow.Author.Needs.{needs}
 use Rattle.sheet.proofs.build.blank_code.Statement.{statement}
 use Rattle.sheet.proofs.build.blank_code.Tie as tie
 
 returns : tie.Need-returns
-unfolding blankCode codeOf table
+unfolding blankCode codeOf table every
 returns c = rw (c .before .blank-word .ensures, c .blank-row .ensures)
 
 pub blank-code-spec : {M : Type 1} → statement M
