@@ -1,4 +1,4 @@
--- The sheet's answer decides: its own refusal; or 13 where the buffer is too short for its table; or the table is packed.
+-- The sheet's answer decides: the lower of its own refusal and 13, where the buffer is too short for a table; or the table is packed.
 use Rattle.furlazon.specs.Ways.{accepted-well, sheet-short, sheet-accepted, sheet-refused}
 use borrow.Author.Needs.{needs}
 use Rattle.furlazon.proofs.furlazon_take_in.Statement.{statement}
@@ -24,7 +24,10 @@ returns-2 c =
     sheet-accepted _ _ (t .result) (t .ensures) _ (fits .before .enum-told .given .1) (fits .if1 .left) (c .before .before .pack .ensures)
 
 returns-3 : tie.Need-returns-3
-returns-3 c = let t = c .before .before .before .before .take-in in sheet-refused _ _ (t .result) (t .ensures) _ _ (c .before .before .answer .given .1) (c .number2 .ensures)
+returns-3 c =
+    let told = c .before .before .before in
+    let t = told .before .before .take-in in
+    sheet-refused _ _ (t .result) (t .ensures) _ _ _ (told .answer .given .1) (c .before .number2 .ensures) (c .lower .ensures)
 
 pub furlazon-take-in-spec : {M : Type 1} → statement M
 furlazon-take-in-spec =
@@ -36,6 +39,7 @@ furlazon-take-in-spec =
     returns
     pack-requires
     (λ c. search needs)
+    (λ c κs. search needs)
     (λ c κs. search needs)
     (λ c. search needs)
     returns-2
