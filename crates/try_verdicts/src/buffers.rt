@@ -3,7 +3,7 @@
 use libc::STDOUT_FILENO;
 
 // The greatest lengths at which the buffers are lent.
-pub const ENTRIES: usize = 8302;
+pub const ENTRIES: usize = 8430;
 
 pub const WORK_ENTRIES: usize = 16400;
 

@@ -20,9 +20,9 @@ const NEEDED: Lent = Lent {
 };
 
 const LONGER: Lent = Lent {
-    message: 8300,
-    first: 8301,
-    second: 8302,
+    message: 8428,
+    first: 8429,
+    second: 8430,
     work: 16400,
 };
 
@@ -52,13 +52,13 @@ fn try_file(path: &[u8]) {
 // Each buffer one entry short.
 fn try_short(code: Code) {
     let mut lent = NEEDED;
-    lent.message = 8255;
+    lent.message = 8383;
     try_table(code, lent);
     lent = NEEDED;
-    lent.first = 8255;
+    lent.first = 8383;
     try_table(code, lent);
     lent = NEEDED;
-    lent.second = 8255;
+    lent.second = 8383;
     try_table(code, lent);
     lent = NEEDED;
     lent.work = 16383;
@@ -78,6 +78,14 @@ fn try_count(mut code: Code, count: usize) {
     try_table(code, none);
 }
 
+// Nor one with such a start mark.
+fn try_mark(mut code: Code, word: usize, mark: u8) {
+    if word < Code::WORDS {
+        code.begins[word] = mark;
+        try_table(code, LONGER);
+    }
+}
+
 fn try_refusals() {
     let t = from_sheet(b"0,1,1,1,1\r\n10,1,1,1,1\r\n01,1,1,1,1\r\n101,1,1,1,1\r\n");
     let u = from_sheet(b"0,1,1,0,0\r\n10,1,1,1,1\r\n01,1,1,0,0\r\n101,1,1,1,1\r\n");
@@ -91,6 +99,10 @@ fn try_refusals() {
     try_count(t, 3);
     write_name(b"code U with count 33");
     try_count(u, 33);
+    write_name(b"code T with start mark 2");
+    try_mark(t, 3, 2);
+    write_name(b"code U with the start mark of a fifth word");
+    try_mark(u, 4, 1);
 }
 
 fn main() {

@@ -91,7 +91,7 @@ fn try_in(code: Code, message: &mut [u8], first: &mut [u8], second: &mut [u8], w
 
 // Gives the verdict on a table, with buffers of these lengths.
 pub fn try_table(code: Code, lent: Lent)
-    requires { ⌜ (lent .message ≤ 8302) × (lent .first ≤ 8302) × (lent .second ≤ 8302) × (lent .work ≤ 16400) ⌝ }
+    requires { ⌜ (lent .message ≤ 8430) × (lent .first ≤ 8430) × (lent .second ≤ 8430) × (lent .work ≤ 16400) ⌝ }
 {
     write_lent(lent);
     let m = lent.message;
