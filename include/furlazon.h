@@ -36,26 +36,28 @@ extern "C" {
 #define FURLAZON_REFUSED_RECORD_COUNT 3    /* more than FURLAZON_CODE_WORDS records */
 #define FURLAZON_REFUSED_WORD_LENGTH 4     /* a first field that is empty or has over FURLAZON_WORD_SYMBOLS digits */
 #define FURLAZON_REFUSED_CODE_LENGTH 5     /* over FURLAZON_CODE_SYMBOLS symbols in all */
-#define FURLAZON_REFUSED_FIELD_COUNT 6     /* a record that has not one field more than there are records */
+#define FURLAZON_REFUSED_FIELD_COUNT 6     /* n records of which not all have n + 1 fields, nor all n + 2 */
 #define FURLAZON_REFUSED_ROW_ENTRY 7       /* a row entry other than the single digit 0 or 1 */
 #define FURLAZON_REFUSED_NOT_FROM_SHEET 8  /* a table that no accepted sheet gives */
 #define FURLAZON_REFUSED_UNKNOWN_WORD 9    /* a word number that is not in the table */
-#define FURLAZON_REFUSED_FORBIDDEN_PAIR 10 /* a neighbouring pair that is not permitted */
+#define FURLAZON_REFUSED_FORBIDDEN_PAIR 10 /* a neighbouring pair that is not permitted; a first word that may not begin */
 #define FURLAZON_REFUSED_MESSAGE_LENGTH 11 /* a message of over FURLAZON_MESSAGE_SYMBOLS symbols */
 #define FURLAZON_REFUSED_MESSAGE_SYMBOL 12 /* a message symbol that is not below FURLAZON_ALPHABET */
 #define FURLAZON_REFUSED_SHORT_BUFFER 13   /* a buffer that is too short */
 #define FURLAZON_REFUSED_NO_READING 14     /* no permitted sequence has this message */
+#define FURLAZON_REFUSED_START_FIELD 15    /* a start field other than the single digit 0 or 1 */
 
 /* Bytes of a table's image. For each of the 32 words its 16 symbols and then its length; then row 0 to row 31, with 32 entries
- * each; then the number of words. Entry Y of row X is 1 if word X may come immediately after word Y, else 0. All that stands past
- * a word's length or past the number of words is zero. */
-#define FURLAZON_TABLE_BYTES 1569
+ * each; then the start marks of the 32 words; then the number of words. Entry Y of row X is 1 if word X may come immediately after
+ * word Y, else 0. The start mark of a word is 1 if it may begin a message, else 0. All that stands past a word's length or past the
+ * number of words is zero. */
+#define FURLAZON_TABLE_BYTES 1601
 
 /* Entries of an answer. */
 #define FURLAZON_ANSWER_ENTRIES 4
 
 /* Entries that a verdict needs: in `message`, `first` and `second` each, and in `work`. */
-#define FURLAZON_VERDICT_ENTRIES 8256
+#define FURLAZON_VERDICT_ENTRIES 8384
 #define FURLAZON_VERDICT_WORK 16384
 
 /* answer[0] of a reading: the message has one reading, or several. */
@@ -68,7 +70,7 @@ extern "C" {
 #define FURLAZON_WITHOUT_BOUND 3
 
 /* Takes in a code sheet of any bytes.
- * Needs: `table` of FURLAZON_TABLE_BYTES. Refusals: 1 to 7, 13.
+ * Needs: `table` of FURLAZON_TABLE_BYTES. Refusals: 1 to 7, 13, 15.
  * Result: the table's image stands at the start of `table`. */
 uint64_t furlazon_take_in(const uint8_t *sheet, size_t sheet_length, uint8_t *table, size_t table_length);
 
@@ -100,7 +102,7 @@ uint64_t furlazon_read(const uint8_t *table, size_t table_length,
  * Result, one of three:
  *   answer = { FURLAZON_AMBIGUOUS, symbols, words, words }: the shortest ambiguous message, the earliest in symbol order among
  *     equals, stands in `message`, and its first two readings in word order in `first` and `second`, with these lengths.
- *   answer = { FURLAZON_DELAY, delay, 0, 0 }: decipherable; the delay counts symbols.
+ *   answer = { FURLAZON_DELAY, delay, 0, 0 }: decipherable; the delay counts symbols, after what is shared.
  *   answer = { FURLAZON_WITHOUT_BOUND, 0, 0, 0 }: decipherable, without bound on the delay. */
 uint64_t furlazon_verdict(const uint8_t *table, size_t table_length,
                           uint8_t *message, size_t message_length,
