@@ -11,7 +11,7 @@ ghost use Prim.Native.Nat.{_+_, _≤_, _<_};
 ghost use lib.ListN.{length, drop, getD};
 ghost use Rattle.code.specs.Definitions.Sheets.{limits};
 ghost use Rattle.code.specs.Laws.Clean.{Clean, recordFields};
-ghost use Rattle.sheet.specs.Survey.{start, entryBad, wordBad, takeSpan, endRecord, surveyRecords, marked, answerMarked, answerOf};
+ghost use Rattle.sheet.specs.Survey.{start, entryBad, wordBad, takeSpan, endRecord, surveyRecords, marked, widthBad, rowBad, startBad, answerOf};
 ghost use Rattle.sheet.specs.Passing.{Bounded, Step};
 
 // `records` and `fields` count what has ended: records, and fields of the current record. `width` is the number of fields of the first record.
@@ -163,17 +163,35 @@ pub fn has_starts(v: Survey) -> bool
     v.width == v.records + 2
 }
 
-// With start fields: the row entries are the fields behind them.
-fn judge_marked(v: Survey) -> SheetAnswer
-    ensures { λ r. ⌜ r ≡ answerMarked v ⌝ }
+// Refusal 6: with start fields all records have the right width, without them all must have one field more than there are records.
+fn bad_width(v: Survey, starts: bool) -> bool
+    requires { ⌜ v .records ≤ limits .bytes + 2 ⌝ }
+    ensures { λ r. ⌜ r ≡ widthBad v starts ⌝ }
 {
-    if v.badlater {
-        return SheetAnswer::Refused(Refusal::RowEntry);
+    if starts {
+        return false;
     }
-    if v.badsecond {
-        return SheetAnswer::Refused(Refusal::StartField);
+    or(v.badwidth, v.width != v.records + 1)
+}
+
+// Refusal 7: the second field is a row entry only where there are no start fields.
+fn bad_row(v: Survey, starts: bool) -> bool
+    ensures { λ r. ⌜ r ≡ rowBad v starts ⌝ }
+{
+    if starts {
+        return v.badlater;
     }
-    SheetAnswer::Accepted
+    or(v.badsecond, v.badlater)
+}
+
+// Refusal 15.
+fn bad_start(v: Survey, starts: bool) -> bool
+    ensures { λ r. ⌜ r ≡ startBad v starts ⌝ }
+{
+    if starts {
+        return v.badsecond;
+    }
+    false
 }
 
 // What the survey says of the sheet, with start fields or without: the lowest refusal from 3 on, or that it is accepted.
@@ -190,14 +208,14 @@ pub fn judge(v: Survey, starts: bool) -> SheetAnswer
     if Code::SYMBOLS < v.symbols {
         return SheetAnswer::Refused(Refusal::CodeLength);
     }
-    if starts {
-        return judge_marked(v);
-    }
-    if or(v.badwidth, v.width != v.records + 1) {
+    if bad_width(v, starts) {
         return SheetAnswer::Refused(Refusal::FieldCount);
     }
-    if or(v.badsecond, v.badlater) {
+    if bad_row(v, starts) {
         return SheetAnswer::Refused(Refusal::RowEntry);
+    }
+    if bad_start(v, starts) {
+        return SheetAnswer::Refused(Refusal::StartField);
     }
     SheetAnswer::Accepted
 }
