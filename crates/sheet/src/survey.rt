@@ -199,6 +199,9 @@ pub fn judge(v: Survey, starts: bool) -> SheetAnswer
     requires { ⌜ v .records ≤ limits .bytes + 2 ⌝ }
     ensures { λ r. ⌜ r ≡ answerOf v starts ⌝ }
 {
+    let width = bad_width(v, starts);
+    let row = bad_row(v, starts);
+    let start = bad_start(v, starts);
     if Code::WORDS < v.records {
         return SheetAnswer::Refused(Refusal::RecordCount);
     }
@@ -208,13 +211,13 @@ pub fn judge(v: Survey, starts: bool) -> SheetAnswer
     if Code::SYMBOLS < v.symbols {
         return SheetAnswer::Refused(Refusal::CodeLength);
     }
-    if bad_width(v, starts) {
+    if width {
         return SheetAnswer::Refused(Refusal::FieldCount);
     }
-    if bad_row(v, starts) {
+    if row {
         return SheetAnswer::Refused(Refusal::RowEntry);
     }
-    if bad_start(v, starts) {
+    if start {
         return SheetAnswer::Refused(Refusal::StartField);
     }
     SheetAnswer::Accepted
