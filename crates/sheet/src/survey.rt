@@ -1,5 +1,6 @@
 // What the records of a sheet amount to: one pass from field to field, with counts, and a flag for each refusal that a single record can show.
 
+use crate::bytes::byte_at;
 use crate::bytes::field_end;
 use crate::bytes::or;
 use code::Code;
@@ -8,7 +9,7 @@ use code::SheetAnswer;
 use code::Word;
 ghost use mathlib.Core.Path.{_≡_};
 ghost use Prim.Native.Nat.{_+_, _≤_, _<_};
-ghost use lib.ListN.{length, drop, getD};
+ghost use lib.ListN.{length, drop};
 ghost use Rattle.code.specs.Definitions.Sheets.{limits};
 ghost use Rattle.code.specs.Laws.Clean.{Clean, recordFields};
 ghost use Rattle.sheet.specs.Survey.{start, entryBad, wordBad, takeSpan, endRecord, surveyRecords, marked, widthBad, rowBad, startBad, answerOf};
@@ -31,16 +32,6 @@ pub struct Survey {
 pub struct Cursor {
     pub survey: Survey,
     pub at: usize,
-}
-
-// The byte at a position, 0 past the end.
-fn byte_at(s: &[u8], at: usize) -> u8
-    ensures { λ r. ⌜ r ≡ getD (now (s .entry)) at 0 ⌝ }
-{
-    if at < s.len() {
-        return s[at];
-    }
-    0
 }
 
 // A start field or a row entry is the single digit 0 or 1; here it has n bytes, of which b is the first.
