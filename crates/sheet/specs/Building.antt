@@ -108,9 +108,6 @@ module _ (s : List ℕ) (g : List (List (List ℕ))) (code : Code) (at e k n : �
   pub word-next : length (leading (drop at s)) ≤ 16
   word-next = record-next .short
 
-  pub mark-next : t ≡ true → (e + 1 < length s) × (isDigit (getD s (e + 1) 0) ≡ true)
-  mark-next = record-next .digit
-
   pub row-next : RowAt s (rowStart e t) n
   row-next = let r = record-next in row-stands s (rowStart e t) n (r .row) (drop (k + 1) g) (r .entries) (r .wide) (omega arith) most
 

@@ -9,13 +9,12 @@ use lib.ListN.{length}
 use borrow.Author.Tests.{eqb-true, eq-eqb}
 use Rattle.code.specs.declared.SheetAnswer.{SheetAnswer}
 use Rattle.code.specs.declared.SheetAnswer.the-variants.{Accepted, Refused}
-use Rattle.code.specs.declared.Refusal.{Refusal}
 use Rattle.code.specs.declared.Refusal.the-variants.{RecordCount, WordLength, CodeLength, FieldCount, RowEntry, StartField}
 use Rattle.code.specs.declared.Taken.{Taken}
 use Rattle.code.specs.Definitions.Lists.{if_then_else_, any, every, sum}
-use Rattle.code.specs.Definitions.Sheets.{limits, allWide, hasStarts, badEntry, badRow, startField, badWord, wordLength, refusedBy, codeOf, takenGrid}
+use Rattle.code.specs.Definitions.Sheets.{limits, allWide, hasStarts, badEntry, badRow, startField, badWord, wordLength, refused6, refused7, refused15, refusedBy, codeOf, takenGrid}
 use Rattle.sheet.specs.declared.survey.Survey.{Survey}
-use Rattle.sheet.specs.Survey.{start, surveyRecords, marked, inTurn, answerOf, badSecond, otherWidth, Rows, no-row, row, first}
+use Rattle.sheet.specs.Survey.{start, surveyRecords, marked, widthBad, rowBad, startBad, answerBy, answerOf, badSecond, otherWidth, Rows, no-row, row, first}
 
 -- All records have k fields where the first has and no other has another number.
 not-or : (t u w : Bool) → not u ≡ w → not (not t || u) ≡ t && w
@@ -86,39 +85,44 @@ abbrev pub resultOf : SheetAnswer → List (List (List ℕ)) → Taken
 resultOf Accepted g = record { answer = Accepted; code = codeOf limits g }
 resultOf (Refused r) g = refusedBy limits r
 
-module _ (g : List (List (List ℕ))) where
-  -- five refusals in turn, of which the last two are q and p
-  chain : (a b c d e : Bool) (q p : Refusal)
-      → (if a then refusedBy limits RecordCount else if b then refusedBy limits WordLength else if c then refusedBy limits CodeLength else
-      if d then refusedBy limits q else if e then refusedBy limits p else record { answer = Accepted; code = codeOf limits g })
-      ≡ resultOf (inTurn a RecordCount (inTurn b WordLength (inTurn c CodeLength (inTurn d q (inTurn e p Accepted))))) g
-  chain true b c d e q p = refl
-  chain false true c d e q p = refl
-  chain false false true d e q p = refl
-  chain false false false true e q p = refl
-  chain false false false false true q p = refl
-  chain false false false false false q p = refl
+chain : (a b c d e f : Bool) (g : List (List (List ℕ)))
+    → (if a then refusedBy limits RecordCount else if b then refusedBy limits WordLength else if c then refusedBy limits CodeLength else
+    if d then refusedBy limits FieldCount else if e then refusedBy limits RowEntry else if f then refusedBy limits StartField else
+    record { answer = Accepted; code = codeOf limits g })
+    ≡ resultOf (answerBy a b c d e f) g
+chain true b c d e f g = refl
+chain false true c d e f g = refl
+chain false false true d e f g = refl
+chain false false false true e f g = refl
+chain false false false false true f g = refl
+chain false false false false false true g = refl
+chain false false false false false false g = refl
 
-  module _ (v : Survey) (f : Flags g v) where
-    pub starts : marked v ≡ hasStarts g
-    starts = rw (f .records) (f .wide (length g + 2))
+other-width : (b e : Bool) → not (not b && e) ≡ b || not e
+other-width true e = refl
+other-width false e = refl
 
-    other-width : (b e : Bool) → b || not e ≡ not (not b && e)
-    other-width true e = refl
-    other-width false e = refl
+module _ (g : List (List (List ℕ))) (v : Survey) (f : Flags g v) where
+  pub starts : marked v ≡ hasStarts g
+  starts = rw (f .records) (f .wide (length g + 2))
 
-    plain-width : v .badwidth || not (eqb (v .width) (length g + 1)) ≡ not (allWide (length g + 1) g)
-    plain-width = other-width (v .badwidth) (eqb (v .width) (length g + 1)) ∙ ap not (f .wide (length g + 1))
+  width-told : (t : Bool) → hasStarts g ≡ t → refused6 g ≡ widthBad v t
+  width-told true s = rw (s, or-true)
+  width-told false s =
+      rw (s, or-false, f .records) (ap not (sym (f .wide (length g + 1))) ∙ other-width (v .badwidth) (eqb (v .width) (length g + 1)))
 
-    answers : (t : Bool) → hasStarts g ≡ t → takenGrid limits g ≡ resultOf (answerOf v t) g
-    unfolding takenGrid
-    answers true s =
-        rw (f .records, f .symbols, f .word, f .later, f .second, starts-second (length g + 2) (omega arith) g s, s, or-true)
-        (chain (ltb 32 (length g)) (any (badWord limits) g) (ltb 128 (sum (map wordLength g))) (any (badRow 2) g) (any (λ r. badEntry (startField r)) g) RowEntry StartField)
-    answers false s =
-        rw (f .records, f .symbols, f .word, plain-width, f .later, f .second, rows-parts g, s, or-false)
-        (chain (ltb 32 (length g)) (any (badWord limits) g) (ltb 128 (sum (map wordLength g))) (not (allWide (length g + 1) g)) (any (badRow 1) g) FieldCount RowEntry)
+  row-told : (t : Bool) → hasStarts g ≡ t → refused7 g ≡ rowBad v t
+  row-told true s = rw s (sym (f .later))
+  row-told false s = rw (s, f .second, f .later) (sym (rows-parts g))
 
-    -- The survey's answer is the definition's.
-    pub survey-answers : takenGrid limits g ≡ resultOf (answerOf v (marked v)) g
-    survey-answers = answers (marked v) (sym starts)
+  start-told : (t : Bool) → hasStarts g ≡ t → refused15 g ≡ startBad v t
+  start-told true s = rw s (sym (f .second ∙ starts-second (length g + 2) (omega arith) g s))
+  start-told false s = rw s
+
+  -- The survey's answer is the definition's.
+  pub survey-answers : takenGrid limits g ≡ resultOf (answerOf v (marked v)) g
+  unfolding takenGrid
+  survey-answers =
+      let t = marked v in
+      rw (width-told t (sym starts), row-told t (sym starts), start-told t (sym starts), ← f .word, ← f .symbols, ← f .records)
+      (chain (ltb 32 (v .records)) (v .badword) (ltb 128 (v .symbols)) (widthBad v t) (rowBad v t) (startBad v t) g)

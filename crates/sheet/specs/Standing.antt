@@ -1,6 +1,6 @@
 -- Where the fields of an accepted record stand: its word, its start mark and its row, and where the next record begins.
-use mathlib.Core.Path.{_≡_, sym, ap, _∙_}
-use mathlib.Core.Bool.{Bool, true, false, false≢true}
+use mathlib.Core.Path.{_≡_, refl, sym, ap, _∙_}
+use mathlib.Core.Bool.{Bool, true, false}
 use mathlib.Core.List.{List, [], _∷_, head-eq-of-cons-eq, tail-eq-of-cons-eq}
 use Prim.Native.Nat.{ℕ, suc, _+_, _*_, _-_, _≤_, _<_}
 use native.Mathlib.Numerals.{add-one}
@@ -12,11 +12,11 @@ use lib.Seq.{drop-cons, drop-drop, getD-drop}
 use borrow.Author.Tests.{ltb-false, lt-ltb}
 use Rattle.code.specs.declared.Row.{Row}
 use Rattle.code.specs.Definitions.Lists.{if_then_else_, any, table}
-use Rattle.code.specs.Definitions.Sheets.{limits, isDigit, valueOf, firstField, wordLength, hasStarts, rowPlace, rowOf, beginsOf, badEntry, badRow, badWord}
+use Rattle.code.specs.Definitions.Sheets.{limits, isDigit, valueOf, firstField, startField, wordLength, hasStarts, rowPlace, rowOf, beginsOf, badEntry, badRow, badWord}
 use Rattle.code.specs.Laws.Lists.{any-at, or-neither, table-same, getD-within}
 use Rattle.code.specs.Laws.Clean.{Clean, recordFields, recordFields-some}
 use Rattle.code.specs.Laws.Fits.{Fits}
-use Rattle.code.specs.Laws.Records.{place-some, width, bits}
+use Rattle.code.specs.Laws.Records.{entry-byte, place-some, width, bits}
 use Rattle.sheet.specs.Fields.{leading}
 use Rattle.sheet.specs.Front.{field-last, field-comma, field-line}
 use Rattle.sheet.specs.Rows.{After, over, down, Entries, row-entries, entries-rest}
@@ -37,13 +37,12 @@ rowStart e starts = if starts then e + 3 else e + 1
 
 -- the start mark that stands at `at`
 abbrev pub markAt : List ℕ → ℕ → Bool → ℕ
-markAt s at starts = if starts then valueOf (getD s at 0) else 1
+markAt s at starts = if starts then if eqb (getD s at 0) 49 then 1 else 0 else 1
 
 -- Record k begins at `at`; its word ends at e; there are n records.
 pub record RecordAt (s : List ℕ) (g : List (List (List ℕ))) (at e k n : ℕ) (starts : Bool) : Type 0 where
   pub word : leading (drop at s) ≡ firstField (getD g k [])
   pub short : length (leading (drop at s)) ≤ 16
-  pub digit : starts ≡ true → (e + 1 < length s) × (isDigit (getD s (e + 1) 0) ≡ true)
   pub mark : markAt s (e + 1) starts ≡ beginsOf limits g k
   pub row : List (List ℕ)
   pub wide : length row ≡ n
@@ -121,7 +120,6 @@ module _ (s : List ℕ) (g : List (List (List ℕ))) (at e k : ℕ) (f : Fits li
       record {
         word = sym (ap firstField is);
         short = word-short o is;
-        digit = λ q. absurd (false≢true q);
         mark = rw (none, lt-ltb k (length g) h);
         row = o;
         wide = omega arith;
@@ -129,18 +127,24 @@ module _ (s : List ℕ) (g : List (List (List ℕ))) (at e k : ℕ) (f : Fits li
         same = rw none (row-from o (getD g k []) 1 (λ y. rw (is, add-one y)));
       }
 
+  mark-read : (m : List ℕ) (o : List (List ℕ)) → getD g k [] ≡ leading (drop at s) ∷ m ∷ o → Entries (drop (e + 1) s) (m ∷ o) (drop (k + 1) g) → hasStarts g ≡ true
+      → markAt s (e + 1) true ≡ beginsOf limits g k
+  mark-read m o is rest has =
+      let here : e + 1 + 2 * 0 ≡ e + 1 = omega arith in
+      let byte : getD s (e + 1) 0 ≡ getD m 0 48 = rw here at (sym (byte-at s (e + 1) rest 0 (omega arith)) ∙ rest .bytes 0 (omega arith)) in
+      let good : badEntry m ≡ false = rw is at (any-at (λ r. badEntry (startField r)) g [] (rw has at (f .starts)) k h) in
+      rw (has, is, byte) (entry-byte (λ b. (if eqb b 49 then 1 else 0) ≡ valueOf b) m good refl refl)
+
   marked-record : (o : List (List ℕ)) → getD g k [] ≡ leading (drop at s) ∷ o → Entries (drop (e + 1) s) o (drop (k + 1) g) → hasStarts g ≡ true
       → suc (length o) ≡ length g + 2 → RecordAt s g at e k (length g) true
   marked-record [] is rest has wide = absurd (omega arith)
   marked-record (m ∷ o) is rest has wide =
-      let here : e + 1 + 2 * 0 ≡ e + 1 = omega arith in
       let further : e + 1 + 2 ≡ e + 3 = omega arith in
       let two : (y : ℕ) → y + 2 ≡ suc (suc y) = λ y. omega arith in
       record {
         word = sym (ap firstField is);
         short = word-short (m ∷ o) is;
-        digit = λ q. (rw here at (entry-within s (e + 1) rest 0 (omega arith)), rw here at (entry-digit s (e + 1) rest 0 (omega arith)));
-        mark = rw (has, is) (rw here at (entry-symbol s (e + 1) rest 0 (omega arith)));
+        mark = mark-read m o is rest has;
         row = o;
         wide = omega arith;
         entries = rw (drop-drop 2 (e + 1) s, further) at (entries-rest (drop (e + 1) s) m o (drop (k + 1) g) rest (omega arith));

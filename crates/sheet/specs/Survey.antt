@@ -10,7 +10,6 @@ use lib.ListN.{length, take, drop, getD}
 use borrow.Author.Tests.{ne-eqb, eq-eqb}
 use Rattle.code.specs.declared.SheetAnswer.{SheetAnswer}
 use Rattle.code.specs.declared.SheetAnswer.the-variants.{Accepted, Refused}
-use Rattle.code.specs.declared.Refusal.{Refusal}
 use Rattle.code.specs.declared.Refusal.the-variants.{RecordCount, WordLength, CodeLength, FieldCount, RowEntry, StartField}
 use Rattle.code.specs.Definitions.Lists.{if_then_else_, any, sum}
 use Rattle.code.specs.Definitions.Sheets.{limits, badEntry, badRow, badWord, wordLength}
@@ -66,22 +65,29 @@ surveyRecords v (r ∷ g) = surveyRecords (endRecord (surveyFields v r)) g
 abbrev pub marked : Survey → Bool
 marked v = not (v .badwidth) && eqb (v .width) (v .records + 2)
 
+-- the refusals 6, 7 and 15 of a sheet with start fields or without
+abbrev pub widthBad : Survey → Bool → Bool
+widthBad v starts = if starts then false else v .badwidth || not (eqb (v .width) (v .records + 1))
+
+abbrev pub rowBad : Survey → Bool → Bool
+rowBad v starts = if starts then v .badlater else v .badsecond || v .badlater
+
+abbrev pub startBad : Survey → Bool → Bool
+startBad v starts = if starts then v .badsecond else false
+
 -- what the survey says of the sheet: the refusals in turn
-abbrev pub inTurn : Bool → Refusal → SheetAnswer → SheetAnswer
-inTurn t r a = if t then Refused r else a
-
-abbrev pub answerMarked : Survey → SheetAnswer
-answerMarked v = inTurn (v .badlater) RowEntry (inTurn (v .badsecond) StartField Accepted)
-
-abbrev pub answerPlain : Survey → SheetAnswer
-answerPlain v = inTurn (v .badwidth || not (eqb (v .width) (v .records + 1))) FieldCount (inTurn (v .badsecond || v .badlater) RowEntry Accepted)
+abbrev pub answerBy : (a b c d e f : Bool) → SheetAnswer
+answerBy a b c d e f =
+    if a then Refused RecordCount else
+    if b then Refused WordLength else
+    if c then Refused CodeLength else
+    if d then Refused FieldCount else
+    if e then Refused RowEntry else
+    if f then Refused StartField else
+    Accepted
 
 abbrev pub answerOf : Survey → Bool → SheetAnswer
-answerOf v starts =
-    inTurn (ltb 32 (v .records)) RecordCount
-    (inTurn (v .badword) WordLength
-    (inTurn (ltb 128 (v .symbols)) CodeLength
-    (if starts then answerMarked v else answerPlain v)))
+answerOf v starts = answerBy (ltb 32 (v .records)) (v .badword) (ltb 128 (v .symbols)) (widthBad v starts) (rowBad v starts) (startBad v starts)
 
 -- One record: its word first, then the second field, then the others.
 laters : (n k w y : ℕ) (a b c d : Bool) (r : List (List ℕ))

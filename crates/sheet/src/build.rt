@@ -1,16 +1,16 @@
 // The table of an accepted sheet: one pass from record to record.
 
+use crate::bytes::byte_at;
 use crate::bytes::field_end;
 use crate::bytes::value_of;
 use code::Code;
 use code::Row;
 use code::Word;
 ghost use mathlib.Core.Path.{_≡_};
-ghost use mathlib.Core.Bool.{true};
 ghost use mathlib.Core.List.{[]};
-ghost use Prim.Native.Nat.{_+_, _≤_, _<_};
-ghost use lib.ListN.{length, drop, getD};
-ghost use Rattle.code.specs.Definitions.Sheets.{limits, isDigit, hasStarts, wordOf, rowOf, codeOf, blankCode};
+ghost use Prim.Native.Nat.{_+_, _≤_};
+ghost use lib.ListN.{length, drop};
+ghost use Rattle.code.specs.Definitions.Sheets.{limits, hasStarts, wordOf, rowOf, codeOf, blankCode};
 ghost use Rattle.code.specs.Definitions.Lists.{table};
 ghost use Rattle.code.specs.Laws.Clean.{Clean, recordFields};
 ghost use Rattle.code.specs.Laws.Fits.{Fits};
@@ -67,11 +67,13 @@ fn read_row(s: &[u8], at: usize, n: usize) -> Row
 
 // The start mark that stands at `at`; without start fields every word may begin.
 fn read_mark(s: &[u8], at: usize, starts: bool) -> u8
-    requires { ⌜ (starts ≡ true → (at < length (now s)) × (isDigit (getD (now s) at 0) ≡ true)) ⌝ }
     ensures { λ r. ⌜ r ≡ markAt (now (s .entry)) at starts ⌝ }
 {
     if starts {
-        return value_of(s[at]);
+        if byte_at(s, at) == 49 {
+            return 1;
+        }
+        return 0;
     }
     1
 }

@@ -3,7 +3,7 @@
 ghost use mathlib.Core.Path.{_≡_};
 ghost use mathlib.Core.Bool.{true, false, _||_};
 ghost use Prim.Native.Nat.{_+_, _≤_};
-ghost use lib.ListN.{length, take, drop};
+ghost use lib.ListN.{length, take, drop, getD};
 ghost use Rattle.code.specs.Definitions.Sheets.{isDigit, valueOf, badBytes, body};
 ghost use Rattle.sheet.specs.Fields.{badByte, afterCr, leading};
 
@@ -109,4 +109,14 @@ pub fn field_end(s: &[u8], at: usize) -> usize
         }
     }
     i
+}
+
+// The byte at a position, 0 past the end.
+pub fn byte_at(s: &[u8], at: usize) -> u8
+    ensures { λ r. ⌜ r ≡ getD (now (s .entry)) at 0 ⌝ }
+{
+    if at < s.len() {
+        return s[at];
+    }
+    0
 }

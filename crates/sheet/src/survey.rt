@@ -1,5 +1,6 @@
 // What the records of a sheet amount to: one pass from field to field, with counts, and a flag for each refusal that a single record can show.
 
+use crate::bytes::byte_at;
 use crate::bytes::field_end;
 use crate::bytes::or;
 use code::Code;
@@ -8,10 +9,10 @@ use code::SheetAnswer;
 use code::Word;
 ghost use mathlib.Core.Path.{_≡_};
 ghost use Prim.Native.Nat.{_+_, _≤_, _<_};
-ghost use lib.ListN.{length, drop, getD};
+ghost use lib.ListN.{length, drop};
 ghost use Rattle.code.specs.Definitions.Sheets.{limits};
 ghost use Rattle.code.specs.Laws.Clean.{Clean, recordFields};
-ghost use Rattle.sheet.specs.Survey.{start, entryBad, wordBad, takeSpan, endRecord, surveyRecords, marked, answerMarked, answerOf};
+ghost use Rattle.sheet.specs.Survey.{start, entryBad, wordBad, takeSpan, endRecord, surveyRecords, marked, widthBad, rowBad, startBad, answerOf};
 ghost use Rattle.sheet.specs.Passing.{Bounded, Step};
 
 // `records` and `fields` count what has ended: records, and fields of the current record. `width` is the number of fields of the first record.
@@ -31,16 +32,6 @@ pub struct Survey {
 pub struct Cursor {
     pub survey: Survey,
     pub at: usize,
-}
-
-// The byte at a position, 0 past the end.
-fn byte_at(s: &[u8], at: usize) -> u8
-    ensures { λ r. ⌜ r ≡ getD (now (s .entry)) at 0 ⌝ }
-{
-    if at < s.len() {
-        return s[at];
-    }
-    0
 }
 
 // A start field or a row entry is the single digit 0 or 1; here it has n bytes, of which b is the first.
@@ -163,17 +154,35 @@ pub fn has_starts(v: Survey) -> bool
     v.width == v.records + 2
 }
 
-// With start fields: the row entries are the fields behind them.
-fn judge_marked(v: Survey) -> SheetAnswer
-    ensures { λ r. ⌜ r ≡ answerMarked v ⌝ }
+// Refusal 6: with start fields all records have the right width, without them all must have one field more than there are records.
+fn bad_width(v: Survey, starts: bool) -> bool
+    requires { ⌜ v .records ≤ limits .bytes + 2 ⌝ }
+    ensures { λ r. ⌜ r ≡ widthBad v starts ⌝ }
 {
-    if v.badlater {
-        return SheetAnswer::Refused(Refusal::RowEntry);
+    if starts {
+        return false;
     }
-    if v.badsecond {
-        return SheetAnswer::Refused(Refusal::StartField);
+    or(v.badwidth, v.width != v.records + 1)
+}
+
+// Refusal 7: the second field is a row entry only where there are no start fields.
+fn bad_row(v: Survey, starts: bool) -> bool
+    ensures { λ r. ⌜ r ≡ rowBad v starts ⌝ }
+{
+    if starts {
+        return v.badlater;
     }
-    SheetAnswer::Accepted
+    or(v.badsecond, v.badlater)
+}
+
+// Refusal 15.
+fn bad_start(v: Survey, starts: bool) -> bool
+    ensures { λ r. ⌜ r ≡ startBad v starts ⌝ }
+{
+    if starts {
+        return v.badsecond;
+    }
+    false
 }
 
 // What the survey says of the sheet, with start fields or without: the lowest refusal from 3 on, or that it is accepted.
@@ -181,6 +190,9 @@ pub fn judge(v: Survey, starts: bool) -> SheetAnswer
     requires { ⌜ v .records ≤ limits .bytes + 2 ⌝ }
     ensures { λ r. ⌜ r ≡ answerOf v starts ⌝ }
 {
+    let width = bad_width(v, starts);
+    let row = bad_row(v, starts);
+    let start = bad_start(v, starts);
     if Code::WORDS < v.records {
         return SheetAnswer::Refused(Refusal::RecordCount);
     }
@@ -190,14 +202,14 @@ pub fn judge(v: Survey, starts: bool) -> SheetAnswer
     if Code::SYMBOLS < v.symbols {
         return SheetAnswer::Refused(Refusal::CodeLength);
     }
-    if starts {
-        return judge_marked(v);
-    }
-    if or(v.badwidth, v.width != v.records + 1) {
+    if width {
         return SheetAnswer::Refused(Refusal::FieldCount);
     }
-    if or(v.badsecond, v.badlater) {
+    if row {
         return SheetAnswer::Refused(Refusal::RowEntry);
+    }
+    if start {
+        return SheetAnswer::Refused(Refusal::StartField);
     }
     SheetAnswer::Accepted
 }

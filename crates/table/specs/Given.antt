@@ -1,14 +1,14 @@
 -- Every table that an accepted sheet gives is well-formed: refusals 3 to 7 and 15 bound what the fields hold, and past the fields a read gives nothing, which counts as zero.
 use mathlib.Core.Path.{_≡_, refl, ap, _∙_}
-use mathlib.Core.Bool.{Bool, true, false, true≢false, and-false}
-use mathlib.Core.List.{List, [], _∷_, map}
+use mathlib.Core.Bool.{Bool, true, false}
+use mathlib.Core.List.{List, [], map}
 use Prim.Native.Nat.{ℕ, _+_, _-_, _≤_, _<_}
 use native.Mathlib.Omega.{arith}
 use native.Mathlib.Decide.{decLt}
 use lib.Dec.{ltb, eqb}
 use lib.ListN.{length, drop, getD, length-drop, List·getD-eq-default}
 use lib.Seq.{getD-drop}
-use borrow.Author.Tests.{lt-ltb, ltb-false, eqb-true, eqb-false}
+use borrow.Author.Tests.{lt-ltb, ltb-false, eqb-false}
 use Rattle.code.specs.declared.Word.{Word}
 use Rattle.code.specs.declared.Code.{Code}
 use Rattle.code.specs.declared.Limits.{Limits}
@@ -18,7 +18,7 @@ use Rattle.code.specs.Definitions.Sheets.{isDigit, valueOf, body, records, grid
 use Rattle.code.specs.Laws.Lists.{length-table, getD-table, getD-table-past, table-same, table-map, any-at, sum-past, or-neither}
 use Rattle.code.specs.Laws.Clean.{clean-body, records-some}
 use Rattle.code.specs.Laws.Fits.{Fits}
-use Rattle.code.specs.Laws.Records.{place-some, wide-at, begins-past, width, bits}
+use Rattle.code.specs.Laws.Records.{entry-byte, place-some, wide-at, begins-past, width, bits}
 use Rattle.table.specs.WellFormed.{lenOf, CellsFit, WordFits, RowFits, WellFormed}
 use Rattle.table.specs.Accepts.{accepts}
 use Rattle.table.specs.Digits.{value-symbol, entryValue, first-digits}
@@ -35,16 +35,6 @@ module _ (bound used m : ℕ) (f : ℕ → ℕ) (some : 0 < bound) (below : (p :
     zero = λ p h. table-cell f m p (λ v. v ≡ 0) (zero p h) refl (decLt p m);
   }
 
--- A field that is a digit 0 or 1 stands for it.
-entry-bit : (f : List ℕ) → badEntry f ≡ false → entryValue f < 2
-entry-bit [] e = absurd (true≢false e)
-entry-bit (a ∷ f) e = by-digit (eqb a 48) (eqb a 49) refl refl
-  where
-    by-digit : (t u : Bool) → eqb a 48 ≡ t → eqb a 49 ≡ u → valueOf a < 2
-    by-digit true u p q = rw (eqb-true a 48 p) (omega arith)
-    by-digit false true p q = rw (eqb-true a 49 q) (omega arith)
-    by-digit false false p q = absurd (true≢false (rw (p, q, and-false) at e))
-
 module _ (l : Limits) (g : List (List (List ℕ))) where
   nothing : (k : ℕ) → length g ≤ k → getD g k [] ≡ []
   nothing k h = List·getD-eq-default g [] h
@@ -57,7 +47,7 @@ module _ (l : Limits) (g : List (List (List ℕ))) where
         let within : j < length (drop 1 r) = omega (arith, length-drop 1 r) in
         let at : 1 + j ≡ j + 1 = omega arith in
         rw (← at, ← getD-drop 1 r j [])
-        (entry-bit (getD (drop 1 r) j []) (any-at badEntry (drop 1 r) [] (any-at (badRow 1) g [] (bits f) x h) j within))
+        (entry-byte (λ b. valueOf b < 2) (getD (drop 1 r) j []) (any-at badEntry (drop 1 r) [] (any-at (badRow 1) g [] (bits f) x h) j within) (omega arith) (omega arith))
 
     entry : ℕ → ℕ → ℕ
     entry x y = entryValue (getD (getD g x []) (y + rowPlace g) [])

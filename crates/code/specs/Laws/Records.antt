@@ -1,6 +1,6 @@
 -- What the refusals 6, 7 and 15 leave of the records of a sheet: all have the same number of fields, and every field behind the word is a digit 0 or 1.
 use mathlib.Core.Path.{_≡_, refl}
-use mathlib.Core.Bool.{Bool, true, false, not, _&&_, _||_, or-false}
+use mathlib.Core.Bool.{Bool, true, false, not, _&&_, _||_, true≢false, and-false, or-false}
 use mathlib.Core.List.{List, [], _∷_}
 use Prim.Native.Nat.{ℕ, _+_, _≤_, _<_}
 use native.Mathlib.Omega.{arith}
@@ -12,6 +12,16 @@ use Rattle.code.specs.Definitions.Lists.{any, if_then_else_}
 use Rattle.code.specs.Definitions.Sheets.{valueOf, allWide, hasStarts, rowPlace, badEntry, badRow, startField, beginsOf}
 use Rattle.code.specs.Laws.Lists.{any-at, any-none, every-at}
 use Rattle.code.specs.Laws.Fits.{Fits}
+
+-- The byte of a start field or row entry is the digit 0 or 1.
+pub entry-byte : (P : ℕ → Type 0) (f : List ℕ) → badEntry f ≡ false → P 48 → P 49 → P (getD f 0 48)
+entry-byte P [] e zero one = absurd (true≢false e)
+entry-byte P (a ∷ f) e zero one = by-digit (eqb a 48) (eqb a 49) refl refl
+  where
+    by-digit : (t u : Bool) → eqb a 48 ≡ t → eqb a 49 ≡ u → P a
+    by-digit true u p q = rw (eqb-true a 48 p) zero
+    by-digit false true p q = rw (eqb-true a 49 q) one
+    by-digit false false p q = absurd (true≢false (rw (p, q, and-false) at e))
 
 -- a record with a start field
 row-from-two : (r : List (List ℕ)) → 2 ≤ length r → badEntry (startField r) ≡ false → badRow 2 r ≡ false → badRow 1 r ≡ false

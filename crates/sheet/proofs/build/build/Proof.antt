@@ -3,7 +3,7 @@ use borrow.Author.Needs.{needs}
 use native.Mathlib.Omega.{arith}
 use Prim.Native.Nat.{_-_}
 use Rattle.code.specs.Laws.Clean.{recordFields}
-use Rattle.sheet.specs.Building.{Built, built-none, few-records, word-next, mark-next, row-next, built-more, built-all}
+use Rattle.sheet.specs.Building.{Built, built-none, few-records, word-next, row-next, built-more, built-all}
 use Rattle.sheet.proofs.build.build.Statement.{statement}
 use Rattle.sheet.proofs.build.build.Tie as tie
 
@@ -28,12 +28,6 @@ read-word-requires c κs =
 
 add-read-mark : tie.Need-add-read-mark Inv-loop μ-loop
 add-read-mark c = let p = c .before .before .before .before .before .before .pre in omega (arith, p .1)
-
-read-mark-requires : tie.Need-read-mark-requires Inv-loop μ-loop
-read-mark-requires c κs =
-    let l = c .before .before .before .loop in
-    let p = c .before .before .before .before .before .before .pre in
-    mark-next _ _ _ _ _ _ _ _ (p .2) (l .inv) (p .3) (p .4) (search needs) (c .before .field-end .ensures .0)
 
 row-start-requires : tie.Need-row-start-requires Inv-loop μ-loop
 row-start-requires c κs = let p = c .before .before .before .before .before .before .before .pre in omega (arith, p .1)
@@ -97,7 +91,7 @@ build-spec =
     field-end-requires
     read-word-requires
     add-read-mark
-    read-mark-requires
+    (λ c κs. search needs)
     row-start-requires
     read-row-requires
     mul-word
