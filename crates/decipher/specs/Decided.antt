@@ -8,7 +8,7 @@ use Rattle.code.specs.declared.Verdict.{Verdict}
 use Rattle.code.specs.Definitions.Answers.{VerdictMeans}
 use Rattle.code.specs.Definitions.Operations.{zeroed, Shown}
 use Rattle.code.specs.Definitions.Tables.{tableOf}
-use Rattle.pairs.specs.OpenPairs.{open-shows}
+use Rattle.pairs.specs.OpenPairs.{open-finds}
 use Rattle.pairs.specs.RivalPairs.{Ended}
 use Rattle.places.specs.Whole.{LaidOut}
 use Rattle.shortest.specs.declared.Search.{Search}
@@ -41,7 +41,7 @@ module _ {c : Code} {places m f g w m′ w₁ : List ℕ} {r : Search} (laid : L
     x = take n m′;
     s = s;
     u = u;
-    means = (search-ambiguous (open-shows laid) (laid .fits .some) (found-least answers e) h, i, j, k);
+    means = (search-ambiguous (open-finds laid (ended .closed)) (laid .fits .some) (found-least answers e) h, i, j, k);
     shown = (found-written answers e, p, q);
     work = rw long at z;
   }

@@ -23,7 +23,7 @@ use Rattle.delay.specs.Answer as Answer
 use Rattle.delay.specs.Extents.{ExtentOf}
 use Rattle.graph.specs.Goals.{NoGoal}
 use Rattle.graph.specs.Graph.{Longest, Endless}
-use Rattle.pairs.specs.OpenPairs.{open-shows}
+use Rattle.pairs.specs.OpenPairs.{open-finds}
 use Rattle.pairs.specs.RivalPairs.{Ended, some-parting, none-part, rival-shows}
 use Rattle.places.specs.Flat.{pairGraph}
 use Rattle.places.specs.Opens.{openGraph}
@@ -60,7 +60,7 @@ module _ {f w w′ : List ℕ} {n : ℕ} (long : n ≡ length w) (clear : w′ �
 
 module _ {t : Table} {f : List ℕ} (laid : LaidOut t f) (ended : Ended t f) (none : NoGoal (openGraph f)) where
   deciphered : Decipherable t
-  deciphered = search-decipherable (open-shows laid) (laid .fits .some) none
+  deciphered = search-decipherable (open-finds laid (ended .closed)) (laid .fits .some) none
 
   by-rivals : (r : ℕ) (b : Bool) → someRivals f ≡ b → Longest (pairGraph f) r → Delay t (if b then r + 1 else 0)
   by-rivals r true e l = rw add-one (search-delay (rival-shows laid ended) (laid .fits .some) deciphered (some-parting laid ended e) l)

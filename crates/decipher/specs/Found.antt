@@ -9,14 +9,15 @@ use Rattle.code.specs.Definitions.Operations.{written}
 use Rattle.code.specs.Definitions.Readings.{TwoReadings}
 use Rattle.code.specs.Definitions.Tables.{Table}
 use Rattle.graph.specs.Goals.{NoGoal, LeastGoal}
-use Rattle.pairs.specs.OpenPairs.{open-shows}
+use Rattle.pairs.specs.OpenPairs.{open-finds}
+use Rattle.pairs.specs.RivalPairs.{Ended}
 use Rattle.places.specs.Opens.{openGraph}
 use Rattle.places.specs.Whole.{LaidOut}
 use Rattle.shortest.specs.declared.Search.{Search}
 use Rattle.shortest.specs.declared.Search.the-variants.{Found, Nothing}
 use Rattle.shortest.specs.Contracts.{Message, Answers, found, nothing}
 use Rattle.theory.specs.Ambiguity.{ends→readings}
-use Rattle.theory.specs.Searches.{goal→ends, least-goal}
+use Rattle.theory.specs.Searches.{least-goal}
 use Rattle.decipher.specs.Lengths.{least-few}
 
 module _ {places m m′ : List ℕ} where
@@ -45,11 +46,11 @@ module _ {places m m′ : List ℕ} where
     pub found-least : LeastGoal (openGraph places) (take n m′)
     found-least = rw symbols-at (was-found answers is .least)
 
-    module _ {t : Table} (laid : LaidOut t places) where
+    module _ {t : Table} (laid : LaidOut t places) (ended : Ended t places) where
       -- It has two readings,
       pub found-two : TwoReadings t (take n m′)
-      found-two = ends→readings (laid .fits .some) (goal→ends (open-shows laid) (found-least .goal))
+      found-two = ends→readings (laid .fits .some) (open-finds laid (ended .closed) .ends (found-least .goal))
 
       -- and at most 8,256 symbols.
       pub found-few : length (take n m′) ≤ 8256
-      found-few = least-few (laid .fits) (least-goal (open-shows laid) found-least)
+      found-few = least-few (laid .fits) (least-goal (open-finds laid (ended .closed)) found-least)
