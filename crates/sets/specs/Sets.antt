@@ -1,7 +1,7 @@
 -- A code as sets of words, numbers whose bit x stands for word x. `having` has for each symbol and index the words with this symbol there, `ends` for each index
 -- the words that end with it, `rows` for each word the words that it may come after, `lengths` the length of each word.
 use mathlib.Core.Path.{_≡_}
-use mathlib.Core.Bool.{Bool, true}
+use mathlib.Core.Bool.{Bool}
 use mathlib.Core.List.{List}
 use Prim.Native.Nat.{ℕ, _+_, _*_, _^_, _≤_, _<_}
 use native.Mathlib.Decide.{decLt}

@@ -10,7 +10,7 @@ use lib.ListN.{length, drop, getD}
 use lib.Seq.{getD-drop}
 use borrow.Author.Tests.{le-leb, lt-leb, eq-eqb, ne-eqb}
 use Rattle.code.specs.Definitions.Lists.{if_then_else_}
-use Rattle.code.specs.Definitions.Sheets.{isDigit, fields}
+use Rattle.code.specs.Definitions.Sheets.{isDigit}
 use Rattle.code.specs.Laws.Clean.{Clean, recordFields, recordFields-some}
 use Rattle.sheet.specs.declared.survey.Survey.{Survey}
 use Rattle.sheet.specs.declared.survey.Cursor.{Cursor}

@@ -14,7 +14,7 @@ use Rattle.code.specs.declared.Code.{Code}
 use Rattle.code.specs.declared.Limits.{Limits}
 use Rattle.code.specs.Definitions.Lists.{if_then_else_, table, sum}
 use Rattle.code.specs.Definitions.Tables.{noWord, noRow}
-use Rattle.code.specs.Definitions.Sheets.{isDigit, valueOf, body, records, grid, firstField, wordLength, hasStarts, rowPlace, badEntry, badRow, startField, badWord, wordOf, rowOf, beginsOf, codeOf, refused4, FromSheet}
+use Rattle.code.specs.Definitions.Sheets.{isDigit, valueOf, body, grid, firstField, wordLength, hasStarts, rowPlace, badEntry, badRow, startField, badWord, wordOf, rowOf, beginsOf, codeOf, refused4, FromSheet}
 use Rattle.code.specs.Laws.Lists.{length-table, getD-table, getD-table-past, table-same, table-map, any-at, sum-past, or-neither}
 use Rattle.code.specs.Laws.Clean.{clean-body, records-some}
 use Rattle.code.specs.Laws.Fits.{Fits}
