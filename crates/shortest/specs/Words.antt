@@ -15,13 +15,12 @@ use Rattle.places.specs.Entries.{nodeAt}
 use Rattle.places.specs.Flat.{Laid, symbolAt, firstAt, mayCome, opensAt, wordCount}
 use Rattle.places.specs.Nodes.{node-of}
 use Rattle.places.specs.Opens.{inOrder, pairBehind, toward, openGraph, Behind, behind-tests, behind-both, behind-words, in-order, in-order-le, in-order-least, toward-turning}
-use Rattle.places.specs.Roots.{Numbered}
 use Rattle.places.specs.Steps.{Arrives, startNode}
 use Rattle.shortest.specs.declared.members.Progress.{Progress}
 use Rattle.shortest.specs.declared.members.Progress.the-variants.{Goal, Tail}
-use Rattle.shortest.specs.Contracts.{Turned, Stands, Ready, Arrived, known as old, Progressed, went}
+use Rattle.shortest.specs.Contracts.{Turned, Stands, Expanding, Arrived, known as old, Progressed, went}
 use Rattle.shortest.specs.Pairs.{arrival-symbol, pair-slots, width-turning}
-use Rattle.shortest.specs.Parts.{was-tail, goal-again, ready-again}
+use Rattle.shortest.specs.Parts.{goal-again, expanding-next}
 use Rattle.shortest.specs.Queue.{Met}
 use Rattle.shortest.specs.Slots.{slots-begin, next-member}
 use Rattle.shortest.specs.Steps.{slot-done}
@@ -91,47 +90,47 @@ module _ {f ms q : List ℕ} {tail a b t k : ℕ} (y : ℕ) (u : Turned f (nodeA
       by j l h i (no m) = absurd (none j (omega arith) l (rw (toward-behind f u j) at h) (rw (toward-behind f u j) at i))
 
   -- A word that does not lead by t.
-  pub word-over : (x : ℕ) {r : Bool} → Stands f ms q tail a b t k (x * 32) → r ≡ leadsBehind f t y x → not r ≡ true
+  pub word-over : (x : ℕ) {r : Bool} → Expanding f ms q tail a b t k (x * 32) → r ≡ leadsBehind f t y x → not r ≡ true
       → Progressed f ms q a b t k ((x + 1) * 32) (Tail tail)
   word-over x {r} s d e =
       went
-      (pass-over s (λ j l m h i. let z : j / 32 ≡ x = omega arith in true≢false (sym (word-leads f t y j h i) ∙ rw z (sym d ∙ not-true r e))))
+      (pass-over (s .stands) (λ j l m h i. let z : j / 32 ≡ x = omega arith in true≢false (sym (word-leads f t y j h i) ∙ rw z (sym d ∙ not-true r e))))
 
   -- The words before the least one in order.
-  pub word-begun : (x : ℕ) {z : ℕ} → Stands f ms q tail a b t k (x * 32) → z ≡ leastBehind f x → z ≤ 32 → Stands f ms q tail a b t k (x * 32 + z)
+  pub word-begun : (x : ℕ) {z : ℕ} → Expanding f ms q tail a b t k (x * 32) → z ≡ leastBehind f x → z ≤ 32 → Expanding f ms q tail a b t k (x * 32 + z)
   word-begun x {z} s e n =
-      pass-over s
-      (λ j l m h i.
-      let w : j / 32 ≡ x = omega arith in
-      let o : leastBehind f x ≤ j % 32 = rw w at (in-order-least f (j / 32) (j % 32) (behind-tests f y j h .order)) in
-      omega arith)
+      record {
+        laid = s .laid;
+        numbered = s .numbered;
+        stands =
+            pass-over (s .stands)
+            (λ j l m h i.
+            let w : j / 32 ≡ x = omega arith in
+            let o : leastBehind f x ≤ j % 32 = rw w at (in-order-least f (j / 32) (j % 32) (behind-tests f y j h .order)) in
+            omega arith);
+        ready = s .ready;
+      }
 
   -- After the last word.
-  pub word-ended : (x : ℕ) {z n : ℕ} → Stands f ms q tail a b t k (x * 32 + z) → n ≡ wordCount f → n ≤ z → Progressed f ms q a b t k ((x + 1) * 32) (Tail tail)
-  word-ended x {z} {n} s e l = went (pass-over s (λ j m o h i. let g = behind-tests f y j h .known in omega arith))
+  pub word-ended : (x : ℕ) {z n : ℕ} → Expanding f ms q tail a b t k (x * 32 + z) → n ≡ wordCount f → n ≤ z → Progressed f ms q a b t k ((x + 1) * 32) (Tail tail)
+  word-ended x {z} {n} s e l = went (pass-over (s .stands) (λ j m o h i. let g = behind-tests f y j h .known in omega arith))
 
-  module _ (laid : Laid f) (n : Numbered f) (r : Ready ms q tail a b t k) (x z : ℕ) where
-    -- After the pair of words x and z was met.
-    pub word-next : {ms′ q′ : List ℕ} {e : ℕ} {p : Progress} → Stands f ms q tail a b t k (x * 32 + z)
-        → Arrived f ms q ms′ q′ a t tail (pairBehind f y (x * 32 + z)) p → p ≡ Tail e → Stands f ms′ q′ e a b t k (x * 32 + (z + 1))
-    word-next s m d =
+  -- After the pair of words x and z was met.
+  module _ (x z : ℕ) {ms′ q′ : List ℕ} {p : Progress} (s : Expanding f ms q tail a b t k (x * 32 + z))
+      (m : Arrived f ms q ms′ q′ a t tail (pairBehind f y (x * 32 + z)) p) where
+    pub word-next : {e : ℕ} → p ≡ Tail e → length q′ ≡ length q → Expanding f ms′ q′ e a b t k (x * 32 + (z + 1))
+    word-next d l =
         let w : x * 32 + z + 1 ≡ x * 32 + (z + 1) = omega arith in
-        rw w at (was-tail (slot-done laid n s r (toward-behind f u (x * 32 + z)) m) d)
+        rw w at (expanding-next s (slot-done s (toward-behind f u (x * 32 + z)) m) d l)
 
-    pub word-ready : {ms′ q′ : List ℕ} {e : ℕ} {p : Progress} → Stands f ms q tail a b t k (x * 32 + z)
-        → Arrived f ms q ms′ q′ a t tail (pairBehind f y (x * 32 + z)) p → p ≡ Tail e → length q′ ≡ length q → Ready ms′ q′ e a b t k
-    word-ready s m d = ready-again laid n (word-next s m d) r
-
-    pub word-goal : {ms′ q′ : List ℕ} {g t′ k′ c′ : ℕ} {p : Progress} → Stands f ms q tail a b t k (x * 32 + z)
-        → Arrived f ms q ms′ q′ a t tail (pairBehind f y (x * 32 + z)) p → p ≡ Goal g → Progressed f ms′ q′ a b t′ k′ c′ (Goal g)
-    word-goal s m d = goal-again (slot-done laid n s r (toward-behind f u (x * 32 + z)) m) d
+    pub word-goal : {g t′ k′ c′ : ℕ} → p ≡ Goal g → Progressed f ms′ q′ a b t′ k′ c′ (Goal g)
+    word-goal = goal-again (slot-done s (toward-behind f u (x * 32 + z)) m)
 
   -- After the last word the member is done.
-  pub words-ended : Laid f → Numbered f → {x n : ℕ} → Stands f ms q tail a b t k (x * 32) → n ≡ wordCount f → n ≤ x → k < b
-      → Progressed f ms q a b t (k + 1) 0 (Tail tail)
-  words-ended laid m {x} {n} s e l i =
+  pub words-ended : (x : ℕ) {n : ℕ} → Expanding f ms q tail a b t k (x * 32) → n ≡ wordCount f → n ≤ x → Progressed f ms q a b t (k + 1) 0 (Tail tail)
+  words-ended x s e l =
       let w = width-turning f (nodeAt q k) t (let g = u .turns in let h = u .behind in omega arith) in
-      went (slots-begin (next-member s (pair-slots laid m) (omega arith) i))
+      went (slots-begin (next-member (s .stands) (pair-slots (s .laid) (s .numbered)) (omega arith) (s .ready .member)))
 
 -- What `meet_words` returns.
 at-words : {f : List ℕ} → Laid f → (x z : ℕ) → z < wordCount f → ((x * 32 + z) / 32 ≡ x) × ((x * 32 + z) % 32 ≡ z)

@@ -16,8 +16,7 @@ ghost use Prim.Native.Nat.{_+_, _*_, _≤_, _<_};
 ghost use Rattle.places.specs.Entries.{nodeAt};
 ghost use Rattle.places.specs.Flat.{Laid, mayCome, wordCount};
 ghost use Rattle.places.specs.Opens.{inOrder, pairBehind};
-ghost use Rattle.places.specs.Roots.{Numbered};
-ghost use Rattle.shortest.specs.Contracts.{Straight, Turned, Stands, Ready, Space, Arrived, Progressed};
+ghost use Rattle.shortest.specs.Contracts.{Straight, Turned, Space, Arrived, Expanding, Progressed};
 ghost use Rattle.shortest.specs.Words.{leadsBehind, leastBehind};
 
 // A group of the queue: entries `start` to `end` - 1.
@@ -68,10 +67,7 @@ fn expand_slots(
     pair: Pair,
     tail: usize,
 ) -> Progress
-    requires { ⌜ Laid (now places)
-        × Numbered (now places)
-        × Stands (now places) (now marks) (now queue) tail (group .start) (group .end) symbol member 0
-        × Ready (now marks) (now queue) tail (group .start) (group .end) symbol member
+    requires { ⌜ Expanding (now places) (now marks) (now queue) tail (group .start) (group .end) symbol member 0
         × (nodeAt (now queue) member ≡ pair .low * 128 + pair .high)
         × Straight (now places) pair ⌝ }
     ensures { λ r. ⌜ Progressed (now (places .entry)) (now (marks .exit)) (now (queue .exit))
@@ -156,10 +152,7 @@ fn expand_word(
     x: usize,
     tail: usize,
 ) -> Progress
-    requires { ⌜ Laid (now places)
-        × Numbered (now places)
-        × Stands (now places) (now marks) (now queue) tail (group .start) (group .end) symbol member (x * 32)
-        × Ready (now marks) (now queue) tail (group .start) (group .end) symbol member
+    requires { ⌜ Expanding (now places) (now marks) (now queue) tail (group .start) (group .end) symbol member (x * 32)
         × Turned (now places) (nodeAt (now queue) member) y
         × (x < wordCount (now places)) ⌝ }
     ensures { λ r. ⌜ Progressed (now (places .entry)) (now (marks .exit)) (now (queue .exit))
@@ -193,10 +186,7 @@ fn expand_words(
     y: usize,
     tail: usize,
 ) -> Progress
-    requires { ⌜ Laid (now places)
-        × Numbered (now places)
-        × Stands (now places) (now marks) (now queue) tail (group .start) (group .end) symbol member 0
-        × Ready (now marks) (now queue) tail (group .start) (group .end) symbol member
+    requires { ⌜ Expanding (now places) (now marks) (now queue) tail (group .start) (group .end) symbol member 0
         × Turned (now places) (nodeAt (now queue) member) y ⌝ }
     ensures { λ r. ⌜ Progressed (now (places .entry)) (now (marks .exit)) (now (queue .exit))
         (group .start) (group .end) symbol (member + 1) 0 r ⌝ }
@@ -224,10 +214,7 @@ pub fn expand_member(
     member: usize,
     tail: usize,
 ) -> Progress
-    requires { ⌜ Laid (now places)
-        × Numbered (now places)
-        × Stands (now places) (now marks) (now queue) tail (group .start) (group .end) symbol member 0
-        × Ready (now marks) (now queue) tail (group .start) (group .end) symbol member ⌝ }
+    requires { ⌜ Expanding (now places) (now marks) (now queue) tail (group .start) (group .end) symbol member 0 ⌝ }
     ensures { λ r. ⌜ Progressed (now (places .entry)) (now (marks .exit)) (now (queue .exit))
         (group .start) (group .end) symbol (member + 1) 0 r ⌝ }
 {

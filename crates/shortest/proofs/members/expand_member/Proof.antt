@@ -6,10 +6,10 @@ use Rattle.shortest.proofs.members.expand_member.Statement.{statement}
 use Rattle.shortest.proofs.members.expand_member.Tie as tie
 
 expand-words-requires : tie.Need-expand-words-requires
-expand-words-requires c κs = (search needs, search needs, search needs, search needs, search goes-behind)
+expand-words-requires c κs = (search needs, search goes-behind)
 
 expand-slots-requires : tie.Need-expand-slots-requires
-expand-slots-requires c κs = (search needs, search needs, search needs, search needs, search (needs, sym), search goes-straight)
+expand-slots-requires c κs = (search needs, search (needs, sym), search goes-straight)
 
 pub expand-member-spec : {M : Type 1} → statement M
 expand-member-spec =

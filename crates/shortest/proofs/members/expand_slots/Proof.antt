@@ -5,18 +5,17 @@ use mathlib.Core.Path.{_≡_}
 use Prim.Native.Nat.{_+_, _*_, _-_}
 use lib.ListN.{length}
 use Rattle.places.specs.Entries.{nodeAt}
-use Rattle.shortest.specs.Contracts.{Stands, Ready}
+use Rattle.shortest.specs.Contracts.{Expanding}
 use Rattle.shortest.specs.Parts.{space}
 use Rattle.shortest.specs.Steps.{same-number}
-use Rattle.shortest.specs.Straights.{slot-next, slot-ready, slot-goal, slots-ended}
+use Rattle.shortest.specs.Straights.{slot-next, slot-goal, slots-ended}
 use Rattle.shortest.proofs.members.expand_slots.Statement.{statement}
 use Rattle.shortest.proofs.members.expand_slots.Tie as tie
 
 abbrev Inv-loop : tie.InvT-loop
 Inv-loop places marks₀ queue₀ group symbol member pair tail end slot₀ tail₀ marks queue slot tail'
     =
-    Stands places marks queue tail' (group .start) (group .end) symbol member slot
-    × Ready marks queue tail' (group .start) (group .end) symbol member
+    Expanding places marks queue tail' (group .start) (group .end) symbol member slot
     × (nodeAt queue member ≡ pair .low * 128 + pair .high)
     × (length marks ≡ length marks₀)
     × (length queue ≡ length queue₀)
@@ -25,7 +24,7 @@ abbrev μ-loop : tie.MeasureT-loop
 μ-loop places marks₀ queue₀ group symbol member pair tail end slot₀ tail₀ marks queue slot tail' = end - slot
 
 loop-holds : tie.Need-loop-holds Inv-loop μ-loop
-loop-holds c = (search needs, search needs, search needs, search needs, search needs)
+loop-holds c = (search needs, search needs, search needs, search needs)
 
 meet-requires : tie.Need-meet-requires Inv-loop μ-loop
 meet-requires c κs = (search needs, search space, search needs, search needs)
@@ -35,9 +34,9 @@ returns c = search slot-goal
 
 loop-again : tie.Need-loop-again Inv-loop μ-loop
 loop-again c =
-    let l = c .before .before .before .before .before .before .before .before .before .before .before .before in
-    let p = l .before .before .before .before .before .pre in
-    (search (slot-next, p .0, p .1, l .loop .inv .0, l .loop .inv .1, l .loop .inv .2, p .5), search (slot-ready, p .0, p .1, l .loop .inv .0, l .loop .inv .1, l .loop .inv .2, p .5), search same-number, cc, cc)
+    let loop = c .before .before .before .before .before .before .before .before .before .before .before .before in
+    let given = loop .before .before .before .before .before .pre in
+    (search (slot-next, loop .loop .inv .0, loop .loop .inv .1, given .2), search same-number, cc, cc)
 
 returns-2 : tie.Need-returns-2 Inv-loop μ-loop
 returns-2 c = search slots-ended

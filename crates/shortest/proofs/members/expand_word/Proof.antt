@@ -5,18 +5,17 @@ use mathlib.Core.Path.{_≡_}
 use Prim.Native.Nat.{_+_, _*_, _-_, _≤_}
 use lib.ListN.{length}
 use Rattle.places.specs.Entries.{nodeAt}
-use Rattle.shortest.specs.Contracts.{Turned, Stands, Ready}
+use Rattle.shortest.specs.Contracts.{Turned, Expanding}
 use Rattle.shortest.specs.Parts.{space}
 use Rattle.shortest.specs.Steps.{still-turned}
-use Rattle.shortest.specs.Words.{leastBehind, leads-comes, word-over, word-begun, words-ordered, word-next, word-ready, word-goal, word-ended}
+use Rattle.shortest.specs.Words.{leastBehind, leads-comes, word-over, word-begun, words-ordered, word-next, word-goal, word-ended}
 use Rattle.shortest.proofs.members.expand_word.Statement.{statement}
 use Rattle.shortest.proofs.members.expand_word.Tie as tie
 
 abbrev Inv-loop : tie.InvT-loop
 Inv-loop places marks₀ queue₀ group symbol member y x tail n z₀ tail₀ marks queue z tail'
     =
-    Stands places marks queue tail' (group .start) (group .end) symbol member (x * 32 + z)
-    × Ready marks queue tail' (group .start) (group .end) symbol member
+    Expanding places marks queue tail' (group .start) (group .end) symbol member (x * 32 + z)
     × Turned places (nodeAt queue member) y
     × (leastBehind places x ≤ z)
     × (z ≤ 32)
@@ -30,7 +29,7 @@ returns : tie.Need-returns Inv-loop μ-loop
 returns c = (search word-over, search needs)
 
 loop-holds : tie.Need-loop-holds Inv-loop μ-loop
-loop-holds c = (search word-begun, search needs, search needs, search needs, search needs, search needs, search needs)
+loop-holds c = (search word-begun, search needs, search needs, search needs, search needs, search needs)
 
 meet-words-requires : tie.Need-meet-words-requires Inv-loop μ-loop
 meet-words-requires c κs = (search needs, search space, search needs, search leads-comes, search words-ordered, search needs)
@@ -39,7 +38,7 @@ returns-2 : tie.Need-returns-2 Inv-loop μ-loop
 returns-2 c = (search word-goal, search still-turned)
 
 loop-again : tie.Need-loop-again Inv-loop μ-loop
-loop-again c = (search word-next, search word-ready, search still-turned, search needs, search needs, cc, cc)
+loop-again c = (search word-next, search still-turned, search needs, search needs, cc, cc)
 
 returns-3 : tie.Need-returns-3 Inv-loop μ-loop
 returns-3 c = (search word-ended, search needs)

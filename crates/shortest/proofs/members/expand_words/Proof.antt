@@ -5,8 +5,8 @@ use mathlib.Core.Path.{_≡_}
 use Prim.Native.Nat.{_*_, _-_}
 use lib.ListN.{length}
 use Rattle.places.specs.Entries.{nodeAt}
-use Rattle.shortest.specs.Contracts.{Turned, Stands, Ready}
-use Rattle.shortest.specs.Parts.{was-tail, goal-again, ready-next}
+use Rattle.shortest.specs.Contracts.{Turned, Expanding}
+use Rattle.shortest.specs.Parts.{goal-again, expanding-next}
 use Rattle.shortest.specs.Words.{words-ended}
 use Rattle.shortest.proofs.members.expand_words.Statement.{statement}
 use Rattle.shortest.proofs.members.expand_words.Tie as tie
@@ -14,8 +14,7 @@ use Rattle.shortest.proofs.members.expand_words.Tie as tie
 abbrev Inv-loop : tie.InvT-loop
 Inv-loop places marks₀ queue₀ group symbol member y tail n x₀ tail₀ marks queue x tail'
     =
-    Stands places marks queue tail' (group .start) (group .end) symbol member (x * 32)
-    × Ready marks queue tail' (group .start) (group .end) symbol member
+    Expanding places marks queue tail' (group .start) (group .end) symbol member (x * 32)
     × Turned places (nodeAt queue member) y
     × (length marks ≡ length marks₀)
     × (length queue ≡ length queue₀)
@@ -24,16 +23,16 @@ abbrev μ-loop : tie.MeasureT-loop
 μ-loop places marks₀ queue₀ group symbol member y tail n x₀ tail₀ marks queue x tail' = n - x
 
 loop-holds : tie.Need-loop-holds Inv-loop μ-loop
-loop-holds c = (search needs, search needs, search needs, search needs, search needs)
+loop-holds c = (search needs, search needs, search needs, search needs)
 
 expand-word-requires : tie.Need-expand-word-requires Inv-loop μ-loop
-expand-word-requires c κs = (search needs, search needs, search needs, search needs, search needs, search needs)
+expand-word-requires c κs = (search needs, search needs, search needs)
 
 returns : tie.Need-returns Inv-loop μ-loop
 returns c = search goal-again
 
 loop-again : tie.Need-loop-again Inv-loop μ-loop
-loop-again c = (search was-tail, search ready-next, search needs, cc, cc)
+loop-again c = (search expanding-next, search needs, cc, cc)
 
 returns-2 : tie.Need-returns-2 Inv-loop μ-loop
 returns-2 c = search words-ended
