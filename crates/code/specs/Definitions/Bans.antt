@@ -96,12 +96,12 @@ module _ (t : Table) (cs : List Copy) (b : ℕ → ℕ → ℕ → Bool) where
   }
 
 -- What the words, start marks, copies and matrix of an enlarged code say of the table and the bans that it was made of.
-module _ (ws : List (List ℕ)) (marks : ℕ → Bool) (cs : List Copy) (entry : ℕ → ℕ → Bool) where
-  -- The table: x may follow y where the number of x after y may.
-  abbrev pub tableIn : Table
-  tableIn = record { words = ws; follow = λ x y. entry (nextWord (length ws) cs y x) y; begins = marks; banned = λ x y z. false }
-
-  -- The bans: x never follows y then z where there is a copy of z after y, and x may not follow it.
-  unfoldable pub bansIn : ℕ → ℕ → ℕ → Bool
+module _ (cs : List Copy) (entry : ℕ → ℕ → Bool) where
+  -- x never follows y then z, of n words, where there is a copy of z after y and x may not follow that.
+  unfoldable pub bansIn : ℕ → ℕ → ℕ → ℕ → Bool
   unfolding hasCopy copyIndex nextWord
-  bansIn x y z = hasCopy cs y z && not (entry (nextWord (length ws) cs z x) (length ws + copyIndex cs y z))
+  bansIn n x y z = hasCopy cs y z && not (entry (nextWord n cs z x) (n + copyIndex cs y z))
+
+  -- x may follow y where the number of x after y may.
+  abbrev pub tableIn : List (List ℕ) → (ℕ → Bool) → Table
+  tableIn ws marks = record { words = ws; follow = λ x y. entry (nextWord (length ws) cs y x) y; begins = marks; banned = bansIn (length ws) }
