@@ -69,7 +69,7 @@ module _ (n : ℕ) (cs : List Copy) where
   unfolding hasCopy
   standsAfter x y = if ltb x n then not (hasCopy cs y x) else eqb (copyAt x .behind) y
 
-  -- the number of the word x after y and y's copies: the copy's, if there is one
+  -- the number of the word x after y and y's copies: that of the copy of x after y, if there is one
   unfoldable pub nextWord : ℕ → ℕ → ℕ
   unfolding hasCopy copyIndex
   nextWord y x = if hasCopy cs y x then n + copyIndex cs y x else x
@@ -97,11 +97,11 @@ module _ (t : Table) (cs : List Copy) (b : ℕ → ℕ → ℕ → Bool) where
 
 -- What the words, start marks, copies and matrix of an enlarged code say of the table and the bans that it was made of.
 module _ (cs : List Copy) (entry : ℕ → ℕ → Bool) where
-  -- x never follows y then z, of n words, where there is a copy of z after y and x may not follow that.
+  -- x never follows y then z where there is a copy of z after y, and x may not follow that; the code is of n words and the copies.
   unfoldable pub bansIn : ℕ → ℕ → ℕ → ℕ → Bool
   unfolding hasCopy copyIndex nextWord
   bansIn n x y z = hasCopy cs y z && not (entry (nextWord n cs z x) (n + copyIndex cs y z))
 
-  -- x may follow y where the number of x after y may.
+  -- x may follow y where the number of x after y may follow y.
   abbrev pub tableIn : List (List ℕ) → (ℕ → Bool) → Table
   tableIn ws marks = record { words = ws; follow = λ x y. entry (nextWord (length ws) cs y x) y; begins = marks; banned = bansIn (length ws) }
