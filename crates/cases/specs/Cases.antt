@@ -1,6 +1,6 @@
 -- A case: a code's words, start marks and rows, and what is expected of it. A check that computes is shown once, for all cases, to give what the definitions say.
-use mathlib.Core.Path.{_≡_}
-use mathlib.Core.Bool.{Bool, true, _&&_, and-eq-true-iff}
+use mathlib.Core.Path.{_≡_, refl}
+use mathlib.Core.Bool.{Bool, true, false, _&&_, and-eq-true-iff}
 use mathlib.Core.List.{List, []}
 use Prim.Native.Nat.{ℕ}
 use lib.Dec.{leb, eqb}
@@ -9,7 +9,7 @@ use borrow.Author.Tests.{leb-true}
 use Rattle.code.specs.Definitions.Tables.{Table, size, word}
 use Rattle.code.specs.Definitions.Readings.{OnlyReading, Ambiguous, Decipherable}
 use Rattle.code.specs.Definitions.Delays.{Delay, WithoutBound}
-use Rattle.code.specs.Laws.Sequences.{NonEmpty}
+use Rattle.code.specs.Laws.Sequences.{NonEmpty, Plain}
 use Rattle.theory.specs.Bounded.{everyBelow, every-below}
 use Rattle.cases.specs.Delays.{delayIs, isWithoutBound, delay-means, without-bound-means}
 use Rattle.cases.specs.Messages.{leastIs, ambiguous-means}
@@ -31,7 +31,12 @@ pub record Case : Type 0 where
 
 -- 01: "The entry in row X, column Y is 1 if X may come immediately after Y, else 0". 02, request 1: "1 if the word may begin a message, 0 if not"
 abbrev pub caseTable : Case → Table
-caseTable c = record { words = c .words; follow = λ x y. eqb (getD (getD (c .rows) x []) y 0) 1; begins = λ x. eqb (getD (c .begins) x 0) 1 }
+caseTable c = record {
+  words = c .words;
+  follow = λ x y. eqb (getD (getD (c .rows) x []) y 0) 1;
+  begins = λ x. eqb (getD (c .begins) x 0) 1;
+  banned = λ x y z. false;
+}
 
 -- What is expected, by the definitions. 01: "decipherable with its delay; decipherable without bound"
 abbrev pub Means : Table → Expected → Type 0
@@ -64,18 +69,18 @@ non-empty : (t : Table) → isNonEmpty t ≡ true → NonEmpty t
 unfolding isNonEmpty
 non-empty t e x h = leb-true 1 (length (word t x)) (every-below (λ z. leb 1 (length (word t z))) (size t) e x h)
 
-meant : (t : Table) → NonEmpty t → (x : Expected) → isMeant t x ≡ true → Means t x
+meant : (t : Table) → Plain t → (x : Expected) → isMeant t x ≡ true → Means t x
 unfolding isMeant
-meant t ne (delay N) e = delay-means t ne N e
-meant t ne withoutBound e = without-bound-means t ne e
-meant t ne (ambiguous m s u) e =
+meant t plain (delay N) e = delay-means t plain N e
+meant t plain withoutBound e = without-bound-means t plain e
+meant t plain (ambiguous m s u) e =
     let a = and-eq-true-iff (leastIs t m) (firstTwoOf (readings t m) s u) .0 e in
-    ambiguous-means t ne (a .0) (first-two-means ne m s u (a .1))
-meant t ne (onlyReading m s) e = only-means ne m s e
+    ambiguous-means t plain (a .0) (first-two-means plain m s u (a .1))
+meant t plain (onlyReading m s) e = only-means plain m s e
 
 -- A case that passes the check holds.
 pub sound : (c : Case) → check c ≡ true → Holds c
 unfolding check
 sound c e =
     let a = and-eq-true-iff (isNonEmpty (caseTable c)) (isMeant (caseTable c) (c .expected)) .0 e in
-    meant (caseTable c) (non-empty (caseTable c) (a .0)) (c .expected) (a .1)
+    meant (caseTable c) (record { some = non-empty (caseTable c) (a .0); free = λ x y z. refl }) (c .expected) (a .1)

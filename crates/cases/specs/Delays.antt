@@ -13,7 +13,7 @@ use Rattle.code.specs.Definitions.Tables.{Table, size}
 use Rattle.code.specs.Definitions.Readings.{Decipherable}
 use Rattle.code.specs.Definitions.Delays.{Delay, WithoutBound}
 use Rattle.code.specs.Laws.Delays.{no-rivals-delay}
-use Rattle.theory.specs.Places.{Place, NonEmpty, BothEnd, Parting, Compatible, PairAfter, LongestPath}
+use Rattle.theory.specs.Places.{Place, Plain, BothEnd, Parting, Compatible, PairAfter, LongestPath}
 use Rattle.theory.specs.Partings.{PartingEnds, parting-decipherable}
 use Rattle.theory.specs.Sharing.{SomeParting, delay, without-bound}
 use Rattle.theory.specs.Walks.{walk-cut, pair-iff}
@@ -127,20 +127,20 @@ module _ (t : Table) where
         λ h. omega (arith, ends-later r (a .0) (h .pair) (record { left = h .left-ends; right = h .right-ends }), most (length (h .m)) (ends-pair h)),
       )
 
-  module _ (ne : NonEmpty t) where
+  module _ (plain : Plain t) where
     -- A delay that passes the check is the delay, of a decipherable code.
     pub delay-means : (N : ℕ) → delayIs N ≡ true → Decipherable t × Delay t N
     unfolding delayIs
     delay-means zero e =
         let none = no-parting e in (
-          parting-decipherable ne (λ h. none _ _ (h .pair .left-known) (h .pair .right-known) (h .pair .starts)),
+          parting-decipherable plain (λ h. none _ _ (h .pair .left-known) (h .pair .right-known) (h .pair .starts)),
           no-rivals-delay (λ x y h k d r. none x y h k (record { differ = d; rivals = r })),
         )
     delay-means (suc r) e =
         let a = and-eq-true-iff (not noPartings) (longestIs r) .0 e in
         let l = longest-means r (a .1) in
-        let d = parting-decipherable ne (l .1) in
-        (d, delay ne d (some-parting (a .0)) (l .0))
+        let d = parting-decipherable plain (l .1) in
+        (d, delay plain d (some-parting (a .0)) (l .0))
 
     -- A code that passes the check is decipherable without bound.
     pub without-bound-means : isWithoutBound ≡ true → Decipherable t × WithoutBound t
@@ -148,5 +148,5 @@ module _ (t : Table) where
     without-bound-means e =
         let n = pairCount t in
         let a = and-eq-true-iff (noTwoEnds n) (not (isEmpty n)) .0 e in
-        let none : PartingEnds t → ⊥ = λ h. let s = short-parting-ends ne h in omega (arith, s .short, ends-later n (a .0) (s .pair) (s .meets)) in
-        (parting-decipherable ne none, without-bound ne (endless ne (omega arith) (some-pair n (a .1))))
+        let none : PartingEnds t → ⊥ = λ h. let s = short-parting-ends plain h in omega (arith, s .short, ends-later n (a .0) (s .pair) (s .meets)) in
+        (parting-decipherable plain none, without-bound plain (endless plain (omega arith) (some-pair n (a .1))))

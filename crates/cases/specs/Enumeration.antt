@@ -8,10 +8,10 @@ use Prim.Native.Nat.{ℕ, zero, suc, _≤_, _<_}
 use native.Mathlib.Omega.{arith}
 use lib.ListN.{length, take, drop, length-append, take-append-drop}
 use lib.Seq.{take-append-seam, drop-append-seam}
-use Rattle.code.specs.Definitions.Tables.{Table, size, word, Linked, none, one, more, Permitted, empty as nothing, begun, message}
+use Rattle.code.specs.Definitions.Tables.{Table, size, word, Linked, none, one, more, Permitted, empty as nothing, message}
 use Rattle.code.specs.Definitions.Readings.{Reads}
 use Rattle.code.specs.Laws.Finite.{Within}
-use Rattle.code.specs.Laws.Sequences.{NonEmpty, first-word, rest-linked, second-follows, linked-within, permitted-linked}
+use Rattle.code.specs.Laws.Sequences.{NonEmpty, Free, first-word, rest-linked, second-follows, linked-within, permitted-linked, first-begins, free-permitted}
 use Rattle.cases.specs.Members.{empty, keep, keep-in, keep-out, numbers, numbers-in, numbers-out, flatMap-in, flatMap-out}
 use Rattle.cases.specs.Comparing.{equal, equal-true, equal-same}
 
@@ -133,13 +133,13 @@ module _ (t : Table) where
       Memᴰ·append-right (emptyReading (message t (x ∷ s)))
       (opened-in n f x s p b (readings-in n (mayFollow x) s (rest-linked p) (begins-rest s p) (omega arith)))
 
-  permitted-begins : {s : List ℕ} → Permitted t s → MayBegin (t .begins) s
-  permitted-begins nothing = tt
-  permitted-begins (begun b l) = b
+  permitted-begins : (s : List ℕ) → Permitted t s → MayBegin (t .begins) s
+  permitted-begins [] p = tt
+  permitted-begins (x ∷ s) p = first-begins p
 
-  linked-permitted : (s : List ℕ) → Linked t s → MayBegin (t .begins) s → Permitted t s
-  linked-permitted [] l b = nothing
-  linked-permitted (x ∷ s) l b = begun b l
+  linked-permitted : Free t → (s : List ℕ) → Linked t s → MayBegin (t .begins) s → Permitted t s
+  linked-permitted free [] l b = nothing
+  linked-permitted free (x ∷ s) l b = free-permitted free b l
 
   words-most : NonEmpty t → (s : List ℕ) → Within (size t) s → length s ≤ length (message t s)
   words-most ne [] w = omega arith
@@ -151,11 +151,11 @@ module _ (t : Table) where
   reading-in ne {s = s} r =
       let linked = permitted-linked (r .permitted) in
       let short = words-most ne s (linked-within linked) in
-      subst (λ (l : List ℕ). List·Memᴰ s (readings l)) (r .joined) (readings-in (length (message t s)) (t .begins) s linked (permitted-begins (r .permitted)) short)
+      subst (λ (l : List ℕ). List·Memᴰ s (readings l)) (r .joined) (readings-in (length (message t s)) (t .begins) s linked (permitted-begins s (r .permitted)) short)
 
-  -- Every member of the list is a reading of m.
-  pub reading-out : {s : List ℕ} (m : List ℕ) → List·Memᴰ s (readings m) → Reads t m s
+  -- Without bans every member of the list is a reading of m.
+  pub reading-out : Free t → {s : List ℕ} (m : List ℕ) → List·Memᴰ s (readings m) → Reads t m s
   unfolding readings
-  reading-out {s} m i =
+  reading-out free {s} m i =
       let r = readings-out (length m) (t .begins) m s i in
-      record { permitted = linked-permitted s (r .linked) (r .begins); joined = r .joined }
+      record { permitted = linked-permitted free s (r .linked) (r .begins); joined = r .joined }

@@ -14,7 +14,7 @@ use Rattle.code.specs.Definitions.Orders.{Shortlex, shorter}
 use Rattle.code.specs.Definitions.Readings.{FirstTwo, Ambiguous}
 use Rattle.code.specs.Laws.Below.{or-cases}
 use Rattle.code.specs.Laws.Readings.{first-two-readings}
-use Rattle.theory.specs.Places.{NonEmpty, TwoEnds}
+use Rattle.theory.specs.Places.{Plain, TwoEnds}
 use Rattle.theory.specs.Ambiguity.{Stripped, at-most, readings→ends, ambiguous}
 use Rattle.cases.specs.Comparing.{notBefore, not-before-true}
 use Rattle.cases.specs.Starts.{beginnings, beginnings-listed}
@@ -53,8 +53,8 @@ module _ (t : Table) where
   least-ends {m} f z (inr l) = absurd (omega (arith, at-most m (z .m) (f (z .m) (z .ends))))
 
   -- A message that passes the check, with its first two readings, shows that the code is ambiguous.
-  pub ambiguous-means : NonEmpty t → {m s u : List ℕ} → leastIs m ≡ true → FirstTwo t m s u → Ambiguous t m s u
-  ambiguous-means ne {m} e f =
+  pub ambiguous-means : Plain t → {m s u : List ℕ} → leastIs m ≡ true → FirstTwo t m s u → Ambiguous t m s u
+  ambiguous-means plain {m} e f =
       let least = least-means m e in
-      let z = readings→ends ne (first-two-readings f) in
-      ambiguous ne (record { ends = least-ends least z (z .order); least = least }) f
+      let z = readings→ends plain (first-two-readings f) in
+      ambiguous plain (record { ends = least-ends least z (z .order); least = least }) f

@@ -8,7 +8,7 @@ use Rattle.code.specs.Definitions.Lists.{every}
 use Rattle.code.specs.Definitions.Tables.{Table}
 use Rattle.code.specs.Definitions.Orders.{Lex}
 use Rattle.code.specs.Definitions.Readings.{OnlyReading, FirstTwo}
-use Rattle.code.specs.Laws.Sequences.{NonEmpty}
+use Rattle.code.specs.Laws.Sequences.{Plain}
 use Rattle.cases.specs.Members.{every-member}
 use Rattle.cases.specs.Comparing.{equal, equal-true, before, before-true}
 use Rattle.cases.specs.Enumeration.{readings, reading-in, reading-out}
@@ -54,22 +54,22 @@ ascending [] s u e = absurd (false≢true e)
 ascending (a ∷ []) s u e = absurd (false≢true e)
 ascending (a ∷ b ∷ l) s u e = two-list a b l s u e
 
-module _ {t : Table} (ne : NonEmpty t) where
+module _ {t : Table} (plain : Plain t) where
   -- What is all of the list is the only reading.
   pub only-means : (m s : List ℕ) → onlyOf (readings t m) s ≡ true → OnlyReading t m s
   only-means m s e =
       let l = only-list (readings t m) s e in
-      record { reads = reading-out t m (rw l (List·Memᴰ·head refl)); only = λ u r. List·Memᴰ·eq-of-singleton (rw l at (reading-in t ne r)) }
+      record { reads = reading-out t (plain .free) m (rw l (List·Memᴰ·head refl)); only = λ u r. List·Memᴰ·eq-of-singleton (rw l at (reading-in t (plain .some) r)) }
 
   -- What opens the list in order, before all the rest, are the first two readings.
   pub first-two-means : (m s u : List ℕ) → firstTwoOf (readings t m) s u ≡ true → FirstTwo t m s u
   first-two-means m s u e =
       let a = ascending (readings t m) s u e in
       record {
-        first = reading-out t m (rw (a .opens) (List·Memᴰ·head refl));
-        second = reading-out t m (rw (a .opens) (List·Memᴰ·tail (List·Memᴰ·head refl)));
+        first = reading-out t (plain .free) m (rw (a .opens) (List·Memᴰ·head refl));
+        second = reading-out t (plain .free) m (rw (a .opens) (List·Memᴰ·tail (List·Memᴰ·head refl)));
         order = a .order;
-        later = λ v r d f. by a v d f (List·Memᴰ·cases-cons (rw (a .opens) at (reading-in t ne r)));
+        later = λ v r d f. by a v d f (List·Memᴰ·cases-cons (rw (a .opens) at (reading-in t (plain .some) r)));
       }
     where
       past : (a : Ascending (readings t m) s u) (v : List ℕ) → (v ≡ u → ⊥) → (v ≡ u) ⊎ List·Memᴰ v (a .rest) → Lex u v

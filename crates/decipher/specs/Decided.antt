@@ -41,7 +41,7 @@ module _ {c : Code} {places m f g w m′ w₁ : List ℕ} {r : Search} (laid : L
     x = take n m′;
     s = s;
     u = u;
-    means = (search-ambiguous (open-finds laid (ended .closed)) (laid .fits .some) (found-least answers e) h, i, j, k);
+    means = (search-ambiguous (open-finds laid (ended .closed)) (laid .fits .plain) (found-least answers e) h, i, j, k);
     shown = (found-written answers e, p, q);
     work = rw long at z;
   }

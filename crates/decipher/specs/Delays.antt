@@ -60,13 +60,13 @@ module _ {f w w′ : List ℕ} {n : ℕ} (long : n ≡ length w) (clear : w′ �
 
 module _ {t : Table} {f : List ℕ} (laid : LaidOut t f) (ended : Ended t f) (none : NoGoal (openGraph f)) where
   deciphered : Decipherable t
-  deciphered = search-decipherable (open-finds laid (ended .closed)) (laid .fits .some) none
+  deciphered = search-decipherable (open-finds laid (ended .closed)) (laid .fits .plain) none
 
   by-rivals : (r : ℕ) (b : Bool) → someRivals f ≡ b → Longest (pairGraph f) r → Delay t (if b then r + 1 else 0)
-  by-rivals r true e l = rw add-one (search-delay (rival-shows laid ended) (laid .fits .some) deciphered (some-parting laid ended e) l)
+  by-rivals r true e l = rw add-one (search-delay (rival-shows laid ended) (laid .fits .plain) deciphered (some-parting laid ended e) l)
   by-rivals r false e l = no-rivals-delay (none-part laid ended e)
 
   -- Where no walk leads to two ends, the verdict by the walks holds, whatever stands for the message and its readings.
   pub delay-means : {v : Verdict} (x s u : List ℕ) → DelayBy f v → VerdictMeans t x s u v
   delay-means x s u (finite {r = r} l e) = (deciphered, rw e (by-rivals r (someRivals f) refl l))
-  delay-means x s u (unbounded e) = (deciphered, search-without-bound (rival-shows laid ended) (laid .fits .some) e)
+  delay-means x s u (unbounded e) = (deciphered, search-without-bound (rival-shows laid ended) (laid .fits .plain) e)

@@ -49,7 +49,7 @@ module _ {places m m′ : List ℕ} where
     module _ {t : Table} (laid : LaidOut t places) (ended : Ended t places) where
       -- It has two readings,
       pub found-two : TwoReadings t (take n m′)
-      found-two = ends→readings (laid .fits .some) (open-finds laid (ended .closed) .ends (found-least .goal))
+      found-two = ends→readings (laid .fits .plain) (open-finds laid (ended .closed) .ends (found-least .goal))
 
       -- and at most 8,256 symbols.
       pub found-few : length (take n m′) ≤ 8256

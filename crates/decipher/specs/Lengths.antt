@@ -32,13 +32,13 @@ module _ {t : Table} (fits : Fits t) where
 
   -- The least symbols that reach two ends are at most 8,256.
   pub least-few : {m : List ℕ} → LeastTwoEnds t m → length m ≤ 8256
-  least-few l = omega (arith, least-short (fits .some) l, pairs-few)
+  least-few l = omega (arith, least-short (fits .plain) l, pairs-few)
 
   -- The shortest ambiguous message has at most 8,256 symbols: where some message has two readings, two ends are reached by at most so many.
   pub message-few : {m s u : List ℕ} → Ambiguous t m s u → length m ≤ 8256
   message-few {m} a =
-      let h = short-ends (fits .some) (readings→ends (fits .some) (first-two-readings (a .readings)) .ends) in
-      omega (arith, h .short, pairs-few, at-most m (h .m) (by (h .m) (ends→readings (fits .some) (h .ends)) (List-discrete ℕ-discrete (h .m) m)))
+      let h = short-ends (fits .plain) (readings→ends (fits .plain) (first-two-readings (a .readings)) .ends) in
+      omega (arith, h .short, pairs-few, at-most m (h .m) (by (h .m) (ends→readings (fits .plain) (h .ends)) (List-discrete ℕ-discrete (h .m) m)))
     where
       by : (n : List ℕ) → TwoReadings t n → Dec (n ≡ m) → (m ≡ n) ⊎ Shortlex m n
       by n r (yes e) = inl (sym e)
@@ -46,7 +46,7 @@ module _ {t : Table} (fits : Fits t) where
 
   -- 01: "Delays therefore run from 0 to 8,257 at most."
   pub delay-few : {N : ℕ} → Decipherable t → Delay t N → N ≤ 8257
-  delay-few {N} d h = omega (arith, delay-short (fits .some) N d h, pairs-few)
+  delay-few {N} d h = omega (arith, delay-short (fits .plain) N d h, pairs-few)
 
 module _ {c : Code} (sheet : FromSheet limits c) where
   -- The shortest ambiguous message of a table that a sheet gives has at most 8,256 symbols,

@@ -1,5 +1,5 @@
--- A sequence is permitted exactly if refusals 9 and 10 do not meet it: every entry is a word, the first may begin, and every neighbouring pair is permitted.
--- What encoding takes is thus what the definition of a permitted sequence says.
+-- Without bans a sequence is permitted exactly if refusals 9 and 10 do not meet it: every entry is a word, the first may begin, and every neighbouring pair is
+-- permitted. What encoding takes is thus what the definition of a permitted sequence says.
 use mathlib.Core.Path.{_≡_, refl, sym, _∙_}
 use mathlib.Core.Bool.{Bool, true, false, false≢true}
 use mathlib.Core.List.{List, [], _∷_}
@@ -9,9 +9,9 @@ use native.Mathlib.Decide.{decLt}
 use native.Mathlib.Numerals.{add-one}
 use native.Mathlib.Omega.{arith}
 use lib.ListN.{length, getD}
-use Rattle.code.specs.Definitions.Tables.{Table, size, Linked, none, one, more, Permitted, empty, begun}
+use Rattle.code.specs.Definitions.Tables.{Table, size, Linked, none, one, more, Permitted, empty}
 use Rattle.code.specs.Definitions.Operations.{HasUnknown, HasForbidden, opening, pair}
-use Rattle.code.specs.Laws.Sequences.{first-word, second-follows, rest-linked, permitted-linked, first-begins}
+use Rattle.code.specs.Laws.Sequences.{Free, first-word, second-follows, rest-linked, permitted-linked, first-begins, free-permitted}
 
 -- Each entry of s may come immediately after the one before it.
 abbrev Follows : Table → List ℕ → Type 0
@@ -66,10 +66,10 @@ module _ {t : Table} where
   begins-head f false e = absurd (f (opening (omega arith) e))
 
   -- A sequence without unknown entry, forbidden opening and forbidden pair is permitted.
-  pub permitted : (s : List ℕ) → (HasUnknown t s → ⊥) → (HasForbidden t s → ⊥) → Permitted t s
-  permitted [] k f = empty
-  permitted (x ∷ s) k f = begun (begins-head f (t .begins x) refl) (linked (x ∷ s) k (follows-all f))
+  pub permitted : Free t → (s : List ℕ) → (HasUnknown t s → ⊥) → (HasForbidden t s → ⊥) → Permitted t s
+  permitted free [] k f = empty
+  permitted free (x ∷ s) k f = free-permitted free (begins-head f (t .begins x) refl) (linked (x ∷ s) k (follows-all f))
 
   -- The permitted sequences are those that refusals 9 and 10 do not meet.
-  pub permitted-iff : (s : List ℕ) → ((HasUnknown t s → ⊥) × (HasForbidden t s → ⊥)) ↔ Permitted t s
-  permitted-iff s = ((λ n. permitted s (n .0) (n .1)), (λ p. (permitted-known p, permitted-follows p)))
+  pub permitted-iff : Free t → (s : List ℕ) → ((HasUnknown t s → ⊥) × (HasForbidden t s → ⊥)) ↔ Permitted t s
+  permitted-iff free s = ((λ n. permitted free s (n .0) (n .1)), (λ p. (permitted-known p, permitted-follows p)))

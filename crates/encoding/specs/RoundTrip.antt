@@ -1,6 +1,6 @@
 -- Encoding and reading undo each other, as their definitions say. What is encoded is permitted and stands in the buffer as its message, so it is a
 -- reading of that message; and what reading finds is permitted and has the message that was read, so encoding takes it and gives that message back.
-use mathlib.Core.Path.{_≡_, sym, ap}
+use mathlib.Core.Path.{_≡_, refl, sym, ap}
 use mathlib.Core.List.{List, [], _∷_, List-discrete}
 use mathlib.Core.Logic.{_⊎_, inl, inr}
 use Prim.Native.Nat.{ℕ, _<_}
@@ -57,7 +57,7 @@ module _ {l : Limits} {c : Code} where
   pub encoded-reads : {s b b′ : List ℕ} {n : SymbolCount} → Encodes l c s b b′ (Encoded n) → Reads (tableOf c) (take (n .0) b′) s
   encoded-reads {s} {b} {b′} {n} (encoded h e w) =
       record {
-        permitted = permitted s (h .1 .0) (h .1 .1 .0);
+        permitted = permitted (λ x y z. refl) s (h .1 .0) (h .1 .1 .0);
         joined = sym (take-written (n .0) (message (tableOf c) s) b b′ e w);
       }
 

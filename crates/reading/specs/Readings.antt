@@ -8,9 +8,9 @@ use native.Mathlib.Omega.{arith}
 use borrow.Author.Tests.{eq-eqb, eqb-true}
 use lib.ListN.{length, take, drop, List·getD-append, getD, length-append, length-drop, take-append-drop, drop-of-length-le}
 use lib.Seq.{ext-getD, length-take-le, getD-take, getD-drop, drop-at, drop-drop}
-use Rattle.code.specs.Definitions.Tables.{Table, word, Linked, none, one, more, Permitted, empty, begun, message}
+use Rattle.code.specs.Definitions.Tables.{Table, word, Linked, none, one, more, Permitted, empty, message}
 use Rattle.code.specs.Definitions.Readings.{Reads}
-use Rattle.code.specs.Laws.Sequences.{first-word, second-follows, rest-linked, permitted-linked, first-begins}
+use Rattle.code.specs.Laws.Sequences.{first-word, second-follows, rest-linked, permitted-linked, first-begins, free-permitted}
 use Rattle.bits.specs.Bits.{bitOf}
 use Rattle.sets.specs.Sets.{havingAt, lengthAt, mayAfter, Lays}
 use Rattle.marking.specs.Text.{From, done, word as first}
@@ -68,7 +68,7 @@ module _ {t : Table} {having ends rows lengths : List ℕ} {n longest : ℕ} (l 
   -- What may come after the start may begin.
   start-permitted : (s : List ℕ) → Linked t s → After n s → Permitted t s
   start-permitted [] r a = empty
-  start-permitted (x ∷ s) r a = begun (sym (l .starts x (head-known r)) ∙ a) r
+  start-permitted (x ∷ s) r a = free-permitted (l .free) (sym (l .starts x (head-known r)) ∙ a) r
 
   after-word : {x : ℕ} (s : List ℕ) → Linked t (x ∷ s) → After x s
   after-word [] r = tt

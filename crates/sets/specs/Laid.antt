@@ -1,5 +1,5 @@
 -- Where every word and every row is laid, the lists are the sets of the code's table.
-use mathlib.Core.Path.{_≡_, sym, _∙_}
+use mathlib.Core.Path.{_≡_, refl, sym, _∙_}
 use mathlib.Core.List.{List}
 use Prim.Native.Nat.{ℕ, _+_, _^_, _≤_, _<_}
 use native.Mathlib.Decide.{decLt}
@@ -89,4 +89,5 @@ module _ {c : Code} {having ends rows lengths : List ℕ} {longest : ℕ} (well 
     spells = λ x j s h k. spell x j s h (rw (words .sizes x h) at k);
     entries = λ x y hx hy. row-entry (laid .sets x hx) y hy;
     starts = λ x h. row-start (laid .sets x h);
+    free = λ x y z. refl;
   }

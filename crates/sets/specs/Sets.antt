@@ -12,6 +12,7 @@ use lib.ListN.{length, getD}
 use Rattle.code.specs.Definitions.Lists.{if_then_else_}
 use Rattle.code.specs.Definitions.Sheets.{limits}
 use Rattle.code.specs.Definitions.Tables.{Table, size, word}
+use Rattle.code.specs.Laws.Sequences.{Free}
 use Rattle.table.specs.Exactly.{Exactly}
 use Rattle.bits.specs.Bits.{bitOf, width}
 
@@ -76,7 +77,7 @@ pub record SetsOf (having ends rows lengths : List ℕ) (n longest : ℕ) : Type
   pub ending : (j x : ℕ) → x < width → Exactly (bitOf (getD ends j 0) x) (lengthAt lengths x ≡ j + 1)
   pub most : (x : ℕ) → x < n → lengthAt lengths x ≤ longest
 
--- They are the sets of the words of the table t.
+-- They are the sets of the words of the table t, which has no bans.
 pub record Lays (t : Table) (having ends rows lengths : List ℕ) (n longest : ℕ) : Type 0 where
   pub sets : SetsOf having ends rows lengths n longest
   pub count : size t ≡ n
@@ -84,3 +85,4 @@ pub record Lays (t : Table) (having ends rows lengths : List ℕ) (n longest : �
   pub spells : (x j s : ℕ) → x < n → j < lengthAt lengths x → bitOf (havingAt having s j) x ≡ eqb s (getD (word t x) j 0)
   pub entries : (x y : ℕ) → x < n → y < n → mayAfter rows x y ≡ t .follow x y
   pub starts : (x : ℕ) → x < n → mayAfter rows x n ≡ t .begins x
+  pub free : Free t

@@ -15,7 +15,7 @@ use Rattle.code.specs.Definitions.Lists.{any, every, table, sum}
 use Rattle.code.specs.Definitions.Operations.{written}
 use Rattle.code.specs.Definitions.Sheets.{limits, body, records, fields, grid, badBytes, codeOf, takenGrid, taken, FromSheet}
 use Rattle.code.specs.Definitions.Tables.{tableOf}
-use Rattle.code.specs.Laws.Sequences.{NonEmpty}
+use Rattle.code.specs.Laws.Sequences.{Plain}
 use Rattle.table.specs.Given.{well}
 use Rattle.table.specs.Digits.{digitOf}
 use Rattle.table.specs.Join.{join}
@@ -57,8 +57,8 @@ taken-t = refl
 from-sheet-t : FromSheet limits codeT
 from-sheet-t = record { sheet = sheetT; gives = taken-t }
 
-non-empty : NonEmpty (tableOf codeT)
-non-empty x h = code-fits codeT (well from-sheet-t) .some x h
+plain : Plain (tableOf codeT)
+plain = code-fits codeT (well from-sheet-t) .plain
 
 least : leastIs (tableOf codeT) (0 ∷ 1 ∷ 0 ∷ []) ≡ true
 unfolding leastIs
@@ -75,7 +75,7 @@ judgementT = Judged (Two-ways (record { 0 = 3 }) (record { 0 = 2 }) (record { 0 
 pub right-t : RightFor sheetT (0 ∷ 1 ∷ 0 ∷ []) (0 ∷ 1 ∷ []) (2 ∷ 0 ∷ []) judgementT
 right-t =
     rw taken-t
-    (refl, (ambiguous-means (tableOf codeT) non-empty least (first-two-means non-empty (0 ∷ 1 ∷ 0 ∷ []) (0 ∷ 1 ∷ []) (2 ∷ 0 ∷ []) first-two), refl, refl, refl))
+    (refl, (ambiguous-means (tableOf codeT) plain least (first-two-means plain (0 ∷ 1 ∷ 0 ∷ []) (0 ∷ 1 ∷ []) (2 ∷ 0 ∷ []) first-two), refl, refl, refl))
 
 -- "From them it prints, whole": `ambiguous,010`, `0,1` and `2,0`
 abbrev pub outputT : List ℕ

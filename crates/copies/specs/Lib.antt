@@ -1,0 +1,11 @@
+pub mod Covers
+pub mod CoversSame
+pub mod Matches
+pub mod Renumbered
+pub mod CopyLists
+pub mod Copies
+pub mod BanLists
+pub mod Enlargements
+pub mod Witnesses
+pub mod Everywhere
+pub mod Delays
