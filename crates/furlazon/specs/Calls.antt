@@ -17,8 +17,8 @@ use Rattle.code.specs.Definitions.Answers.{refusalNumber}
 use Rattle.code.specs.Definitions.Lists.{if_then_else_}
 use Rattle.code.specs.Definitions.Operations.{Condition, Lowest, written, encodingConditions, readingConditions, verdictConditions, Encodes, ReadsMessage, Judges}
 use Rattle.code.specs.Definitions.Sheets.{limits, taken}
-use Rattle.furlazon.specs.Image.{imageLength, imageOf, codeIn}
-use Rattle.furlazon.specs.Answers.{answerLength, encodingNumber, encodingEntries, readingNumber, readingEntries, judgementNumber, judgementEntries}
+use Rattle.image.specs.Image.{imageLength, imageOf, codeIn}
+use Rattle.answers.specs.Answers.{answerLength, encodingNumber, encodingEntries, readingNumber, readingEntries, judgementNumber, judgementEntries}
 
 abbrev pub shortNumber : ℕ
 shortNumber = refusalNumber ShortBuffer

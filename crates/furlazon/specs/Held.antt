@@ -7,14 +7,14 @@ use native.Mathlib.Decide.{decLt}
 use lib.ListN.{length, drop}
 use borrow.Author.Tests.{lt-ltb, le-ltb}
 use Rattle.code.specs.declared.Refusal.{Refusal}
-use Rattle.code.specs.declared.Refusal.the-variants.{SheetLength, SheetBytes, RecordCount, WordLength, CodeLength, FieldCount, RowEntry, NotFromSheet, UnknownWord, ForbiddenPair, MessageLength, MessageSymbol, ShortBuffer, NoReading, StartField}
+use Rattle.code.specs.declared.Refusal.the-variants.{SheetLength, SheetBytes, RecordCount, WordLength, CodeLength, FieldCount, RowEntry, NotFromSheet, UnknownWord, ForbiddenPair, MessageLength, MessageSymbol, ShortBuffer, NoReading, StartField, BanRecord, BanLimit}
 use Rattle.code.specs.declared.SheetAnswer.{SheetAnswer}
 use Rattle.code.specs.declared.SheetAnswer.the-variants.{Accepted, Refused}
 use Rattle.code.specs.Definitions.Answers.{refusalNumber}
 use Rattle.code.specs.Definitions.Sheets.{limits, taken}
-use Rattle.furlazon.specs.Image.{imageLength, imageOf, codeIn}
+use Rattle.image.specs.Image.{imageLength, imageOf, codeIn}
 use Rattle.furlazon.specs.Calls.{sheetNumber, TakesIn}
-use Rattle.furlazon.specs.RoundTrip.{image-holds}
+use Rattle.image.specs.RoundTrip.{image-holds}
 use Rattle.furlazon.specs.Ways.{accepted-well}
 
 some-number : (r : Refusal) → 1 ≤ refusalNumber r
@@ -33,6 +33,8 @@ some-number MessageSymbol = omega arith
 some-number ShortBuffer = omega arith
 some-number NoReading = omega arith
 some-number StartField = omega arith
+some-number BanRecord = omega arith
+some-number BanLimit = omega arith
 
 accepted : (a : SheetAnswer) (b : List ℕ) → 0 ≡ sheetNumber a b → Dec (length b < imageLength) → (a ≡ Accepted) × (imageLength ≤ length b)
 accepted Accepted b e (yes h) = let n = rw (lt-ltb (length b) imageLength h) at e in absurd (omega arith)

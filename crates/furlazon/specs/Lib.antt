@@ -1,9 +1,3 @@
-pub mod Image
-pub mod Blocks
-pub mod Packing
-pub mod Unpacking
-pub mod RoundTrip
-pub mod Answers
 pub mod Calls
 pub mod Untold
 pub mod Ways

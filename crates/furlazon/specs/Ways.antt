@@ -19,8 +19,8 @@ use Rattle.code.specs.Definitions.Operations.{written, encodingConditions, read
 use Rattle.code.specs.Definitions.Sheets.{limits, taken}
 use Rattle.table.specs.Given.{well}
 use Rattle.table.specs.WellFormed.{WellFormed}
-use Rattle.furlazon.specs.Image.{imageLength, imageOf, codeIn}
-use Rattle.furlazon.specs.Answers.{answerLength, encodingNumber, encodingEntries, readingNumber, readingEntries, judgementNumber, judgementEntries}
+use Rattle.image.specs.Image.{imageLength, imageOf, codeIn}
+use Rattle.answers.specs.Answers.{answerLength, encodingNumber, encodingEntries, readingNumber, readingEntries, judgementNumber, judgementEntries}
 use Rattle.furlazon.specs.Calls.{shortNumber, TakesIn, Untold, EncodeCall, ReadCall, VerdictCall}
 
 -- Taking in a sheet

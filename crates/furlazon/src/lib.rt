@@ -1,8 +1,6 @@
 // The operations for C and for Rust. A table crosses as its image, a flat run of bytes; an answer crosses as the number returned, 0 for a result or the
 // refusal's, and as entries of a lent buffer. include/furlazon.h declares these functions for C.
 
-pub mod answers;
-pub mod image;
 pub mod untold;
 
 use answers::Answer;
@@ -22,7 +20,7 @@ ghost use mathlib.Core.Path.{_≡_};
 ghost use Prim.Native.Nat.{min};
 ghost use lib.Dec.{ltb};
 ghost use Rattle.code.specs.Definitions.Lists.{if_then_else_};
-ghost use Rattle.furlazon.specs.Image.{imageLength};
+ghost use Rattle.image.specs.Image.{imageLength};
 ghost use Rattle.furlazon.specs.Calls.{shortNumber, TakesIn, EncodeCall, ReadCall, VerdictCall};
 
 // The lower of a sheet's refusal and 13, where a buffer of this length is too short for a table.

@@ -1,7 +1,7 @@
 // The refusals of operations whose answer is too short to be told. Each operation is asked with no room in any buffer: it finds the refusals below 13, or 13
 // holds.
 
-use crate::answers::number;
+use answers::number;
 use code::Code;
 use code::Encoding;
 use code::Judgement;

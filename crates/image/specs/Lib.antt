@@ -1,0 +1,5 @@
+pub mod Image
+pub mod Blocks
+pub mod Packing
+pub mod RoundTrip
+pub mod Unpacking
