@@ -84,16 +84,18 @@ pub record HasBarred (t : Table) (s : List ℕ) : Type 0 where
   pub within : at + 1 < length s
   pub barred : t .follow (getD s (at + 1) 0) (getD s at 0) ≡ false
 
-module _ {t : Table} {s : List ℕ} {a : Bool} (opening : Exactly a (CannotBegin t s)) where
-  pub forbidden-opening : a ≡ true → Exactly true (HasForbidden t s)
+-- A code value has no bans, so no triple of it is forbidden.
+module _ (c : Code) {s : List ℕ} {a : Bool} (opening : Exactly a (CannotBegin (tableOf c) s)) where
+  pub forbidden-opening : a ≡ true → Exactly true (HasForbidden (tableOf c) s)
   forbidden-opening e = let o = opening .yes e in exactly-true (HasForbidden.opening (o .0) (o .1))
 
-  pub forbidden-pair : {b : Bool} → a ≡ false → Exactly b (HasBarred t s) → Exactly b (HasForbidden t s)
+  pub forbidden-pair : {b : Bool} → a ≡ false → Exactly b (HasBarred (tableOf c) s) → Exactly b (HasForbidden (tableOf c) s)
   forbidden-pair {b} e pairs = record { yes = λ h. let p = pairs .yes h in HasForbidden.pair (p .at) (p .within) (p .barred); no = none }
     where
-      none : b ≡ false → HasForbidden t s → ⊥
+      none : b ≡ false → HasForbidden (tableOf c) s → ⊥
       none h (HasForbidden.opening l f) = opening .no e (l, f)
       none h (HasForbidden.pair i l f) = pairs .no h (record { at = i; within = l; barred = f })
+      none h (HasForbidden.triple i l f) = false≢true f
 
 pub opening-tested : (c : Code) (s : List ℕ) → 0 < length s → Exactly (not (eqb (getD (c .begins) (getD s 0 0) 0) 1)) (CannotBegin (tableOf c) s)
 opening-tested c s h = record { yes = λ e. (h, not-true _ e); no = λ e o. false≢true (sym (o .1) ∙ not-false _ e) }

@@ -57,7 +57,7 @@ module _ {l : Limits} {c : Code} where
   pub encoded-reads : {s b b′ : List ℕ} {n : SymbolCount} → Encodes l c s b b′ (Encoded n) → Reads (tableOf c) (take (n .0) b′) s
   encoded-reads {s} {b} {b′} {n} (encoded h e w) =
       record {
-        permitted = permitted (λ x y z. refl) s (h .1 .0) (h .1 .1 .0);
+        permitted = permitted s (h .1 .0) (h .1 .1 .0);
         joined = sym (take-written (n .0) (message (tableOf c) s) b b′ e w);
       }
 
