@@ -18,7 +18,7 @@ use Rattle.code.specs.Laws.Filling.{fill-next, fill-end}
 use Rattle.code.specs.Laws.Clean.{Clean, recordFields}
 use Rattle.code.specs.Laws.Fits.{Fits}
 use Rattle.code.specs.Laws.Records.{begins-past}
-use Rattle.sheet.specs.Fields.{leading, leading-at}
+use Rattle.records.specs.Fields.{leading, leading-at}
 use Rattle.sheet.specs.Rows.{Entries}
 use Rattle.sheet.specs.Standing.{symbolOf, entryOf, rowFrom, rowStart, markAt, RecordAt, record-at, entry-digit, entry-symbol, next-record}
 

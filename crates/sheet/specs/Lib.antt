@@ -1,5 +1,3 @@
-pub mod Fields
-pub mod Front
 pub mod Survey
 pub mod Judging
 pub mod Passing

@@ -14,8 +14,8 @@ use Rattle.code.specs.Definitions.Sheets.{isDigit}
 use Rattle.code.specs.Laws.Clean.{Clean, recordFields, recordFields-some}
 use Rattle.sheet.specs.declared.survey.Survey.{Survey}
 use Rattle.sheet.specs.declared.survey.Cursor.{Cursor}
-use Rattle.sheet.specs.Fields.{leading}
-use Rattle.sheet.specs.Front.{field-last, field-comma, field-line}
+use Rattle.records.specs.Fields.{leading}
+use Rattle.records.specs.Front.{field-last, field-comma, field-line}
 use Rattle.sheet.specs.Survey.{parts, entryBad, takeWord, takeSecond, takeLater, takeSpan, takeField, endRecord, surveyFields, surveyRecords, start}
 
 -- the records from a position on; a position past the end is past the last record

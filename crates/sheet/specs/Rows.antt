@@ -11,8 +11,8 @@ use Rattle.code.specs.Definitions.Lists.{any}
 use Rattle.code.specs.Definitions.Sheets.{isDigit, badEntry, records, fields}
 use Rattle.code.specs.Laws.Lists.{or-neither}
 use Rattle.code.specs.Laws.Clean.{Clean, recordFields, records-some, fields-some, recordFields-some}
-use Rattle.sheet.specs.Fields.{leading, leading-at}
-use Rattle.sheet.specs.Front.{Front, at-end, at-comma, at-line, front}
+use Rattle.records.specs.Fields.{leading, leading-at}
+use Rattle.records.specs.Front.{Front, at-end, at-comma, at-line, front}
 
 -- after a record: the end of the sheet, or a CR LF and the records g
 pub data After (g : List (List (List ℕ))) : List ℕ → Type 0 where

@@ -17,8 +17,8 @@ use Rattle.code.specs.Laws.Lists.{any-at, or-neither, table-same, getD-within}
 use Rattle.code.specs.Laws.Clean.{Clean, recordFields, recordFields-some}
 use Rattle.code.specs.Laws.Fits.{Fits}
 use Rattle.code.specs.Laws.Records.{entry-byte, place-some, width, bits}
-use Rattle.sheet.specs.Fields.{leading}
-use Rattle.sheet.specs.Front.{field-last, field-comma, field-line}
+use Rattle.records.specs.Fields.{leading}
+use Rattle.records.specs.Front.{field-last, field-comma, field-line}
 use Rattle.sheet.specs.Rows.{After, over, down, Entries, row-entries, entries-rest}
 
 -- the symbol of digit k of a field, and of entry y of a row

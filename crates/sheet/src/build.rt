@@ -1,11 +1,11 @@
 // The table of an accepted sheet: one pass from record to record.
 
-use crate::bytes::byte_at;
-use crate::bytes::field_end;
-use crate::bytes::value_of;
 use code::Code;
 use code::Row;
 use code::Word;
+use records::byte_at;
+use records::field_end;
+use records::value_of;
 ghost use mathlib.Core.Path.{_≡_};
 ghost use mathlib.Core.List.{[]};
 ghost use Prim.Native.Nat.{_+_, _≤_};
@@ -14,7 +14,7 @@ ghost use Rattle.code.specs.Definitions.Sheets.{limits, hasStarts, wordOf, rowO
 ghost use Rattle.code.specs.Definitions.Lists.{table};
 ghost use Rattle.code.specs.Laws.Clean.{Clean, recordFields};
 ghost use Rattle.code.specs.Laws.Fits.{Fits};
-ghost use Rattle.sheet.specs.Fields.{leading};
+ghost use Rattle.records.specs.Fields.{leading};
 ghost use Rattle.sheet.specs.Standing.{rowStart, markAt};
 ghost use Rattle.sheet.specs.Building.{RowAt, rowByte};
 

@@ -2,17 +2,16 @@
 // which bytes they are, what the records amount to, and, for an accepted sheet, the table.
 
 pub mod build;
-pub mod bytes;
 pub mod survey;
 
 use build::blank_code;
 use build::build;
-use bytes::bad_bytes;
-use bytes::body_len;
 use code::Refusal;
 use code::Sheet;
 use code::SheetAnswer;
 use code::Taken;
+use records::bad_bytes;
+use records::body_len;
 use survey::has_starts;
 use survey::judge;
 use survey::survey_all;

@@ -1,12 +1,12 @@
 // What the records of a sheet amount to: one pass from field to field, with counts, and a flag for each refusal that a single record can show.
 
-use crate::bytes::byte_at;
-use crate::bytes::field_end;
-use crate::bytes::or;
 use code::Code;
 use code::Refusal;
 use code::SheetAnswer;
 use code::Word;
+use records::byte_at;
+use records::field_end;
+use records::or;
 ghost use mathlib.Core.Path.{_≡_};
 ghost use Prim.Native.Nat.{_+_, _≤_, _<_};
 ghost use lib.ListN.{length, drop};

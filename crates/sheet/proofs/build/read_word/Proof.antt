@@ -8,7 +8,7 @@ use lib.ListN.{length, drop, replicate, length-set}
 use Rattle.code.specs.declared.Word.{Word}
 use Rattle.code.specs.Definitions.Lists.{table}
 use Rattle.code.specs.Laws.Filling.{fill-next}
-use Rattle.sheet.specs.Fields.{leading}
+use Rattle.records.specs.Fields.{leading}
 use Rattle.sheet.specs.Standing.{symbolOf}
 use Rattle.sheet.specs.Building.{word-digit, word-symbol, word-read}
 use Rattle.sheet.proofs.build.read_word.Statement.{statement}

@@ -1,8 +1,8 @@
 -- A final CR LF is there exactly if both of the last two bytes say so.
-use Rattle.sheet.specs.Fields.{body-short, body-no-cr, body-no-lf, body-end}
+use Rattle.records.specs.Fields.{body-short, body-no-cr, body-no-lf, body-end}
 use borrow.Author.Needs.{needs}
-use Rattle.sheet.proofs.bytes.body_len.Statement.{statement}
-use Rattle.sheet.proofs.bytes.body_len.Tie as tie
+use Rattle.records.proofs.body_len.Statement.{statement}
+use Rattle.records.proofs.body_len.Tie as tie
 
 returns : tie.Need-returns
 returns c = (body-short _ (c .if1 .taken), search needs)

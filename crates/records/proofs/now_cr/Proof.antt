@@ -1,6 +1,6 @@
 -- After a CR the next byte does not stand after one; else it does exactly if this one is a CR.
-use Rattle.sheet.proofs.bytes.now_cr.Statement.{statement}
-use Rattle.sheet.proofs.bytes.now_cr.Tie as tie
+use Rattle.records.proofs.now_cr.Statement.{statement}
+use Rattle.records.proofs.now_cr.Tie as tie
 
 returns : tie.Need-returns
 returns c = rw (c .if1 .taken)

@@ -5,9 +5,9 @@ use mathlib.Core.Bool.{_||_, false}
 use Prim.Native.Nat.{_≤_, _-_}
 use lib.ListN.{length, drop}
 use Rattle.code.specs.Definitions.Sheets.{badBytes}
-use Rattle.sheet.specs.Fields.{bad-on, bad-end}
-use Rattle.sheet.proofs.bytes.bad_bytes.Statement.{statement}
-use Rattle.sheet.proofs.bytes.bad_bytes.Tie as tie
+use Rattle.records.specs.Fields.{bad-on, bad-end}
+use Rattle.records.proofs.bad_bytes.Statement.{statement}
+use Rattle.records.proofs.bad_bytes.Tie as tie
 
 abbrev Inv-loop : tie.InvT-loop
 Inv-loop s bad₀ cr₀ i₀ bad cr i = (i ≤ length s) × (bad || badBytes cr (drop i s) ≡ badBytes false s)

@@ -1,11 +1,11 @@
-// The bytes of a sheet: which may stand in it, where it ends, and how far a field goes.
+// The bytes of an RFC 4180 file of digits, a code sheet or another: which may stand in it, where it ends, and how far a field goes.
 
 ghost use mathlib.Core.Path.{_≡_};
 ghost use mathlib.Core.Bool.{true, false, _||_};
 ghost use Prim.Native.Nat.{_+_, _≤_};
 ghost use lib.ListN.{length, take, drop, getD};
 ghost use Rattle.code.specs.Definitions.Sheets.{isDigit, valueOf, badBytes, body};
-ghost use Rattle.sheet.specs.Fields.{badByte, afterCr, leading};
+ghost use Rattle.records.specs.Fields.{badByte, afterCr, leading};
 
 pub fn is_digit(b: u8) -> bool
     ensures { λ r. ⌜ r ≡ isDigit b ⌝ }
@@ -78,7 +78,7 @@ pub fn or(a: bool, b: bool) -> bool
     if a { true } else { b }
 }
 
-// How long the sheet is without a final CR LF.
+// How long the file is without a final CR LF.
 pub fn body_len(s: &[u8]) -> usize
     ensures { λ r. ⌜ (take r (now (s .entry)) ≡ body (now (s .entry))) × (r ≤ length (now (s .entry))) ⌝ }
 {

@@ -1,7 +1,7 @@
 -- A digit is told by where its byte stands: up to 9, from A on, or between.
-use Rattle.sheet.specs.Fields.{digit-low, digit-high, digit-between}
-use Rattle.sheet.proofs.bytes.is_digit.Statement.{statement}
-use Rattle.sheet.proofs.bytes.is_digit.Tie as tie
+use Rattle.records.specs.Fields.{digit-low, digit-high, digit-between}
+use Rattle.records.proofs.is_digit.Statement.{statement}
+use Rattle.records.proofs.is_digit.Tie as tie
 
 returns : tie.Need-returns
 returns c = digit-low (c .before .args .b) (c .if1 .taken)

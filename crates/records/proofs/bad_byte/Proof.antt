@@ -1,9 +1,9 @@
 -- Each way out is refusal 2 at one byte, by the tests that led there.
-use Rattle.sheet.specs.Fields.{bad-plain, bad-comma, bad-other}
+use Rattle.records.specs.Fields.{bad-plain, bad-comma, bad-other}
 use mathlib.Core.Path.{sym, _∙_}
 use borrow.Author.Needs.{needs}
-use Rattle.sheet.proofs.bytes.bad_byte.Statement.{statement}
-use Rattle.sheet.proofs.bytes.bad_byte.Tie as tie
+use Rattle.records.proofs.bad_byte.Statement.{statement}
+use Rattle.records.proofs.bad_byte.Tie as tie
 
 returns : tie.Need-returns
 returns c = rw (c .if1 .taken)

@@ -4,9 +4,9 @@ use mathlib.Core.Path.{_≡_, sym, _∙_}
 use Prim.Native.Nat.{_+_, _≤_, _-_}
 use native.Mathlib.Omega.{arith}
 use lib.ListN.{length, drop}
-use Rattle.sheet.specs.Fields.{leading, leading-on, leading-stop, leading-end}
-use Rattle.sheet.proofs.bytes.field_end.Statement.{statement}
-use Rattle.sheet.proofs.bytes.field_end.Tie as tie
+use Rattle.records.specs.Fields.{leading, leading-on, leading-stop, leading-end}
+use Rattle.records.proofs.field_end.Statement.{statement}
+use Rattle.records.proofs.field_end.Tie as tie
 
 abbrev Inv-loop : tie.InvT-loop
 Inv-loop s at i₀ i = (i ≤ length s) × (i + length (leading (drop i s)) ≡ at + length (leading (drop at s)))

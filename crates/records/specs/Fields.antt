@@ -1,4 +1,4 @@
--- How a pass over the bytes of a sheet meets refusal 2, the final CR LF, and the digits of a field.
+-- How a pass over the bytes of a file meets refusal 2, the final CR LF, and the digits of a field.
 use mathlib.Core.Path.{_≡_, refl}
 use mathlib.Core.Bool.{Bool, true, false, not, _||_, false≢true, and-true, and-false, or-false, or-assoc}
 use mathlib.Core.List.{List, [], _∷_}
@@ -101,7 +101,7 @@ unfoldable pub leading : List ℕ → List ℕ
 leading [] = []
 leading (a ∷ s) = if isDigit a then a ∷ leading s else []
 
--- a scan for the end of a field: one digit more, another byte, the end of the sheet
+-- a scan for the end of a field: one digit more, another byte, the end of the file
 pub leading-on : (s : List ℕ) (i : ℕ) → i < length s → isDigit (getD s i 0) ≡ true → length (leading (drop i s)) ≡ length (leading (drop (i + 1) s)) + 1
 unfolding leading
 leading-on s i h d = rw (add-one i, drop-cons s i 0 h, d, add-one)

@@ -9,7 +9,7 @@ use lib.ListN.{length, drop, getD, length-drop, drop-of-length-le}
 use lib.Seq.{drop-cons, drop-drop}
 use Rattle.code.specs.Definitions.Sheets.{isDigit, push}
 use Rattle.code.specs.Laws.Clean.{Clean, none, digit, comma, line, recordFields, recordFields-none, recordFields-digit, recordFields-comma, recordFields-line}
-use Rattle.sheet.specs.Fields.{leading}
+use Rattle.records.specs.Fields.{leading}
 
 -- g are the fields, record by record, of a string whose first field is f and that goes on with t
 pub data Front (g : List (List (List ℕ))) (f : List ℕ) : List ℕ → Type 0 where

@@ -1,8 +1,8 @@
 -- The two ranges of digits, each with its own offset.
-use Rattle.sheet.specs.Fields.{digit-from, value-low, value-high}
+use Rattle.records.specs.Fields.{digit-from, value-low, value-high}
 use borrow.Author.Needs.{needs}
-use Rattle.sheet.proofs.bytes.value_of.Statement.{statement}
-use Rattle.sheet.proofs.bytes.value_of.Tie as tie
+use Rattle.records.proofs.value_of.Statement.{statement}
+use Rattle.records.proofs.value_of.Tie as tie
 
 sub-result : tie.Need-sub-result
 sub-result c = digit-from (c .before .args .b) (c .before .pre)
