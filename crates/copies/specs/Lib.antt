@@ -5,6 +5,7 @@ pub mod Renumbered
 pub mod CopyLists
 pub mod Copies
 pub mod BanLists
+pub mod Triples
 pub mod Enlargements
 pub mod Witnesses
 pub mod Everywhere

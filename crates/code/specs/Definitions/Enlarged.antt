@@ -7,9 +7,13 @@ use lib.ListN.{length, take, getD}
 use Rattle.code.specs.declared.Word.{Word}
 use Rattle.code.specs.declared.Code.{Code}
 use Rattle.code.specs.declared.Enlarged.{Enlarged}
+use Rattle.code.specs.declared.Enlargement.{Enlargement}
 use Rattle.code.specs.declared.Limits.{Limits}
+use Rattle.code.specs.declared.Refusal.the-variants.{BanLimit}
+use Rattle.code.specs.declared.SheetAnswer.the-variants.{Accepted, Refused}
 use Rattle.code.specs.Definitions.Lists.{if_then_else_, table, sum}
 use Rattle.code.specs.Definitions.Tables.{Table, noWord, tableOf}
+use Rattle.code.specs.Definitions.Sheets.{blankCode}
 use Rattle.code.specs.Definitions.Bans.{Ban, Copy, bannedBy, copiesOf, copyAt, origin, mayCome, enlarged, tableIn}
 
 module _ (l : Limits) where
@@ -17,6 +21,11 @@ module _ (l : Limits) where
   unfoldable pub plainOf : Code → Enlarged
   unfolding origin
   plainOf c = record { code = c; originals = c .count; origins = table (origin (c .count) []) (l .words); behind = table (λ x. 0) (l .words) }
+
+  -- the table of a refused list: no word, and all zero
+  unfoldable pub blankEnlarged : Enlarged
+  unfolding plainOf blankCode
+  blankEnlarged = plainOf (blankCode l)
 
   -- A table and its bans.
   module _ (c : Code) (bs : List Ban) where
@@ -51,6 +60,11 @@ module _ (l : Limits) where
     -- 17: "the copies pass the limits on words or symbols"
     abbrev pub refused17 : Bool
     refused17 = ltb (l .words) enlargedCount || ltb (l .total) (sum (map length (enlarged (tableOf c) (copiesOf bs) (bannedBy bs) .words)))
+
+    -- 01: "Where none holds, the operation gives its result."
+    unfoldable pub enlargement : Enlargement
+    unfolding blankEnlarged enlargedCode
+    enlargement = if refused17 then record { answer = Refused BanLimit; enlarged = blankEnlarged } else record { answer = Accepted; enlarged = enlargedCode }
 
 -- The copies of a value.
 abbrev pub copiesIn : Enlarged → List Copy
