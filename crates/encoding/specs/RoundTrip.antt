@@ -1,6 +1,6 @@
 -- Encoding and reading undo each other, as their definitions say. What is encoded is permitted and stands in the buffer as its message, so it is a
 -- reading of that message; and what reading finds is permitted and has the message that was read, so encoding takes it and gives that message back.
-use mathlib.Core.Path.{_≡_, refl, sym, ap}
+use mathlib.Core.Path.{_≡_, sym, ap}
 use mathlib.Core.List.{List, [], _∷_, List-discrete}
 use mathlib.Core.Logic.{_⊎_, inl, inr}
 use Prim.Native.Nat.{ℕ, _<_}

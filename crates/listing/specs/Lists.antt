@@ -1,0 +1,137 @@
+-- The ban list that is written for bans: its numbers in decimal digits, parted by commas, a record for each ban. Refusal 16 does not meet it, it gives the bans
+-- back, and it has at most ten bytes for each ban.
+use mathlib.Core.Path.{_≡_, refl, sym, ap₂, _∙_}
+use mathlib.Core.Bool.{true, false, false≢true}
+use mathlib.Core.List.{List, [], _∷_, _++_, map}
+use Prim.Native.Nat.{ℕ, _+_, _*_, _≤_, _<_}
+use native.Mathlib.Omega.{arith}
+use lib.Dec.{eqb}
+use lib.ListN.{length, length-append}
+use borrow.Author.Tests.{eq-eqb, ne-eqb}
+use Rattle.code.specs.Definitions.Lists.{any, every, sum}
+use Rattle.code.specs.Definitions.Sheets.{isDigit, fields, grid, badBytes}
+use Rattle.code.specs.Definitions.Bans.{Ban, isBan, bannedBy}
+use Rattle.code.specs.Definitions.BanLists.{banOf, badBan, banRecords, refused16, bansOf}
+use Rattle.code.specs.Laws.Clean.{bad-end, body-end}
+use Rattle.code.specs.Laws.Lists.{or-neither}
+use Rattle.copies.specs.BanLists.{Known, ban}
+use Rattle.table.specs.Join.{join, isPlain, fields-join, records-join, bad-join, plain-join, length-join}
+use Rattle.listing.specs.Numbers.{numberField, number-back, number-digits, number-short, number-known}
+
+abbrev crlf : List ℕ
+crlf = 13 ∷ 10 ∷ []
+
+abbrev comma : List ℕ
+comma = 44 ∷ []
+
+-- the fields of a ban's record, and its bytes
+abbrev pub fieldsOf : Ban → List (List ℕ)
+fieldsOf b = numberField (b .x) ∷ numberField (b .y) ∷ numberField (b .z) ∷ []
+
+abbrev pub recordOf : Ban → List ℕ
+recordOf b = join comma (fieldsOf b)
+
+unfoldable pub print : List Ban → List ℕ
+print [] = []
+print (b ∷ bs) = join crlf (map recordOf (b ∷ bs)) ++ crlf
+
+-- The numbers of a ban below n.
+record Within (n : ℕ) (b : Ban) : Type 0 where
+  x : b .x < n
+  y : b .y < n
+  z : b .z < n
+
+-- Where nothing is banned after one word twice, no ban names one word twice.
+ban-apart : (b : Ban) (bs : List Ban) → ((x y : ℕ) → bannedBy (b ∷ bs) x y y ≡ false) → b .y ≡ b .z → ⊥
+unfolding any bannedBy
+ban-apart b bs a e =
+    false≢true
+    (sym (or-neither (isBan (b .x) (b .y) (b .y) b) (any (isBan (b .x) (b .y) (b .y)) bs) (a (b .x) (b .y)) .0)
+    ∙ rw (eq-eqb (b .x) (b .x) refl, eq-eqb (b .y) (b .y) refl) (eq-eqb (b .z) (b .y) (sym e)))
+
+module _ (n : ℕ) (few : n ≤ 100) where
+  module _ (b : Ban) (w : Within n b) where
+    x< : b .x < 100
+    x< = omega (arith, w .x)
+
+    y< : b .y < 100
+    y< = omega (arith, w .y)
+
+    z< : b .z < 100
+    z< = omega (arith, w .z)
+
+    fields-digits : every (every isDigit) (fieldsOf b) ≡ true
+    unfolding every
+    fields-digits = rw (number-digits (b .x) x<, number-digits (b .y) y<, number-digits (b .z) z<)
+
+    ban-back : banOf (fieldsOf b) ≡ b
+    ban-back = rw (number-back (b .x) x<, number-back (b .y) y<, number-back (b .z) z<)
+
+    ban-good : (b .y ≡ b .z → ⊥) → badBan n (fieldsOf b) ≡ false
+    unfolding badBan every
+    ban-good d =
+        rw (number-known (b .x) x< n (w .x), number-known (b .y) y< n (w .y), number-known (b .z) z< n (w .z), number-back (b .y) y<, number-back (b .z) z<) (ne-eqb (b .y) (b .z) d)
+
+    record-short : length (recordOf b) ≤ 8
+    unfolding sum
+    record-short = omega (arith, length-join comma (fieldsOf b) (omega arith), number-short (b .x) x<, number-short (b .y) y<, number-short (b .z) z<)
+
+  records-plain : (bs : List Ban) → Known n bs → every (every isPlain) (map recordOf bs) ≡ true
+  unfolding every
+  records-plain [] k = refl
+  records-plain (b ∷ bs) (ban x y z k) = rw (plain-join (fieldsOf b) (fields-digits b (record { x = x; y = y; z = z })), records-plain bs k)
+
+  fields-back : (bs : List Ban) → Known n bs → map fields (map recordOf bs) ≡ map fieldsOf bs
+  fields-back [] k = refl
+  fields-back (b ∷ bs) (ban x y z k) =
+      ap₂ (λ (r : List (List ℕ)) (g : List (List (List ℕ))). r ∷ g)
+      (fields-join (fieldsOf b) (omega arith) (fields-digits b (record { x = x; y = y; z = z })))
+      (fields-back bs k)
+
+  -- The records of the list are those that were written.
+  records-back : (bs : List Ban) → Known n bs → banRecords (print bs) ≡ map fieldsOf bs
+  unfolding banRecords print grid
+  records-back [] k = refl
+  records-back (b ∷ bs) k =
+      let s : List ℕ = join crlf (map recordOf (b ∷ bs)) in
+      let some : eqb (length (s ++ crlf)) 0 ≡ false = ne-eqb (length (s ++ crlf)) 0 (λ e. omega (arith, length-append s crlf)) in
+      rw (some, body-end s, records-join (map recordOf (b ∷ bs)) (omega arith) (records-plain (b ∷ bs) k)) (fields-back (b ∷ bs) k)
+
+  bytes-good : (bs : List Ban) → Known n bs → badBytes false (print bs) ≡ false
+  unfolding print badBytes
+  bytes-good [] k = refl
+  bytes-good (b ∷ bs) k = bad-end false (join crlf (map recordOf (b ∷ bs))) ∙ bad-join (map recordOf (b ∷ bs)) (records-plain (b ∷ bs) k)
+
+  bans-good : (bs : List Ban) → Known n bs → ((x y : ℕ) → bannedBy bs x y y ≡ false) → any (badBan n) (map fieldsOf bs) ≡ false
+  unfolding any bannedBy
+  bans-good [] k a = refl
+  bans-good (b ∷ bs) (ban x y z k) a =
+      rw (ban-good b (record { x = x; y = y; z = z }) (ban-apart b bs a)) (bans-good bs k (λ i j. or-neither (isBan i j j b) (any (isBan i j j) bs) (a i j) .1))
+
+  bans-same : (bs : List Ban) → Known n bs → map banOf (map fieldsOf bs) ≡ bs
+  bans-same [] k = refl
+  bans-same (b ∷ bs) (ban x y z k) =
+      ap₂ (λ (c : Ban) (cs : List Ban). c ∷ cs) (ban-back b (record { x = x; y = y; z = z })) (bans-same bs k)
+
+  -- The bans are read back.
+  pub bans-back : (bs : List Ban) → Known n bs → bansOf (print bs) ≡ bs
+  unfolding bansOf
+  bans-back bs k = rw (records-back bs k) (bans-same bs k)
+
+  -- Refusal 16 does not meet the list.
+  pub print-accepted : (bs : List Ban) → Known n bs → ((x y : ℕ) → bannedBy bs x y y ≡ false) → refused16 n (print bs) ≡ false
+  unfolding refused16
+  print-accepted bs k a = rw (bytes-good bs k, records-back bs k) (bans-good bs k a)
+
+  joined-short : (bs : List Ban) → Known n bs → sum (map (λ (f : List ℕ). length f + 2) (map recordOf bs)) ≤ 10 * length bs
+  unfolding sum
+  joined-short [] k = omega arith
+  joined-short (b ∷ bs) (ban x y z k) = omega (arith, record-short b (record { x = x; y = y; z = z }), joined-short bs k)
+
+  -- It is short.
+  pub print-short : (bs : List Ban) → Known n bs → length (print bs) ≤ 10 * length bs
+  unfolding print
+  print-short [] k = omega arith
+  print-short (b ∷ bs) k =
+      let s : List ℕ = join crlf (map recordOf (b ∷ bs)) in
+      omega (arith, length-append s crlf, length-join crlf (map recordOf (b ∷ bs)) (omega arith), joined-short (b ∷ bs) k)
