@@ -26,7 +26,7 @@ pub once-none : (n : ℕ) → Once n []
 once-none n = record { behind-known = λ i h. absurd (omega arith); of-known = λ i h. absurd (omega arith); once = λ i j a. let h = a .below in absurd (omega arith) }
 
 -- One copy more
-module _ {n : ℕ} {cs : List Copy} (copies : Once n cs) (c : Copy) (new : hasCopy cs (c .behind) (c .of) ≡ false) where
+module _ (cs : List Copy) (c : Copy) where
   long : length (cs ++ (c ∷ [])) ≡ length cs + 1
   long = length-append cs (c ∷ [])
 
@@ -38,6 +38,7 @@ module _ {n : ℕ} {cs : List Copy} (copies : Once n cs) (c : Copy) (new : hasCo
       go (yes m) = subst P (sym (List·getD-append cs (c ∷ []) noCopy i m)) (a i m)
       go (no m) = subst P (sym (getD-at cs c [] noCopy i (omega (arith, long)))) d
 
+module _ {n : ℕ} {cs : List Copy} (copies : Once n cs) (c : Copy) (new : hasCopy cs (c .behind) (c .of) ≡ false) where
   -- A copy stands among the copies, or it is c.
   copy-split : {y z i : ℕ} → CopyAt (cs ++ (c ∷ [])) y z i → Dec (i < length cs) → CopyAt cs y z i ⊎ ((i ≡ length cs) × ((c .behind ≡ y) × (c .of ≡ z)))
   copy-split {y} {z} {i} a (yes m) =
@@ -45,8 +46,8 @@ module _ {n : ℕ} {cs : List Copy} (copies : Once n cs) (c : Copy) (new : hasCo
       inl (record { below = m; behind = subst (λ (d : Copy). d .behind ≡ y) old (a .behind); of = subst (λ (d : Copy). d .of ≡ z) old (a .of) })
   copy-split {y} {z} {i} a (no m) =
       let h = a .below in
-      let last = getD-at cs c [] noCopy i (omega (arith, long)) in
-      inr (omega (arith, long), (subst (λ (d : Copy). d .behind ≡ y) last (a .behind), subst (λ (d : Copy). d .of ≡ z) last (a .of)))
+      let last = getD-at cs c [] noCopy i (omega (arith, long cs c)) in
+      inr (omega (arith, long cs c), (subst (λ (d : Copy). d .behind ≡ y) last (a .behind), subst (λ (d : Copy). d .of ≡ z) last (a .of)))
 
   not-new : {y z i : ℕ} → CopyAt cs y z i → c .behind ≡ y → c .of ≡ z → ⊥
   not-new a e d = false≢true (sym new ∙ subst₂ (λ (v w : ℕ). hasCopy cs v w ≡ true) (sym e) (sym d) (has-copy a))
@@ -60,8 +61,8 @@ module _ {n : ℕ} {cs : List Copy} (copies : Once n cs) (c : Copy) (new : hasCo
 
   once-more : c .behind < n → c .of < n → Once n (cs ++ (c ∷ []))
   once-more h k = record {
-    behind-known = at-index (λ d. d .behind < n) (copies .behind-known) h;
-    of-known = at-index (λ d. d .of < n) (copies .of-known) k;
+    behind-known = at-index cs c (λ d. d .behind < n) (copies .behind-known) h;
+    of-known = at-index cs c (λ d. d .of < n) (copies .of-known) k;
     once = λ i j a d. once-pair (copy-split a (decLt i (length cs))) (copy-split d (decLt j (length cs)));
   }
 
@@ -93,6 +94,37 @@ has-kept : (cs : List Copy) (b : Ban) (a : Bool) (y z : ℕ) → hasCopy cs y z 
 has-kept cs b true y z e = e
 has-kept cs b false y z e = has-old cs (record { behind = b .y; of = b .z } ∷ []) y z e
 
+-- The first ban of a list bans, and so do those behind it.
+banned-first : (b : Ban) (bs : List Ban) → bannedBy (b ∷ bs) (b .x) (b .y) (b .z) ≡ true
+unfolding bannedBy any
+banned-first b bs = rw (eq-eqb (b .x) (b .x) refl, eq-eqb (b .y) (b .y) refl, eq-eqb (b .z) (b .z) refl)
+
+banned-later : (b : Ban) (bs : List Ban) (x y z : ℕ) → bannedBy bs x y z ≡ true → bannedBy (b ∷ bs) x y z ≡ true
+unfolding bannedBy any
+banned-later b bs x y z e = or-right (isBan x y z b) (any (isBan x y z) bs) e
+
+-- Bans are on known words where all that is banned is.
+pub known-all : {n : ℕ} (bs : List Ban) → ((x y z : ℕ) → bannedBy bs x y z ≡ true → (x < n) × ((y < n) × (z < n))) → Known n bs
+known-all [] h = no-ban
+known-all (b ∷ bs) h =
+    let f = h (b .x) (b .y) (b .z) (banned-first b bs) in
+    ban (f .0) (f .1 .0) (f .1 .1) (known-all bs (λ x y z e. h x y z (banned-later b bs x y z e)))
+
+-- the word that is banned
+known-first : {n : ℕ} (b : Ban) (x y z : ℕ) → b .x < n → isBan x y z b ≡ true → x < n
+known-first b x y z h e =
+    let same = eqb-true (b .x) x (and-eq-true-iff (eqb (b .x) x) (eqb (b .y) y && eqb (b .z) z) .0 e .0) in
+    omega arith
+
+known-case : {n : ℕ} (b : Ban) (bs : List Ban) (x y z : ℕ) → b .x < n → (any (isBan x y z) bs ≡ true → x < n) → (isBan x y z b ≡ true) ⊎ (any (isBan x y z) bs ≡ true) → x < n
+known-case b bs x y z h ih (inl d) = known-first b x y z h d
+known-case b bs x y z h ih (inr d) = ih d
+
+pub banned-known : {n : ℕ} {bs : List Ban} → Known n bs → (x y z : ℕ) → bannedBy bs x y z ≡ true → x < n
+unfolding bannedBy any
+banned-known no-ban x y z e = absurd (false≢true e)
+banned-known (ban {b} {bs} h i j k) x y z e = known-case b bs x y z h (banned-known k x y z) (or-cases (isBan x y z b) (any (isBan x y z) bs) e)
+
 -- The copies of a list of bans on known words are copies of known words, each once.
 pub copies-once : {n : ℕ} (cs : List Copy) (bs : List Ban) → Known n bs → Once n cs → Once n (copiesFrom cs bs)
 unfolding copiesFrom
@@ -122,6 +154,21 @@ unfolding copiesFrom any
 served-from cs [] x y z e = absurd (false≢true e)
 served-from cs (b ∷ bs) x y z e =
     served-next cs b bs x y z (served-from (withBan cs b (hasCopy cs (b .y) (b .z))) bs x y z) (or-cases (isBan x y z b) (any (isBan x y z) bs) e)
+
+all-ban : (P : Copy → Type 0) (cs : List Copy) (b : Ban) → ((i : ℕ) → i < length cs → P (getD cs i noCopy)) → P (record { behind = b .y; of = b .z })
+    → (a : Bool) (i : ℕ) → i < length (withBan cs b a) → P (getD (withBan cs b a) i noCopy)
+all-ban P cs b old new true = old
+all-ban P cs b old new false = at-index cs (record { behind = b .y; of = b .z }) P old new
+
+-- What holds of the copies, and of the copy that each ban makes, holds of all copies behind the bans.
+pub all-copies : (P : Copy → Type 0) (cs : List Copy) (bs : List Ban) → ((i : ℕ) → i < length cs → P (getD cs i noCopy))
+    → ((x y z : ℕ) → bannedBy bs x y z ≡ true → P (record { behind = y; of = z })) → (i : ℕ) → i < length (copiesFrom cs bs) → P (getD (copiesFrom cs bs) i noCopy)
+unfolding copiesFrom
+all-copies P cs [] old new = old
+all-copies P cs (b ∷ bs) old new =
+    all-copies P (withBan cs b (hasCopy cs (b .y) (b .z))) bs
+    (all-ban P cs b old (new (b .x) (b .y) (b .z) (banned-first b bs)) (hasCopy cs (b .y) (b .z)))
+    (λ x y z e. new x y z (banned-later b bs x y z e))
 
 -- Every ban of the list has its copy.
 pub ban-served : (bs : List Ban) (x y z : ℕ) → bannedBy bs x y z ≡ true → hasCopy (copiesOf bs) y z ≡ true

@@ -13,7 +13,8 @@ use Rattle.code.specs.Definitions.Bans.{Copy, hasCopy, copyIndex, copyAt, origi
 use Rattle.copies.specs.CopyLists.{Once, origin-word, origin-known, copy-index, stands-next}
 use Rattle.copies.specs.Copies.{Serves, Comes, comes, may-come, unbanned-word, unbanned-copy}
 
-both-ways : (a b : Bool) → (a ≡ true → b ≡ true) → (b ≡ true → a ≡ true) → a ≡ b
+-- Two Bools are equal where each is true if the other is.
+pub both-ways : (a b : Bool) → (a ≡ true → b ≡ true) → (b ≡ true → a ≡ true) → a ≡ b
 both-ways true b f g = sym (f refl)
 both-ways false true f g = g refl
 both-ways false false f g = refl

@@ -38,13 +38,13 @@ value-written : (s : List ℕ) (p : ℕ) → getD s p 0 < 16 → valueOf (getD (
 unfolding digitOf
 value-written s p h = ap valueOf (List·getD-map digitOf s p 0) ∙ value-digit (getD s p 0) h
 
-word-is : (w : Word) (s : List ℕ) (n : ℕ) → s ≡ w .symbols → n ≡ w .len → record { symbols = s; len = n } ≡ w
+pub word-is : (w : Word) (s : List ℕ) (n : ℕ) → s ≡ w .symbols → n ≡ w .len → record { symbols = s; len = n } ≡ w
 word-is w s n p q = rw (p, q)
 
-row-is : (r : Row) (e : List ℕ) → e ≡ r .entries → record { entries = e } ≡ r
+pub row-is : (r : Row) (e : List ℕ) → e ≡ r .entries → record { entries = e } ≡ r
 row-is r e p = rw p
 
-code-is : (c : Code) (ws : List Word) (rs : List Row) (bs : List ℕ) (n : ℕ) → ws ≡ c .words → rs ≡ c .rows → bs ≡ c .begins → n ≡ c .count
+pub code-is : (c : Code) (ws : List Word) (rs : List Row) (bs : List ℕ) (n : ℕ) → ws ≡ c .words → rs ≡ c .rows → bs ≡ c .begins → n ≡ c .count
     → record { words = ws; rows = rs; begins = bs; count = n } ≡ c
 code-is c ws rs bs n p q b r = rw (p, q, b, r)
 

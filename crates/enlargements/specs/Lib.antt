@@ -1,0 +1,9 @@
+pub mod WellEnlarged
+pub mod Numbers
+pub mod FromBans
+pub mod Totals
+pub mod Made
+pub mod Base
+pub mod Back
+pub mod Meaning
+pub mod Plain

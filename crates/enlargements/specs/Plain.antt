@@ -1,0 +1,70 @@
+-- A table of a sheet, as the value without copies that it is, is well-enlarged.
+use mathlib.Core.Path.{_≡_, refl}
+use mathlib.Core.Bool.{true}
+use mathlib.Core.List.{[]}
+use Prim.Native.Nat.{ℕ, _-_, _<_}
+use native.Mathlib.Omega.{arith}
+use Rattle.code.specs.declared.Code.{Code}
+use Rattle.code.specs.declared.Enlarged.{Enlarged}
+use Rattle.code.specs.declared.Limits.{Limits}
+use Rattle.code.specs.Definitions.Lists.{any, table}
+use Rattle.code.specs.Definitions.Tables.{tableOf}
+use Rattle.code.specs.Definitions.Bans.{hasCopy, origin, standsAfter}
+use Rattle.code.specs.Definitions.Enlarged.{plainOf, copiesIn}
+use Rattle.code.specs.Laws.Lists.{length-table, getD-table}
+use Rattle.copies.specs.CopyLists.{origin-word, origin-copy, next-stands, next-itself}
+use Rattle.copies.specs.Enlargements.{Fair}
+use Rattle.table.specs.WellFormed.{WellFormed}
+use Rattle.enlargements.specs.WellEnlarged.{NumberFits, Numbered, WellEnlarged}
+use Rattle.enlargements.specs.Numbers.{copyIn}
+
+-- Where there are no copies, a word stands after every word, and every matrix is that of an enlarged code.
+pub none-stand : (n x y : ℕ) → x < n → standsAfter n [] x y ≡ true
+unfolding hasCopy any
+none-stand n x y h = rw (next-itself n [] y x refl) at (next-stands n [] y x h)
+
+pub none-fair : (n : ℕ) (c : Code) → Fair n [] (tableOf c .follow)
+none-fair n c = record {
+  only = λ x y h k f. none-stand n x (origin n [] y) (omega arith);
+  base = λ x y h k f. rw (origin-word n [] y (omega arith)) f;
+}
+
+no-copies : (e : Enlarged) → e .originals ≡ e .code .count → copiesIn e ≡ []
+unfolding table
+no-copies e h = let none : e .code .count - e .originals ≡ 0 = omega arith in rw none
+
+pub plain-fair : (e : Enlarged) → e .originals ≡ e .code .count → Fair (e .originals) (copiesIn e) (tableOf (e .code) .follow)
+plain-fair e h = rw (no-copies e h) (none-fair (e .originals) (e .code))
+
+module _ {l : Limits} {c : Code} (given : WellFormed l c) where
+  number-fits : (x : ℕ) → NumberFits (c .count) (c .count) x (origin (c .count) [] x) 0
+  number-fits x = record {
+    of-word = origin-word (c .count) [] x;
+    of-copy = λ h k. absurd (omega arith);
+    of-past = λ h. origin-copy (c .count) [] x h;
+    behind-word = λ h. refl;
+    behind-copy = λ h k. absurd (omega arith);
+    behind-past = λ h. refl;
+    apart = λ h k. absurd (omega arith);
+  }
+
+  numbers : Numbered l (plainOf l c)
+  unfolding plainOf
+  numbers = record {
+    one = given .one;
+    most = omega arith;
+    room = given .most;
+    origins = length-table (origin (c .count) []) (l .words);
+    behind = length-table (λ x. 0) (l .words);
+    number = λ x h. rw (getD-table (origin (c .count) []) (l .words) x 0 h, getD-table {A = ℕ} (λ x. 0) (l .words) x 0 h) (number-fits x);
+  }
+
+  pub plain-well : WellEnlarged l (plainOf l c)
+  unfolding plainOf
+  plain-well = record {
+    code = given;
+    numbers = numbers;
+    once = λ y z i j a b. absurd (omega (arith, a .below, length-table (copyIn (plainOf l c)) (c .count - c .count)));
+    copy = λ x h k. absurd (omega arith);
+    fair = plain-fair (plainOf l c) refl;
+  }

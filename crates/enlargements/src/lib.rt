@@ -1,0 +1,1 @@
+// The test for refusal 8 of codes with copies.
