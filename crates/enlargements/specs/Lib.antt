@@ -7,3 +7,4 @@ pub mod Base
 pub mod Back
 pub mod Meaning
 pub mod Plain
+pub mod Listed
