@@ -1,3 +1,6 @@
 pub mod Sums
 pub mod Renumberings
 pub mod Reordering
+pub mod Listing
+pub mod Origins
+pub mod Naming

@@ -32,7 +32,7 @@ module _ (n : ℕ) (number : ℕ → ℕ) where
   number-low m most known i h (yes d) = rw (number-in i d) (omega (arith, known i d))
   number-low m most known i h (no d) = rw (number-past i (omega arith)) h
 
-  pub number-known : (m : ℕ) → n ≤ m → ((i : ℕ) → i < n → number i < n) → (i : ℕ) → i < m → numberAt n number i < m
+  number-known : (m : ℕ) → n ≤ m → ((i : ℕ) → i < n → number i < n) → (i : ℕ) → i < m → numberAt n number i < m
   number-known m most known i h = number-low m most known i h (decLt i n)
 
 number-back : (n : ℕ) (p q : ℕ → ℕ) → ((i : ℕ) → i < n → p i < n) → ((i : ℕ) → i < n → q (p i) ≡ i) → (i : ℕ) → Dec (i < n)
@@ -40,7 +40,7 @@ number-back : (n : ℕ) (p q : ℕ → ℕ) → ((i : ℕ) → i < n → p i < n
 number-back n p q known back i (yes h) = rw (number-in n p i h, number-in n q (p i) (known i h)) (back i h)
 number-back n p q known back i (no h) = rw (number-past n p i (omega arith)) (number-past n q i (omega arith))
 
--- With the numbers past the words it is an order of all numbers.
+-- With the numbers past the words, which stay, it is an order of m numbers.
 number-order : {n m : ℕ} {old new : ℕ → ℕ} → n ≤ m → Order n old new → Order m (numberAt n old) (numberAt n new)
 number-order {n} {m} {old} {new} most o = record {
   old-known = number-known n old m most (o .old-known);
@@ -49,27 +49,28 @@ number-order {n} {m} {old} {new} most o = record {
   old-new = λ x h. number-back n new old (o .new-known) (o .old-new) x (decLt x n);
 }
 
+-- the old number of word i
+abbrev formerly : List ℕ → Code → ℕ → ℕ
+formerly old c i = oldNumber old (c .count) i
+
 -- What stands in a renumbered table, by number.
 module _ (l : Limits) (old : List ℕ) (c : Code) where
-  abbrev oldOf : ℕ → ℕ
-  oldOf = oldNumber l old (c .count)
-
-  word-there : (i : ℕ) → i < l .words → getD (renumberedCode l old c .words) i noWord ≡ getD (c .words) (oldOf i) noWord
+  word-there : (i : ℕ) → i < l .words → getD (renumberedCode l old c .words) i noWord ≡ getD (c .words) (formerly old c i) noWord
   unfolding renumberedCode
-  word-there i h = getD-table (λ k. getD (c .words) (oldOf k) noWord) (l .words) i noWord h
+  word-there i h = getD-table (λ k. getD (c .words) (formerly old c k) noWord) (l .words) i noWord h
 
-  row-there : (i : ℕ) → i < l .words → getD (renumberedCode l old c .rows) i noRow ≡ reorderedRow l old (c .count) (getD (c .rows) (oldOf i) noRow)
+  row-there : (i : ℕ) → i < l .words → getD (renumberedCode l old c .rows) i noRow ≡ reorderedRow l old (c .count) (getD (c .rows) (formerly old c i) noRow)
   unfolding renumberedCode
-  row-there i h = getD-table (λ k. reorderedRow l old (c .count) (getD (c .rows) (oldOf k) noRow)) (l .words) i noRow h
+  row-there i h = getD-table (λ k. reorderedRow l old (c .count) (getD (c .rows) (formerly old c k) noRow)) (l .words) i noRow h
 
-  entry-there : (i j : ℕ) → i < l .words → j < l .words → entryOf (renumberedCode l old c) i j ≡ entryOf c (oldOf i) (oldOf j)
-  entry-there i j h k = ap (λ (r : Row). getD (r .entries) j 0) (row-there i h) ∙ getD-table (λ m. entryOf c (oldOf i) (oldOf m)) (l .words) j 0 k
+  entry-there : (i j : ℕ) → i < l .words → j < l .words → entryOf (renumberedCode l old c) i j ≡ entryOf c (formerly old c i) (formerly old c j)
+  entry-there i j h k = ap (λ (r : Row). getD (r .entries) j 0) (row-there i h) ∙ getD-table (λ m. entryOf c (formerly old c i) (formerly old c m)) (l .words) j 0 k
 
-  mark-there : (i : ℕ) → i < l .words → getD (renumberedCode l old c .begins) i 0 ≡ getD (c .begins) (oldOf i) 0
+  mark-there : (i : ℕ) → i < l .words → getD (renumberedCode l old c .begins) i 0 ≡ getD (c .begins) (formerly old c i) 0
   unfolding renumberedCode
-  mark-there i h = getD-table (λ k. getD (c .begins) (oldOf k) 0) (l .words) i 0 h
+  mark-there i h = getD-table (λ k. getD (c .begins) (formerly old c k) 0) (l .words) i 0 h
 
--- A table whose terms are within the bound, and zero past those in use.
+-- The list of f 0 to f (n - 1), each below the bound, and zero past those in use.
 module _ (bound used : ℕ) (f : ℕ → ℕ) (n : ℕ) where
   below-at : ((k : ℕ) → f k < bound) → (k : ℕ) → Dec (k < n) → getD (table f n) k 0 < bound
   below-at below k (yes h) = rw (getD-table f n k 0 h) (below k)
@@ -83,42 +84,42 @@ module _ (bound used : ℕ) (f : ℕ → ℕ) (n : ℕ) where
   cells-table below none = record { below = λ k. below-at below k (decLt k n); zero = λ k h. zero-at none k h (decLt k n) }
 
 module _ {l : Limits} (old : List ℕ) {c : Code} (well : WellFormed l c) {new : ℕ → ℕ} (o : Order (c .count) (λ i. getD old i 0) new) where
-  abbrev formerly : ℕ → ℕ
-  formerly = oldNumber l old (c .count)
-
-  all-numbers : Order (l .words) formerly (numberAt (c .count) new)
+  all-numbers : Order (l .words) (formerly old c) (numberAt (c .count) new)
   all-numbers = number-order (well .most) o
 
-  past : (k : ℕ) → c .count ≤ k → formerly k ≡ k
+  past : (k : ℕ) → c .count ≤ k → formerly old c k ≡ k
   past k h = number-past (c .count) (λ i. getD old i 0) k h
 
-  within : (k : ℕ) → k < c .count → formerly k < c .count
-  within k h = rw (number-in (c .count) (λ i. getD old i 0) k h) (o .old-known k h)
+  number-is : (x : ℕ) → x < c .count → formerly old c x ≡ getD old x 0
+  number-is x h = number-in (c .count) (λ i. getD old i 0) x h
+
+  within : (k : ℕ) → k < c .count → formerly old c k < c .count
+  within k h = rw (number-is k h) (o .old-known k h)
 
   cells-kept : (bound : ℕ) (a : List ℕ) → CellsFit bound (c .count) a → CellsFit bound (c .count) (reordered l old (c .count) 0 a)
   cells-kept bound a fits =
-      cells-table bound (c .count) (λ i. getD a (formerly i) 0) (l .words) (λ k. fits .below (formerly k)) (λ k h. fits .zero (formerly k) (rw (past k h) h))
+      cells-table bound (c .count) (λ i. getD a (formerly old c i) 0) (l .words) (λ k. fits .below (formerly old c k)) (λ k h. fits .zero (formerly old c k) (rw (past k h) h))
 
   word-fits : (k : ℕ) → k < l .words → WordFits l (c .count) k (getD (renumberedCode l old c .words) k noWord)
   word-fits k h =
-      let w = well .word (formerly k) (all-numbers .old-known k h) in
+      let w = well .word (formerly old c k) (all-numbers .old-known k h) in
       rw (word-there l old c k h)
       record { array = w .array; some = λ g. w .some (within k g); short = w .short; unused = λ g. w .unused (rw (past k g) g); symbols = w .symbols }
 
   row-fits : (x : ℕ) → x < l .words → RowFits l (c .count) x (getD (renumberedCode l old c .rows) x noRow)
   row-fits x h =
-      let r = well .row (formerly x) (all-numbers .old-known x h) in
-      let f : ℕ → ℕ = λ j. entryOf c (formerly x) (formerly j) in
+      let r = well .row (formerly old c x) (all-numbers .old-known x h) in
+      let f : ℕ → ℕ = λ j. entryOf c (formerly old c x) (formerly old c j) in
       rw (row-there l old c x h)
       record {
         array = length-table f (l .words);
-        entries = cells-kept 2 (getD (c .rows) (formerly x) noRow .entries) (r .entries);
-        unused = λ g y. zero-at 2 0 f (l .words) (λ k i. r .unused (rw (past x g) g) (formerly k)) y (omega arith) (decLt y (l .words));
+        entries = cells-kept 2 (getD (c .rows) (formerly old c x) noRow .entries) (r .entries);
+        unused = λ g y. zero-at 2 0 f (l .words) (λ k i. r .unused (rw (past x g) g) (formerly old c k)) y (omega arith) (decLt y (l .words));
       }
 
   same-total : sumOf (lenOf (renumberedCode l old c)) (l .words) ≡ sumOf (lenOf c) (l .words)
   same-total =
-      sum-same (lenOf (renumberedCode l old c)) (λ k. lenOf c (formerly k)) (l .words) (λ k h. ap (λ (w : Word). w .len) (word-there l old c k h))
+      sum-same (lenOf (renumberedCode l old c)) (λ k. lenOf c (formerly old c k)) (l .words) (λ k h. ap (λ (w : Word). w .len) (word-there l old c k h))
       ∙ sum-order all-numbers (lenOf c)
 
   -- A renumbered table is within the limits.
@@ -127,9 +128,9 @@ module _ {l : Limits} (old : List ℕ) {c : Code} (well : WellFormed l c) {new :
   renumbered-fits = record {
     one = well .one;
     most = well .most;
-    words = length-table (λ i. getD (c .words) (formerly i) noWord) (l .words);
-    rows = length-table (λ i. reorderedRow l old (c .count) (getD (c .rows) (formerly i) noRow)) (l .words);
-    begins = length-table (λ i. getD (c .begins) (formerly i) 0) (l .words);
+    words = length-table (λ i. getD (c .words) (formerly old c i) noWord) (l .words);
+    rows = length-table (λ i. reorderedRow l old (c .count) (getD (c .rows) (formerly old c i) noRow)) (l .words);
+    begins = length-table (λ i. getD (c .begins) (formerly old c i) 0) (l .words);
     marks = cells-kept 2 (c .begins) (well .marks);
     word = word-fits;
     row = row-fits;
@@ -146,9 +147,6 @@ module _ {l : Limits} (old : List ℕ) {c : Code} (well : WellFormed l c) {new :
 
   known : (x : ℕ) → x < size (renumbered (tableOf c) (λ i. getD old i 0)) → x < c .count
   known x h = omega (arith, same-size)
-
-  number-is : (x : ℕ) → x < c .count → formerly x ≡ getD old x 0
-  number-is x h = number-in (c .count) (λ i. getD old i 0) x h
 
   -- What it means: the table in the order of the list.
   pub renumbered-agrees : Agrees (tableOf (renumberedCode l old c)) (renumbered (tableOf c) (λ i. getD old i 0))

@@ -40,27 +40,27 @@ module _ {A : Type 0} (f : ℕ → A) (n : ℕ) (was : List A) where
       filled .is ∙ fill-rest f was none i m array (λ k a b. rest k (omega arith) b) (omega (arith, filled .upto))
 
 -- what an array has at the old number of i
-abbrev pub entryFrom : {A : Type 0} → Limits → List ℕ → ℕ → A → List A → ℕ → A
-entryFrom l old n none a i = getD a (oldNumber l old n i) none
+abbrev pub entryFrom : {A : Type 0} → List ℕ → ℕ → A → List A → ℕ → A
+entryFrom old n none a i = getD a (oldNumber old n i) none
 
-module _ {A : Type 0} (l : Limits) (old : List ℕ) (n : ℕ) (none : A) (a : List A) where
-  pub entry-from : (i : ℕ) → i < n → getD a (getD old i 0) none ≡ entryFrom l old n none a i
+module _ {A : Type 0} (old : List ℕ) (n : ℕ) (none : A) (a : List A) where
+  pub entry-from : (i : ℕ) → i < n → getD a (getD old i 0) none ≡ entryFrom old n none a i
   entry-from i h = ap (λ (x : ℕ). getD a x none) (sym (number-in n (λ k. getD old k 0) i h))
 
-  pub entry-past : (i : ℕ) → n ≤ i → entryFrom l old n none a i ≡ getD a i none
+  pub entry-past : (i : ℕ) → n ≤ i → entryFrom old n none a i ≡ getD a i none
   entry-past i h = ap (λ (x : ℕ). getD a x none) (number-past n (λ k. getD old k 0) i h)
 
-  module _ (known : Known l old n) (array : length a ≡ l .words) {now : List A} {i : ℕ} (filled : Filled (entryFrom l old n none a) n a now i) where
-    pub reordered-more : i < n → Filled (entryFrom l old n none a) n a (set now i (getD a (getD old i 0) none)) (i + 1)
-    reordered-more h = filled-more (entryFrom l old n none a) n a filled h (omega (arith, known .most)) (getD a (getD old i 0) none) (entry-from i h)
+  module _ {l : Limits} (known : Known l old n) (array : length a ≡ l .words) {now : List A} {i : ℕ} (filled : Filled (entryFrom old n none a) n a now i) where
+    pub reordered-more : i < n → Filled (entryFrom old n none a) n a (set now i (getD a (getD old i 0) none)) (i + 1)
+    reordered-more h = filled-more (entryFrom old n none a) n a filled h (omega (arith, known .most)) (getD a (getD old i 0) none) (entry-from i h)
 
     pub reordered-all : n ≤ i → now ≡ reordered l old n none a
     reordered-all h =
-        filled-all (entryFrom l old n none a) n a (l .words) none filled h array (known .most) (λ k p q. entry-past k p)
+        filled-all (entryFrom old n none a) n a (l .words) none filled h array (known .most) (λ k p q. entry-past k p)
 
 -- Row i of the rows in the order of the list, with its columns in that order.
 abbrev pub rowFrom : Limits → List ℕ → ℕ → List Row → ℕ → Row
-rowFrom l old n rows i = reorderedRow l old n (entryFrom l old n noRow rows i)
+rowFrom l old n rows i = reorderedRow l old n (entryFrom old n noRow rows i)
 
 module _ (l : Limits) (old : List ℕ) (n : ℕ) (rows : List Row) (known : Known l old n) (array : length rows ≡ l .words) where
   -- A row past the words is zero, in any order.
@@ -69,13 +69,13 @@ module _ (l : Limits) (old : List ℕ) (n : ℕ) (rows : List Row) (known : Know
       let r = getD rows k noRow in
       let fit = fits k b in
       let same : reordered l old n 0 (r .entries) ≡ r .entries =
-      table-list (entryFrom l old n 0 (r .entries)) (l .words) (r .entries) 0 (fit .array) (λ j i. fit .unused h (oldNumber l old n j) ∙ sym (fit .unused h j)) in
-      ap (reorderedRow l old n) (entry-past l old n noRow rows k h) ∙ rw same
+      table-list (entryFrom old n 0 (r .entries)) (l .words) (r .entries) 0 (fit .array) (λ j i. fit .unused h (oldNumber old n j) ∙ sym (fit .unused h j)) in
+      ap (reorderedRow l old n) (entry-past old n noRow rows k h) ∙ rw same
 
   module _ {now : List Row} {i : ℕ} (filled : Filled (rowFrom l old n rows) n rows now i) where
     pub rows-more : i < n → (row : Row) → row ≡ reorderedRow l old n (getD rows (getD old i 0) noRow) → Filled (rowFrom l old n rows) n rows (set now i row) (i + 1)
     rows-more h row e =
-        filled-more (rowFrom l old n rows) n rows filled h (omega (arith, known .most)) row (e ∙ ap (reorderedRow l old n) (entry-from l old n noRow rows i h))
+        filled-more (rowFrom l old n rows) n rows filled h (omega (arith, known .most)) row (e ∙ ap (reorderedRow l old n) (entry-from old n noRow rows i h))
 
     pub rows-all : ((x : ℕ) → x < l .words → RowFits l n x (getD rows x noRow)) → n ≤ i → now ≡ table (rowFrom l old n rows) (l .words)
     rows-all fits h = filled-all (rowFrom l old n rows) n rows (l .words) noRow filled h array (known .most) (row-past fits)

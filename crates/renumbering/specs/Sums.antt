@@ -17,9 +17,14 @@ sum-next : (f : ℕ → ℕ) (n : ℕ) → sumOf f (suc n) ≡ sumOf f n + f n
 unfolding table sum
 sum-next f n = omega (arith, sum-append (table f n) (f n ∷ []))
 
-sum-none : (n : ℕ) → sumOf (λ k. 0) n ≡ 0
+pub sum-none : (n : ℕ) → sumOf (λ k. 0) n ≡ 0
 unfolding table sum
 sum-none n = sum-past (λ k. 0) 0 n (omega arith) (λ k h i. refl)
+
+pub sum-ones : (n : ℕ) → sumOf (λ k. 1) n ≡ n
+unfolding table sum
+sum-ones zero = refl
+sum-ones (suc n) = omega (arith, sum-next (λ k. 1) n, sum-ones n)
 
 pub sum-same : (f g : ℕ → ℕ) (n : ℕ) → ((k : ℕ) → k < n → f k ≡ g k) → sumOf f n ≡ sumOf g n
 sum-same f g n same = ap sum (table-same f g n same)

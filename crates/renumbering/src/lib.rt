@@ -1,4 +1,6 @@
-// Tables with their words in another order.
+// Tables with their words in another order, and the order in which a code with copies is read.
+
+pub mod origins;
 
 use code::Code;
 use code::Row;

@@ -13,14 +13,14 @@ use Rattle.code.specs.Definitions.Tables.{noWord, noRow}
 abbrev pub numberAt : ℕ → (ℕ → ℕ) → ℕ → ℕ
 numberAt n number i = if ltb i n then number i else i
 
-module _ (l : Limits) (old : List ℕ) (n : ℕ) where
-  -- 02, request 14: "Entry i of the list is the old number of the word that becomes i"
-  abbrev pub oldNumber : ℕ → ℕ
-  oldNumber i = numberAt n (λ k. getD old k 0) i
+-- 02, request 14: "Entry i of the list is the old number of the word that becomes i"
+abbrev pub oldNumber : List ℕ → ℕ → ℕ → ℕ
+oldNumber old n i = numberAt n (λ k. getD old k 0) i
 
+module _ (l : Limits) (old : List ℕ) (n : ℕ) where
   -- the array in which each entry stands at its new number
   abbrev pub reordered : {A : Type 0} → A → List A → List A
-  reordered none a = table (λ i. getD a (oldNumber i) none) (l .words)
+  reordered none a = table (λ i. getD a (oldNumber old n i) none) (l .words)
 
   abbrev pub reorderedRow : Row → Row
   reorderedRow r = record { entries = reordered 0 (r .entries) }
@@ -29,7 +29,7 @@ module _ (l : Limits) (old : List ℕ) (n : ℕ) where
 unfoldable pub renumberedCode : Limits → List ℕ → Code → Code
 renumberedCode l old c = record {
   words = reordered l old (c .count) noWord (c .words);
-  rows = table (λ i. reorderedRow l old (c .count) (getD (c .rows) (oldNumber l old (c .count) i) noRow)) (l .words);
+  rows = table (λ i. reorderedRow l old (c .count) (getD (c .rows) (oldNumber old (c .count) i) noRow)) (l .words);
   begins = reordered l old (c .count) 0 (c .begins);
   count = c .count;
 }
