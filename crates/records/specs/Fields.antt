@@ -5,6 +5,7 @@ use mathlib.Core.List.{List, [], _∷_}
 use Prim.Native.Nat.{ℕ, zero, suc, _+_, _-_, _≤_, _<_}
 use native.Mathlib.Numerals.{add-one}
 use native.Mathlib.Omega.{arith}
+use native.Mathlib.Decide.{decLt}
 use lib.Dec.{leb, eqb}
 use lib.ListN.{length, take, drop, getD, drop-of-length-le}
 use lib.Seq.{drop-cons, take-length}
@@ -113,6 +114,18 @@ leading-stop s i h d = rw (drop-cons s i 0 h, d)
 pub leading-end : (s : List ℕ) (i : ℕ) → length s ≤ i → length (leading (drop i s)) ≡ 0
 unfolding leading
 leading-end s i h = rw (drop-of-length-le s h)
+
+-- a field that is not empty begins with the digit that stands there
+pub leading-first : (s : List ℕ) (i : ℕ) → 0 < length (leading (drop i s))
+    → (leading (drop i s) ≡ getD s i 0 ∷ leading (drop (i + 1) s)) × (isDigit (getD s i 0) ≡ true)
+unfolding leading
+leading-first s i h = go (decLt i (length s)) (isDigit (getD s i 0)) refl
+  where
+    go : Dec (i < length s) → (t : Bool) → isDigit (getD s i 0) ≡ t
+        → (leading (drop i s) ≡ getD s i 0 ∷ leading (drop (i + 1) s)) × (isDigit (getD s i 0) ≡ true)
+    go (yes l) true e = (rw (add-one i, drop-cons s i 0 l, e), e)
+    go (yes l) false e = absurd (omega (arith, leading-stop s i l e))
+    go (no l) t e = absurd (omega (arith, leading-end s i (omega arith)))
 
 -- the bytes of a field are digits, and stand at the front in order
 pub leading-at : (t : List ℕ) (k d : ℕ) → k < length (leading t) → (getD t k d ≡ getD (leading t) k d) × (isDigit (getD t k d) ≡ true)

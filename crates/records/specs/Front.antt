@@ -5,8 +5,12 @@ use mathlib.Core.List.{List, [], _∷_, nil≢cons, head-eq-of-cons-eq, tail-eq-
 use Prim.Native.Nat.{ℕ, suc, _+_, _≤_, _<_}
 use native.Mathlib.Numerals.{add-one}
 use native.Mathlib.Omega.{arith}
-use lib.ListN.{length, drop, getD, length-drop, drop-of-length-le}
+use native.Mathlib.Decide.{decLt}
+use lib.Dec.{leb}
+use lib.ListN.{length, drop, getD, length-drop, drop-of-length-le, List·getD-eq-default}
 use lib.Seq.{drop-cons, drop-drop}
+use borrow.Author.Tests.{le-leb, lt-leb}
+use Rattle.code.specs.Definitions.Lists.{if_then_else_}
 use Rattle.code.specs.Definitions.Sheets.{isDigit, push}
 use Rattle.code.specs.Laws.Clean.{Clean, none, digit, comma, line, recordFields, recordFields-none, recordFields-digit, recordFields-comma, recordFields-line}
 use Rattle.records.specs.Fields.{leading}
@@ -69,6 +73,24 @@ module _ {g : List (List (List ℕ))} {f : List ℕ} where
       moved : (v t : List ℕ) → 10 ∷ v ≡ t → Clean v → g ≡ (f ∷ []) ∷ recordFields v → Down g f (drop 1 t) × (1 ≤ length t)
       moved v t q c p = rw (← q) (record { clean = c; same = p }, omega arith)
 
+-- the records from a position on; a position past the end is past the last record
+abbrev pub restOf : List ℕ → ℕ → List (List (List ℕ))
+restOf s at = if leb at (length s) then recordFields (drop at s) else []
+
+pub rest-within : (s : List ℕ) (at : ℕ) → at ≤ length s → restOf s at ≡ recordFields (drop at s)
+rest-within s at h = rw (le-leb at (length s) h)
+
+pub rest-past : (s : List ℕ) (at : ℕ) → length s < at → restOf s at ≡ []
+rest-past s at h = rw (lt-leb at (length s) h)
+
+-- past the end a read gives 0, which is no comma
+pub comma-within : (s : List ℕ) (e : ℕ) → getD s e 0 ≡ 44 → e < length s
+comma-within s e k = go (decLt e (length s))
+  where
+    go : Dec (e < length s) → e < length s
+    go (yes h) = h
+    go (no h) = let l : length s ≤ e = omega arith in absurd (omega (arith, List·getD-eq-default s 0 l))
+
 -- The same by position: the field that begins at `at` ends at e.
 module _ (s : List ℕ) (at e : ℕ) (c : Clean (drop at s)) (q : e ≡ at + length (leading (drop at s))) where
   front-at : Front (recordFields (drop at s)) (leading (drop at s)) (drop e s)
@@ -87,3 +109,14 @@ module _ (s : List ℕ) (at e : ℕ) (c : Clean (drop at s)) (q : e ≡ at + len
     where
       two : suc e + 1 ≡ e + 2
       two = omega arith
+
+  -- The byte at e alone tells whether the record goes on, and where the next one begins.
+  pub record-goes-on : getD s e 0 ≡ 44 → Next (recordFields (drop at s)) (leading (drop at s)) (drop (e + 1) s) × (e < length s)
+  record-goes-on k = let h = comma-within s e k in (field-comma h k, h)
+
+  pub record-ends : (getD s e 0 ≡ 44 → ⊥) → (recordFields (drop at s) ≡ (leading (drop at s) ∷ []) ∷ restOf s (e + 2)) × (e + 2 ≤ length s → Clean (drop (e + 2) s))
+  record-ends n = go (decLt e (length s))
+    where
+      go : Dec (e < length s) → (recordFields (drop at s) ≡ (leading (drop at s) ∷ []) ∷ restOf s (e + 2)) × (e + 2 ≤ length s → Clean (drop (e + 2) s))
+      go (yes h) = let d = field-line h n in (rw (rest-within s (e + 2) (d .1)) (d .0 .same), λ l. d .0 .clean)
+      go (no h) = (rw (rest-past s (e + 2) (omega arith)) (field-last (omega arith)), λ l. absurd (omega arith))

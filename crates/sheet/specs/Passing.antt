@@ -5,22 +5,17 @@ use mathlib.Core.List.{List, [], _∷_}
 use Prim.Native.Nat.{ℕ, _+_, _-_, _≤_, _<_}
 use native.Mathlib.Nat.{add-zero}
 use native.Mathlib.Omega.{arith}
-use lib.Dec.{leb, eqb}
+use lib.Dec.{eqb}
 use lib.ListN.{length, drop, getD}
 use lib.Seq.{getD-drop}
-use borrow.Author.Tests.{le-leb, lt-leb, eq-eqb, ne-eqb}
-use Rattle.code.specs.Definitions.Lists.{if_then_else_}
+use borrow.Author.Tests.{eq-eqb, ne-eqb}
 use Rattle.code.specs.Definitions.Sheets.{isDigit}
 use Rattle.code.specs.Laws.Clean.{Clean, recordFields, recordFields-some}
 use Rattle.sheet.specs.declared.survey.Survey.{Survey}
 use Rattle.sheet.specs.declared.survey.Cursor.{Cursor}
 use Rattle.records.specs.Fields.{leading}
-use Rattle.records.specs.Front.{field-last, field-comma, field-line}
+use Rattle.records.specs.Front.{restOf, rest-within, rest-past, field-last, field-comma, field-line}
 use Rattle.sheet.specs.Survey.{parts, entryBad, takeWord, takeSecond, takeLater, takeSpan, takeField, endRecord, surveyFields, surveyRecords, start}
-
--- the records from a position on; a position past the end is past the last record
-abbrev pub restOf : List ℕ → ℕ → List (List (List ℕ))
-restOf s at = if leb at (length s) then recordFields (drop at s) else []
 
 -- counts are bounded by the bytes passed
 pub record Bounded (c : Cursor) : Type 0 where
@@ -109,12 +104,6 @@ comma-rest v w f g e q = ap (surveyRecords w) q ∙ rw e
 line-rest : (v w : Survey) (f : List ℕ) (g : List (List (List ℕ))) → w ≡ takeField v f → surveyRecords (endRecord w) g ≡ surveyRecords v ((f ∷ []) ∷ g)
 unfolding surveyRecords surveyFields
 line-rest v w f g e = rw e
-
-rest-within : (s : List ℕ) (at : ℕ) → at ≤ length s → restOf s at ≡ recordFields (drop at s)
-rest-within s at h = rw (le-leb at (length s) h)
-
-rest-past : (s : List ℕ) (at : ℕ) → length s < at → restOf s at ≡ []
-rest-past s at h = rw (lt-leb at (length s) h)
 
 -- One step, in each of its three ways. The field that begins at the cursor ends at e, and v is the survey with it.
 module _ (s : List ℕ) (c : Cursor) (e : ℕ) (v : Survey) (clean : Clean (drop (c .at) s)) (bounded : Bounded c)

@@ -5,8 +5,9 @@ use Prim.Native.Nat.{_+_, _-_, _≤_}
 use native.Mathlib.Omega.{arith}
 use lib.ListN.{length, drop}
 use Rattle.code.specs.Laws.Clean.{Clean, recordFields}
+use Rattle.records.specs.Front.{restOf}
 use Rattle.sheet.specs.Survey.{start, surveyRecords}
-use Rattle.sheet.specs.Passing.{restOf, Bounded, passing-starts, passing-ends}
+use Rattle.sheet.specs.Passing.{Bounded, passing-starts, passing-ends}
 use Rattle.sheet.proofs.survey.survey_all.Statement.{statement}
 use Rattle.sheet.proofs.survey.survey_all.Tie as tie
 
