@@ -17,7 +17,7 @@ use Rattle.bans.specs.declared.fields.Field.{Field}
 use Rattle.bans.specs.declared.fields.Record.{Record}
 use Rattle.bans.specs.declared.fields.Record.the-variants.{Wrong as Malformed, Ban as Found}
 use Rattle.bans.specs.Numbers.{numberIn}
-use Rattle.bans.specs.Storing.{bansStored}
+use Rattle.copies.specs.Triples.{bansFrom}
 
 -- The field that begins at `from` in s, with numbers below n.
 pub record FieldAt (n : ℕ) (s : List ℕ) (from : ℕ) (f : Field) : Type 0 where
@@ -53,10 +53,10 @@ pub record Room (numbers : List ℕ) (k x y z : ℕ) : Type 0 where
 
 -- One ban more is stored behind k.
 pub record Stored (old : List ℕ) (k x y z : ℕ) (new : List ℕ) : Type 0 where
-  pub bans : bansStored new (k + 1) ≡ bansStored old k ++ (record { x = x; y = y; z = z } ∷ [])
+  pub bans : bansFrom new (k + 1) ≡ bansFrom old k ++ (record { x = x; y = y; z = z } ∷ [])
   pub long : length new ≡ length old
 
 -- The answer for a list that is refused 16 or has the bans bs: these are stored at the front; of a refused list anything may be.
 pub data Listed (refused : Bool) (bs : List Ban) (numbers : List ℕ) : BanList → Type 0 where
   wrong : refused ≡ true → Listed refused bs numbers Wrong
-  bans : {k : ℕ} → refused ≡ false → bansStored numbers k ≡ bs → 3 * k ≤ length numbers → Listed refused bs numbers (Bans k)
+  bans : {k : ℕ} → refused ≡ false → bansFrom numbers k ≡ bs → 3 * k ≤ length numbers → Listed refused bs numbers (Bans k)

@@ -16,12 +16,12 @@ use Rattle.bans.specs.declared.BanList.{BanList}
 use Rattle.bans.specs.declared.BanList.the-variants.{Wrong, Bans}
 use Rattle.bans.specs.declared.fields.Record.{Record}
 use Rattle.bans.specs.declared.fields.Record.the-variants.{Wrong as Malformed, Ban as Found}
-use Rattle.bans.specs.Storing.{bansStored, stored-none}
+use Rattle.copies.specs.Triples.{bansFrom, bans-none}
 use Rattle.bans.specs.Contracts.{BanFrom, RecordFrom, malformed, found, Room, Stored, Listed, wrong, bans}
 
 -- k bans of s are stored, and the next record begins at `at`.
 pub record Passed (n : ℕ) (s numbers : List ℕ) (k at : ℕ) : Type 0 where
-  pub stored : bansStored numbers k ++ map banOf (restOf s at) ≡ map banOf (recordFields s)
+  pub stored : bansFrom numbers k ++ map banOf (restOf s at) ≡ map banOf (recordFields s)
   pub refused : any (badBan n) (restOf s at) ≡ any (badBan n) (recordFields s)
   pub clean : at ≤ length s → Clean (drop at s)
   pub few : 3 * k ≤ at - 2
@@ -29,7 +29,7 @@ pub record Passed (n : ℕ) (s numbers : List ℕ) (k at : ℕ) : Type 0 where
 
 pub passing-starts : (n : ℕ) (s numbers : List ℕ) → Clean s → Passed n s numbers 0 0
 passing-starts n s numbers c = record {
-  stored = rw (stored-none numbers, rest-within s 0 (omega arith));
+  stored = rw (bans-none numbers, rest-within s 0 (omega arith));
   refused = rw (rest-within s 0 (omega arith));
   clean = λ h. c;
   few = omega arith;
@@ -58,7 +58,7 @@ module _ {n : ℕ} {s numbers : List ℕ} {k at : ℕ} (p : Passed n s numbers k
   unfolding any
   passing-ends old l q h =
       let rest = rest-past s at h in
-      bans (sym (p .refused) ∙ rw rest) (sym (append-nil (bansStored numbers k)) ∙ (rw rest at (p .stored))) (omega (arith, p .few, p .within))
+      bans (sym (p .refused) ∙ rw rest) (sym (append-nil (bansFrom numbers k)) ∙ (rw rest at (p .stored))) (omega (arith, p .few, p .within))
 
   module _ (h : at ≤ length s) where
     pub passing-clean : Clean (drop at s)
@@ -99,7 +99,7 @@ module _ {n : ℕ} {s numbers : List ℕ} {k at : ℕ} (p : Passed n s numbers k
 module _ (n : ℕ) (list numbers : List ℕ) where
   pub list-empty : length list ≡ 0 → Listed (refused16 n list) (bansOf list) numbers (Bans 0)
   unfolding refused16 bansOf banRecords any badBytes
-  list-empty h = let none = drop-of-length-le list {i = 0} (omega arith) in bans (rw none) (stored-none numbers ∙ rw none) (omega arith)
+  list-empty h = let none = drop-of-length-le list {i = 0} (omega arith) in bans (rw none) (bans-none numbers ∙ rw none) (omega arith)
 
   pub list-bytes : {t : Bool} → t ≡ badBytes false list → t ≡ true → Listed (refused16 n list) (bansOf list) numbers Wrong
   unfolding refused16

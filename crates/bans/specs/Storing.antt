@@ -1,25 +1,12 @@
 -- Bans stored one behind the other, three numbers each.
-use mathlib.Core.Path.{_≡_, refl, _∙_}
+use mathlib.Core.Path.{_≡_, _∙_}
 use mathlib.Core.List.{List, [], _∷_, _++_}
 use Prim.Native.Nat.{ℕ, _+_, _*_, _≤_, _<_}
 use native.Mathlib.Omega.{arith}
 use lib.ListN.{length, getD, set, length-set}
 use lib.Seq.{getD-set-same, getD-set-other}
-use Rattle.code.specs.Definitions.Lists.{table}
-use Rattle.code.specs.Definitions.Bans.{Ban}
-use Rattle.code.specs.Laws.Lists.{table-more, table-same}
-
--- ban i of a list of numbers
-abbrev pub banAt : List ℕ → ℕ → Ban
-banAt l i = record { x = getD l (3 * i) 0; y = getD l (3 * i + 1) 0; z = getD l (3 * i + 2) 0 }
-
--- the first k bans of a list of numbers
-unfoldable pub bansStored : List ℕ → ℕ → List Ban
-bansStored l k = table (banAt l) k
-
-pub stored-none : (l : List ℕ) → bansStored l 0 ≡ []
-unfolding bansStored table
-stored-none l = refl
+use Rattle.code.specs.Laws.Lists.{table-same}
+use Rattle.copies.specs.Triples.{banAt, bansFrom, bans-more}
 
 -- One ban more.
 module _ (l : List ℕ) (k x y z : ℕ) (room : 3 * k + 3 ≤ length l) where
@@ -49,6 +36,6 @@ module _ (l : List ℕ) (k x y z : ℕ) (room : 3 * k + 3 ≤ length l) where
   same-before : (i : ℕ) → i < k → banAt after i ≡ banAt l i
   same-before i h = rw (before (3 * i) (omega arith), before (3 * i + 1) (omega arith), before (3 * i + 2) (omega arith))
 
-  pub stored-more : bansStored after (k + 1) ≡ bansStored l k ++ (record { x = x; y = y; z = z } ∷ [])
-  unfolding bansStored
-  stored-more = table-more (banAt after) k ∙ rw (table-same (banAt after) (banAt l) k same-before, at-x, at-y, at-z)
+  pub stored-more : bansFrom after (k + 1) ≡ bansFrom l k ++ (record { x = x; y = y; z = z } ∷ [])
+  unfolding bansFrom
+  stored-more = bans-more after k ∙ rw (table-same (banAt after) (banAt l) k same-before, at-x, at-y, at-z)
