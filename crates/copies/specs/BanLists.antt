@@ -79,8 +79,19 @@ has-new cs c ds =
     any-append (isCopy (c .behind) (c .of)) cs (c ∷ ds) ∙ or-right (any (isCopy (c .behind) (c .of)) cs) (any (isCopy (c .behind) (c .of)) (c ∷ ds)) (rw is)
 
 -- the copies after one ban, which has its copy or not
-abbrev withBan : List Copy → Ban → Bool → List Copy
+abbrev pub withBan : List Copy → Ban → Bool → List Copy
 withBan cs b a = if a then cs else cs ++ (record { behind = b .y; of = b .z } ∷ [])
+
+-- The bans of a list behind another come on top of its copies.
+pub copies-append : (cs : List Copy) (bs ds : List Ban) → copiesFrom cs (bs ++ ds) ≡ copiesFrom (copiesFrom cs bs) ds
+unfolding copiesFrom
+copies-append cs [] ds = refl
+copies-append cs (b ∷ bs) ds = copies-append (withBan cs b (hasCopy cs (b .y) (b .z))) bs ds
+
+-- one ban more
+pub copies-next : (bs : List Ban) (b : Ban) → copiesOf (bs ++ (b ∷ [])) ≡ withBan (copiesOf bs) b (hasCopy (copiesOf bs) (b .y) (b .z))
+unfolding copiesFrom
+copies-next bs b = copies-append [] bs (b ∷ [])
 
 once-ban : {n : ℕ} {cs : List Copy} (b : Ban) → Once n cs → b .y < n → b .z < n → (a : Bool) → hasCopy cs (b .y) (b .z) ≡ a → Once n (withBan cs b a)
 once-ban b o h k true e = o

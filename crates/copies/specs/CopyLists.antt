@@ -65,11 +65,11 @@ module _ (n : ℕ) (cs : List Copy) where
   unfolding origin
   origin-copy x h = rw (le-ltb x n h)
 
-  stands-word : (x y : ℕ) → x < n → standsAfter n cs x y ≡ not (hasCopy cs y x)
+  pub stands-word : (x y : ℕ) → x < n → standsAfter n cs x y ≡ not (hasCopy cs y x)
   unfolding standsAfter
   stands-word x y h = rw (lt-ltb x n h)
 
-  stands-copy : (x y : ℕ) → n ≤ x → standsAfter n cs x y ≡ eqb (copyAt n cs x .behind) y
+  pub stands-copy : (x y : ℕ) → n ≤ x → standsAfter n cs x y ≡ eqb (copyAt n cs x .behind) y
   unfolding standsAfter
   stands-copy x y h = rw (le-ltb x n h)
 

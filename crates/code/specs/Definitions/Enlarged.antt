@@ -24,7 +24,6 @@ module _ (l : Limits) where
 
   -- the table of a refused list: no word, and all zero
   unfoldable pub blankEnlarged : Enlarged
-  unfolding plainOf blankCode
   blankEnlarged = plainOf (blankCode l)
 
   -- A table and its bans.
@@ -63,7 +62,6 @@ module _ (l : Limits) where
 
     -- 01: "Where none holds, the operation gives its result."
     unfoldable pub enlargement : Enlargement
-    unfolding blankEnlarged enlargedCode
     enlargement = if refused17 then record { answer = Refused BanLimit; enlarged = blankEnlarged } else record { answer = Accepted; enlarged = enlargedCode }
 
 -- The copies of a value.

@@ -1,0 +1,8 @@
+pub mod Arrays
+pub mod Held
+pub mod Symbols
+pub mod Adding
+pub mod Coming
+pub mod Filling
+pub mod Answers
+pub mod Plain
