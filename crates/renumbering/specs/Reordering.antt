@@ -4,11 +4,13 @@ use mathlib.Core.List.{List, _++_}
 use Prim.Native.Nat.{ℕ, _+_, _≤_, _<_}
 use native.Mathlib.Omega.{arith}
 use lib.ListN.{length, drop, getD, set, length-set}
+use Rattle.code.specs.declared.Word.{Word}
 use Rattle.code.specs.declared.Row.{Row}
+use Rattle.code.specs.declared.Code.{Code}
 use Rattle.code.specs.declared.Limits.{Limits}
 use Rattle.code.specs.Definitions.Lists.{table}
-use Rattle.code.specs.Definitions.Tables.{noRow}
-use Rattle.code.specs.Definitions.Renumbering.{oldNumber, reordered, reorderedRow}
+use Rattle.code.specs.Definitions.Tables.{noWord, noRow}
+use Rattle.code.specs.Definitions.Renumbering.{oldNumber, reordered, reorderedRow, renumberedCode}
 use Rattle.code.specs.Laws.Lists.{table-list}
 use Rattle.code.specs.Laws.Filling.{fill-next, fill-rest}
 use Rattle.table.specs.WellFormed.{RowFits}
@@ -79,3 +81,10 @@ module _ (l : Limits) (old : List ℕ) (n : ℕ) (rows : List Row) (known : Know
 
     pub rows-all : ((x : ℕ) → x < l .words → RowFits l n x (getD rows x noRow)) → n ≤ i → now ≡ table (rowFrom l old n rows) (l .words)
     rows-all fits h = filled-all (rowFrom l old n rows) n rows (l .words) noRow filled h array (known .most) (row-past fits)
+
+-- The table of words, rows and start marks that were put in order.
+pub renumbered-parts : (l : Limits) (old : List ℕ) (c : Code) {words : List Word} {rows : List Row} {begins : List ℕ} → words ≡ reordered l old (c .count) noWord (c .words)
+    → rows ≡ table (rowFrom l old (c .count) (c .rows)) (l .words) → begins ≡ reordered l old (c .count) 0 (c .begins)
+    → record { words = words; rows = rows; begins = begins; count = c .count } ≡ renumberedCode l old c
+unfolding renumberedCode
+renumbered-parts l old c p q r = rw (p, q, r)

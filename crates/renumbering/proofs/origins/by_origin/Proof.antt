@@ -27,7 +27,8 @@ add-list-copies c = omega (arith, word-room (c .before .before .before .before .
 list-copies-requires : tie.Need-list-copies-requires Inv-loop μ-loop
 list-copies-requires c κs =
     let p = c .before .before .before .before .pre in
-    (p, word-listed p _ (search needs) (c .before .before .loop .inv))
+    let l = c .before .before .loop in
+    (p, word-listed p (l .z) (search needs) (l .inv))
 
 loop-again : tie.Need-loop-again Inv-loop μ-loop
 loop-again c = word-done (c .before .before .before .before .before .pre) _ (c .list-copies .ensures)
