@@ -6,7 +6,6 @@ use Prim.Native.Nat.{ℕ, _+_, _≤_, _<_}
 use native.Mathlib.Omega.{arith}
 use lib.ListN.{length, drop, getD, set, replicate}
 use borrow.Author.Tests.{lt-ltb, le-ltb}
-use Rattle.code.specs.declared.Word.{Word}
 use Rattle.code.specs.declared.Row.{Row}
 use Rattle.code.specs.declared.Code.{Code}
 use Rattle.code.specs.Definitions.Lists.{if_then_else_, table}
@@ -67,16 +66,15 @@ module _ (c : Code) (bs : List Ban) where
       count-is : k .originals + k .number ≡ enlargedCount limits c bs
       count-is = omega (arith, h .originals, h .number)
 
-      -- One word or copy more
-      pub filled-more : {code : Code} {x : ℕ} {word : Word} {row : Row} → Filled code x → x < k .originals + k .number → word ≡ getD (c .words) (getD (k .origins) x 0) noWord
-          → row ≡ record { entries = table (entryBy (getD (c .rows) (getD (k .origins) x 0) noRow .entries) (k .originals) bs x) (limits .words) }
-          → Filled (record { words = set (code .words) x word; rows = set (code .rows) x row; begins = code .begins; count = code .count }) (x + 1)
-      filled-more {code} {x} {word} {row} f l p q =
+      -- One word or copy more, by the number o of its word
+      pub filled-more : {code : Code} {x o : ℕ} {row : Row} → Filled code x → x < k .originals + k .number → o ≡ getD (k .origins) x 0
+          → row ≡ record { entries = table (entryBy (getD (c .rows) o noRow .entries) (k .originals) bs x) (limits .words) }
+          → Filled (record { words = set (code .words) x (getD (c .words) o noWord); rows = set (code .rows) x row; begins = code .begins; count = code .count }) (x + 1)
+      filled-more {code} {x} {o} {row} f l p q =
           let within : x < enlargedCount limits c bs = omega (arith, count-is) in
-          let room : x < limits .words = omega (arith, h .most) in
-          let o = origin-at h x room in
-          let word-is : word ≡ enlargedWord limits c bs x = p ∙ rw (lt-ltb x (enlargedCount limits c bs) within, o) in
-          let row-is : row ≡ enlargedRow x = q ∙ rw (h .originals, o) (row-here x within) in
+          let of-x = p ∙ origin-at h x (omega (arith, h .most)) in
+          let word-is : getD (c .words) o noWord ≡ enlargedWord limits c bs x = rw (lt-ltb x (enlargedCount limits c bs) within, of-x) in
+          let row-is : row ≡ enlargedRow x = q ∙ rw (h .originals, of-x) (row-here x within) in
           record {
             words = rw (f .words, word-is) (fill-next (enlargedWord limits c bs) (c .words) x (omega (arith, well .words)));
             rows = rw (f .rows, row-is) (fill-next enlargedRow (c .rows) x (omega (arith, well .rows)));

@@ -6,7 +6,7 @@ use code::Code;
 use code::Row;
 ghost use mathlib.Core.Path.{_≡_};
 ghost use Prim.Native.Nat.{_+_, _*_, _≤_, _<_};
-ghost use lib.ListN.{length};
+ghost use lib.ListN.{length, getD};
 ghost use Rattle.code.specs.Definitions.Lists.{if_then_else_, table};
 ghost use Rattle.code.specs.Definitions.Bans.{isBan, bannedBy, copiesOf, standsAfter};
 ghost use Rattle.code.specs.Definitions.Enlarged.{enlargedCode};
@@ -116,6 +116,14 @@ fn fill_row(row: Row, copies: Copies, numbers: &[u8], bans: usize, x: usize) -> 
     filled
 }
 
+// The number of the word of which x is a copy, or x itself.
+fn origin_of(copies: Copies, x: usize) -> usize
+    requires { ⌜ Held (copies .originals) (held copies) copies × (x < copies .originals + copies .number) ⌝ }
+    ensures { λ r. ⌜ (r ≡ getD (copies .origins) x 0) × (r < copies .originals) ⌝ }
+{
+    copies.origins[x] as usize
+}
+
 // The code with a word and a row for each word and each copy. Only words may begin.
 pub fn fill(code: Code, copies: Copies, numbers: &[u8], bans: usize) -> Code
     requires { ⌜ WellFormed limits code × (3 * bans ≤ length (now numbers)) × Held (code .count) (copiesOf (bansFrom (now numbers) bans)) copies ⌝ }
@@ -125,7 +133,7 @@ pub fn fill(code: Code, copies: Copies, numbers: &[u8], bans: usize) -> Code
     let mut filled = code;
     let mut x: usize = 0;
     while x < count {
-        let origin = copies.origins[x] as usize;
+        let origin = origin_of(copies, x);
         let word = code.words[origin];
         let row = fill_row(code.rows[origin], copies, numbers, bans, x);
         filled.words[x] = word;

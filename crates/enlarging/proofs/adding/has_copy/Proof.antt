@@ -16,10 +16,15 @@ loop-holds : tie.Need-loop-holds Inv-loop μ-loop
 loop-holds c = (search needs, λ j h. absurd (omega arith))
 
 returns : tie.Need-returns Inv-loop μ-loop
-returns c = let a = c .before .before .before .before .before .before .args in copy-found (a .t1) (a .y) (a .z) (c .before .before .before .before .before .loop .i) (c .before .is-copy .ensures) (search needs) (c .if1 .taken)
+returns c =
+    let a = c .before .before .before .before .before .before .args in
+    copy-found (a .t1) (a .y) (a .z) (c .before .before .before .before .before .loop .i) (c .before .is-copy .ensures) (search needs) (c .if1 .taken)
 
 loop-again : tie.Need-loop-again Inv-loop μ-loop
-loop-again c = let a = c .before .before .before .before .before .before .args in let l = c .before .before .before .before .before .loop in (search needs, copy-passed (a .t1) (a .y) (a .z) (l .i) (c .before .is-copy .ensures) (l .inv .1) (c .if1 .left))
+loop-again c =
+    let a = c .before .before .before .before .before .before .args in
+    let l = c .before .before .before .before .before .loop in
+    (search needs, copy-passed (a .t1) (a .y) (a .z) (l .i) (c .before .is-copy .ensures) (l .inv .1) (c .if1 .left))
 
 returns-2 : tie.Need-returns-2 Inv-loop μ-loop
 returns-2 c = let a = c .before .before .args in let l = c .before .loop in copy-none (a .t1) (a .y) (a .z) (l .i) (l .inv .1) (search needs)

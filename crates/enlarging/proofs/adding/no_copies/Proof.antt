@@ -22,7 +22,10 @@ unfolding table
 loop-holds c = (search needs, refl, refl)
 
 loop-again : tie.Need-loop-again Inv-loop μ-loop
-loop-again c = let l = c .before .loop in let n = c .before .before .args .n in (search needs, simp length-set (l .inv .1), rw (l .inv .2) (own-next n (l .x) (search needs) (search needs)))
+loop-again c =
+    let l = c .before .loop in
+    let n = c .before .before .args .n in
+    (search needs, simp length-set (l .inv .1), rw (l .inv .2) (own-next n (l .x) (search needs) (search needs)))
 
 returns : tie.Need-returns Inv-loop μ-loop
 returns c = let l = c .before .loop in let a = c .before .before .args in start (a .n) (a .symbols) (l .x) (l .inv .2) (search needs) (search needs)

@@ -21,10 +21,17 @@ unfolding table sum
 loop-holds c = (search needs, refl, search needs)
 
 add-symbols : tie.Need-add-symbols Inv-loop μ-loop
-add-symbols c = let l = c .before .before .before .loop in let short = c .before .before .before .before .pre .word (l .k) (omega arith) .short in omega arith
+add-symbols c =
+    let l = c .before .before .before .loop in
+    let short = c .before .before .before .before .pre .word (l .k) (omega arith) .short in
+    omega arith
 
 loop-again : tie.Need-loop-again Inv-loop μ-loop
-loop-again c = let l = c .before .before .before .loop in let s = c .before .before .before .before in let short = s .pre .word (l .k) (omega arith) .short in (omega arith, rw (l .inv .1) (sym (sum-more (lenOf (s .args .t1)) (l .k))), omega arith)
+loop-again c =
+    let l = c .before .before .before .loop in
+    let s = c .before .before .before .before in
+    let short = s .pre .word (l .k) (omega arith) .short in
+    (omega arith, rw (l .inv .1) (sym (sum-more (lenOf (s .args .t1)) (l .k))), omega arith)
 
 returns : tie.Need-returns Inv-loop μ-loop
 returns c = let l = c .before .loop in let end : l .k ≡ limits .words = omega arith in rw (← end) (l .inv .1)

@@ -28,10 +28,22 @@ may-come-requires : tie.Need-may-come-requires Inv-loop μ-loop
 may-come-requires c κs = let p = c .before .before .before .before .pre in asked (p .0) (p .1) (p .2) (search needs)
 
 loop-again : tie.Need-loop-again Inv-loop μ-loop
-loop-again c = let l = c .before .before .before .loop in let s = c .before .before .before .before .before .before in let a = s .args in let p = s .pre in let bs = bansFrom (a .numbers .now) (a .bans) in let v = entry-next (a .row .entries) (a .copies .originals) bs (a .x) (l .y) (omega (arith, p .0 .number)) (c .before .may-come .ensures) (c .bit .ensures) in (search needs, simp length-set (l .inv .1), rw (l .inv .2, v) (fill-next (entryBy (a .row .entries) (a .copies .originals) bs (a .x)) (replicate (limits .words) 0) (l .y) (omega (arith, p .0 .number, p .0 .most))))
+loop-again c =
+    let l = c .before .before .before .loop in
+    let s = c .before .before .before .before .before .before in
+    let a = s .args in
+    let p = s .pre in
+    let bs = bansFrom (a .numbers .now) (a .bans) in
+    let v = entry-next (a .row .entries) (a .copies .originals) bs (a .x) (l .y) (omega (arith, p .0 .number)) (c .before .may-come .ensures) (c .bit .ensures) in
+    (search needs, simp length-set (l .inv .1), rw (l .inv .2, v) (fill-next (entryBy (a .row .entries) (a .copies .originals) bs (a .x)) (replicate (limits .words) 0) (l .y) (omega (arith, p .0 .number, p .0 .most))))
 
 returns : tie.Need-returns Inv-loop μ-loop
-returns c = let l = c .before .loop in let s = c .before .before .before .before in let a = s .args in let p = s .pre in row-filled (a .row .entries) (a .copies .originals) (bansFrom (a .numbers .now) (a .bans)) (a .x) (l .y) (l .inv .2) (omega (arith, p .0 .number)) (omega (arith, p .0 .number, p .0 .most))
+returns c =
+    let l = c .before .loop in
+    let s = c .before .before .before .before in
+    let a = s .args in
+    let p = s .pre in
+    row-filled (a .row .entries) (a .copies .originals) (bansFrom (a .numbers .now) (a .bans)) (a .x) (l .y) (l .inv .2) (omega (arith, p .0 .number)) (omega (arith, p .0 .number, p .0 .most))
 
 pub fill-row-spec : {M : Type 1} → statement M
 fill-row-spec =

@@ -13,10 +13,14 @@ stands-after-requires : tie.Need-stands-after-requires
 stands-after-requires c κs = let p = c .before .before .before .before .pre in (held-again (p .arrays), p .next)
 
 returns-2 : tie.Need-returns-2
-returns-2 c = let s = c .before .before .before .before .before .before in comes-elsewhere (s .pre) (s .args .t1 .entries) (search needs) (c .before .stands-after .ensures) (not-true _ (c .if2 .taken))
+returns-2 c =
+    let s = c .before .before .before .before .before .before in
+    comes-elsewhere (s .pre) (s .args .t1 .entries) (search needs) (c .before .stands-after .ensures) (not-true _ (c .if2 .taken))
 
 returns-3 : tie.Need-returns-3
-returns-3 c = let s = c .before .before .before .before .before .before .before in comes-allowed (s .pre) (s .args .t1 .entries) (search needs) (c .before .before .stands-after .ensures) (not-false _ (c .before .if2 .left)) (c .is-allowed .ensures)
+returns-3 c =
+    let s = c .before .before .before .before .before .before .before in
+    comes-allowed (s .pre) (s .args .t1 .entries) (search needs) (c .before .before .stands-after .ensures) (not-false _ (c .before .if2 .left)) (c .is-allowed .ensures)
 
 pub may-come-spec : {M : Type 1} → statement M
 may-come-spec =
