@@ -1,5 +1,6 @@
 pub mod WellEnlarged
 pub mod Numbers
+pub mod Tests
 pub mod FromBans
 pub mod Totals
 pub mod Made
@@ -7,3 +8,4 @@ pub mod Base
 pub mod Back
 pub mod Meaning
 pub mod Plain
+pub mod Tested
