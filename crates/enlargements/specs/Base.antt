@@ -17,10 +17,9 @@ use Rattle.code.specs.Definitions.Tables.{noWord, noRow, entryOf, tableOf}
 use Rattle.code.specs.Definitions.Bans.{nextWord}
 use Rattle.code.specs.Definitions.Enlarged.{copiesIn}
 use Rattle.code.specs.Laws.Lists.{length-table, getD-table, sum-bound}
-use Rattle.copies.specs.CopyLists.{next-known}
 use Rattle.table.specs.WellFormed.{lenOf, WordFits, RowFits, WellFormed}
 use Rattle.enlargements.specs.WellEnlarged.{WellEnlarged}
-use Rattle.enlargements.specs.Numbers.{all-numbers}
+use Rattle.enlargements.specs.Numbers.{next-within}
 use Rattle.enlargements.specs.Made.{table-cell}
 
 abbrev pub blankWord : Limits → Word
@@ -76,10 +75,6 @@ module _ {l : Limits} {e : Enlarged} (w : WellEnlarged l e) where
       record { array = f .array; some = λ j. f .some (omega (arith, w .numbers .most)); short = f .short; unused = λ j. absurd (omega arith); symbols = f .symbols }
   word-fits k h (no i) = rw (base-blank k (omega arith) h) (blank-fits k (omega arith))
 
-  -- the number that x has after y is one of the value
-  pub next-within : (y x : ℕ) → x < e .originals → nextWord (e .originals) (copiesIn e) y x < e .code .count
-  next-within y x h = omega (arith, next-known (e .originals) (copiesIn e) y x h, all-numbers (w .numbers))
-
   row-fits : (x : ℕ) → RowFits l (e .originals) x (record { entries = table (baseEntry e x) (l .words) })
   row-fits x = record {
     array = length-table (baseEntry e x) (l .words);
@@ -93,7 +88,7 @@ module _ {l : Limits} {e : Enlarged} (w : WellEnlarged l e) where
       entry-case : (y : ℕ) → Dec (x < e .originals) → baseEntry e x y < 2
       entry-case y (yes h) =
           low-entry (ltb x (e .originals) && ltb y (e .originals)) (entryOf (e .code) (nextWord (e .originals) (copiesIn e) y x) y)
-          (w .code .row (nextWord (e .originals) (copiesIn e) y x) (omega (arith, next-within y x h, w .numbers .room)) .entries .below y)
+          (w .code .row (nextWord (e .originals) (copiesIn e) y x) (omega (arith, next-within (w .numbers) y x h, w .numbers .room)) .entries .below y)
       entry-case y (no h) = rw (le-ltb x (e .originals) (omega arith)) (omega arith)
 
   row-base : (x : ℕ) → x < l .words → getD (baseOf l e .rows) x noRow ≡ record { entries = table (baseEntry e x) (l .words) }

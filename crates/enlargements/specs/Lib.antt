@@ -1,5 +1,6 @@
 pub mod WellEnlarged
 pub mod Numbers
+pub mod Tests
 pub mod FromBans
 pub mod Totals
 pub mod Made
@@ -8,3 +9,4 @@ pub mod Back
 pub mod Meaning
 pub mod Plain
 pub mod Listed
+pub mod Tested

@@ -6,10 +6,10 @@ use native.Mathlib.Omega.{arith}
 use lib.ListN.{length, getD, List·getD-eq-default}
 use Rattle.code.specs.declared.Enlarged.{Enlarged}
 use Rattle.code.specs.declared.Limits.{Limits}
-use Rattle.code.specs.Definitions.Bans.{Copy, noCopy, copyAt, origin}
+use Rattle.code.specs.Definitions.Bans.{Copy, noCopy, copyAt, origin, nextWord}
 use Rattle.code.specs.Definitions.Enlarged.{copiesIn}
 use Rattle.code.specs.Laws.Lists.{length-table, getD-table, getD-table-past}
-use Rattle.copies.specs.CopyLists.{CopyAt, Once, origin-word, origin-copy}
+use Rattle.copies.specs.CopyLists.{CopyAt, Once, origin-word, origin-copy, next-known}
 use Rattle.enlargements.specs.WellEnlarged.{NumberFits, Numbered}
 
 -- copy i of a value
@@ -68,6 +68,10 @@ module _ {l : Limits} {e : Enlarged} (v : Numbered l e) where
   -- The origins are those of the copies.
   pub origin-number : (x : ℕ) → origin (e .originals) (copiesIn e) x ≡ getD (e .origins) x 0
   origin-number x = origin-case x (decLt x (e .originals))
+
+  -- The number that x has after y is one of the value.
+  pub next-within : (y x : ℕ) → x < e .originals → nextWord (e .originals) (copiesIn e) y x < e .code .count
+  next-within y x h = omega (arith, next-known (e .originals) (copiesIn e) y x h, all-numbers)
 
   -- The copies are of known words; so no two alike are each of them once.
   pub numbers-once : ((y z i j : ℕ) → CopyAt (copiesIn e) y z i → CopyAt (copiesIn e) y z j → i ≡ j) → Once (e .originals) (copiesIn e)

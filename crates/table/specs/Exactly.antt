@@ -1,6 +1,6 @@
--- A Bool that says exactly whether something holds, and how two such Bools are joined: by `_&&_`, by `_||_`, and along an index.
+-- A Bool that says exactly whether something holds, and how two such Bools are joined: by `_&&_`, by `_||_`, and along an index; and what its contrary says.
 use mathlib.Core.Path.{_≡_, refl, sym, _∙_}
-use mathlib.Core.Bool.{Bool, true, false, true≢false, false≢true, _&&_, _||_}
+use mathlib.Core.Bool.{Bool, true, false, not, true≢false, false≢true, _&&_, _||_}
 use mathlib.Core.Logic.{_↔_, _⊎_, inl, inr}
 use Prim.Native.Nat.{ℕ, _+_, _≤_, _<_}
 use native.Mathlib.Omega.{arith}
@@ -34,6 +34,10 @@ exactly-or {a = false} {b = false} {P = P} {Q = Q} t u = exactly-false neither
     neither : P ⊎ Q → ⊥
     neither (inl p) = t .no refl p
     neither (inr q) = u .no refl q
+
+pub exactly-not : {r : Bool} {P : Type 0} → Exactly r P → Exactly (not r) (P → ⊥)
+exactly-not {r = true} t = exactly-false (λ n. n (t .yes refl))
+exactly-not {r = false} t = exactly-true (t .no refl)
 
 -- Every Bool says whether it is true.
 pub exactly-itself : (r : Bool) → Exactly r (r ≡ true)

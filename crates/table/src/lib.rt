@@ -13,7 +13,7 @@ ghost use Rattle.table.specs.Exactly.{Exactly};
 ghost use Rattle.table.specs.Cells.{CellFits};
 ghost use Rattle.table.specs.WellFormed.{lenOf, CellsFit, WordFits, RowFits, RecordAt};
 
-fn and(a: bool, b: bool) -> bool
+pub fn and(a: bool, b: bool) -> bool
     ensures { λ r. ⌜ r ≡ (a && b) ⌝ }
 {
     if a { b } else { false }
