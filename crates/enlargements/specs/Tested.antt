@@ -1,8 +1,7 @@
 -- The tests of a value, joined as the code joins them, say exactly whether it is well-enlarged.
-use mathlib.Core.Path.{_≡_, refl, sym, ap, _∙_}
+use mathlib.Core.Path.{_≡_, sym, ap, _∙_}
 use mathlib.Core.Bool.{Bool, true, false, not, _&&_, true≢false, and-eq-true-iff}
 use mathlib.Core.List.{List, [], _∷_}
-use mathlib.Core.Logic.{_↔_}
 use Prim.Native.Nat.{ℕ, zero, suc, _+_, _-_, _≤_, _<_}
 use native.Mathlib.Decide.{decLt}
 use native.Mathlib.Omega.{arith}
@@ -13,7 +12,6 @@ use Rattle.code.specs.declared.Word.{Word}
 use Rattle.code.specs.declared.Row.{Row}
 use Rattle.code.specs.declared.Enlarged.{Enlarged}
 use Rattle.code.specs.declared.Limits.{Limits}
-use Rattle.code.specs.Definitions.Lists.{any}
 use Rattle.code.specs.Definitions.Tables.{noWord, entryOf, tableOf}
 use Rattle.code.specs.Definitions.Bans.{Copy, noCopy, isCopy, hasCopy, copyIndex, copyAt, origin, nextWord}
 use Rattle.code.specs.Definitions.Enlarged.{copiesIn}

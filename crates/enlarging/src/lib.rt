@@ -39,7 +39,7 @@ pub struct Copies {
 }
 
 // The table of a refused list: no words, and all zero.
-fn blank_enlarged() -> Enlarged
+pub fn blank_enlarged() -> Enlarged
     ensures { λ r. ⌜ r ≡ blankEnlarged limits ⌝ }
 {
     let code = blank_code();

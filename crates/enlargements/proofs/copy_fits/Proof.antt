@@ -1,5 +1,5 @@
 -- `copy_fits` says exactly whether a copy fits: its tests are joined, on what is read of its word's number and of the word that it stands after.
-use mathlib.Core.Path.{_≡_, refl}
+use mathlib.Core.Path.{refl}
 use Prim.Native.Nat.{_<_}
 use native.Mathlib.Omega.{arith}
 use borrow.Author.Needs.{needs}

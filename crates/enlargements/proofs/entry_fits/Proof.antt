@@ -1,5 +1,4 @@
 -- `entry_fits` says exactly whether an entry fits: it is 0, or its word is not followed by x, or x has the number that it tells.
-use mathlib.Core.Path.{_≡_, sym, _∙_}
 use native.Mathlib.Omega.{arith}
 use borrow.Author.Needs.{needs}
 use borrow.Author.Tests.{not-true, not-false}

@@ -1,6 +1,5 @@
 -- `number_fits` says exactly whether a number fits, in the three cases that it is one of a word, of a copy, or of neither.
 use borrow.Author.Needs.{needs}
-use native.Mathlib.Omega.{arith}
 use Rattle.enlargements.specs.Tested.{number-word, number-copy, number-past}
 use Rattle.enlargements.proofs.number_fits.Statement.{statement}
 use Rattle.enlargements.proofs.number_fits.Tie as tie
