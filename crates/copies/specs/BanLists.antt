@@ -59,7 +59,7 @@ module _ {n : ℕ} {cs : List Copy} (copies : Once n cs) (c : Copy) (new : hasCo
   once-pair (inr a) (inl d) = absurd (not-new d (a .1 .0) (a .1 .1))
   once-pair (inr a) (inr d) = a .0 ∙ sym (d .0)
 
-  once-more : c .behind < n → c .of < n → Once n (cs ++ (c ∷ []))
+  pub once-more : c .behind < n → c .of < n → Once n (cs ++ (c ∷ []))
   once-more h k = record {
     behind-known = at-index cs c (λ d. d .behind < n) (copies .behind-known) h;
     of-known = at-index cs c (λ d. d .of < n) (copies .of-known) k;

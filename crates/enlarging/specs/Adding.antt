@@ -19,8 +19,8 @@ use Rattle.code.specs.Definitions.Enlarged.{refused17}
 use Rattle.code.specs.Laws.Below.{or-cases, or-left, or-right}
 use Rattle.code.specs.Laws.Filling.{fill-next, fill-end}
 use Rattle.copies.specs.CopyLists.{origin-word, origin-copy}
-use Rattle.copies.specs.BanLists.{Known, withBan, copies-next}
-use Rattle.copies.specs.Triples.{banAt, bansFrom, bans-none, bans-more}
+use Rattle.copies.specs.BanLists.{Known, once-none, withBan, copies-next}
+use Rattle.copies.specs.Triples.{banAt, bansFrom, bans-none, bans-more, KnownBan}
 use Rattle.table.specs.WellFormed.{lenOf, WellFormed}
 use Rattle.enlarging.specs.declared.Copies.{Copies}
 use Rattle.enlarging.specs.Held.{held, Held, behindAt, withCopy, held-is, held-more}
@@ -107,8 +107,11 @@ module _ (c : Code) where
 
 -- One ban more
 module _ {c : Code} (bs : List Ban) {k : Copies} (b : Ban) (had : Collected c (copiesOf bs) k) where
+  found : {a : Bool} → hasCopy (held k) (b .y) (b .z) ≡ a → hasCopy (copiesOf bs) (b .y) (b .z) ≡ a
+  found e = sym (ap (λ (cs : List Copy). hasCopy cs (b .y) (b .z)) (held-is (had .arrays))) ∙ e
+
   was : (a : Bool) → hasCopy (held k) (b .y) (b .z) ≡ a → copiesOf (bs ++ (b ∷ [])) ≡ withBan (copiesOf bs) b a
-  was a e = copies-next bs b ∙ ap (withBan (copiesOf bs) b) (sym (ap (λ (cs : List Copy). hasCopy cs (b .y) (b .z)) (held-is (had .arrays))) ∙ e)
+  was a e = copies-next bs b ∙ ap (withBan (copiesOf bs) b) (found e)
 
   count : k .originals + k .number ≡ c .count + length (copiesOf bs)
   count = omega (arith, had .arrays .originals, had .arrays .number)
@@ -119,18 +122,18 @@ module _ {c : Code} (bs : List Ban) {k : Copies} (b : Ban) (had : Collected c (c
   more-symbols : symbolsWith limits c (copiesOf bs ++ (record { behind = b .y; of = b .z } ∷ [])) ≡ k .symbols + lenOf c (b .z)
   more-symbols = symbols-more limits c (copiesOf bs) (record { behind = b .y; of = b .z }) ∙ rw (had .symbols)
 
-  pub collected-next : {m : Copies} → b .z < c .count → Added (b .y) (b .z) (lenOf c (b .z)) k m → m .fits ≡ true → Collected c (copiesOf (bs ++ (b ∷ []))) m
-  collected-next z (there e) f = rw (was true e) had
-  collected-next z (new e room short) f =
+  pub collected-next : {m : Copies} → KnownBan (c .count) b → Added (b .y) (b .z) (lenOf c (b .z)) k m → m .fits ≡ true → Collected c (copiesOf (bs ++ (b ∷ []))) m
+  collected-next known (there e) f = rw (was true e) had
+  collected-next known (new e room short) f =
       rw (was false e)
       record {
-        arrays = held-more (b .y) (b .z) (lenOf c (b .z)) (had .arrays) z (omega (arith, count));
+        arrays = held-more (b .y) (b .z) (lenOf c (b .z)) (had .arrays) (found e) (known .y) (known .z) (omega (arith, count));
         symbols = sym more-symbols;
         few = short;
         fits = refl;
       }
-  collected-next z (many e full) f = absurd (false≢true f)
-  collected-next z (long e full) f = absurd (false≢true f)
+  collected-next known (many e full) f = absurd (false≢true f)
+  collected-next known (long e full) f = absurd (false≢true f)
 
   pub passed-here : {m : Copies} → Added (b .y) (b .z) (lenOf c (b .z)) k m → m .fits ≡ false → Passed c (bs ++ (b ∷ []))
   passed-here (there e) f = absurd (true≢false (sym (had .fits) ∙ f))
@@ -156,16 +159,16 @@ module _ {c : Code} (l : List ℕ) where
           most = omega (arith, well .most);
           origins = s .origins;
           behind = s .behind;
-          known = λ i h. absurd (omega arith);
+          copies = once-none (c .count);
         };
         symbols = s .symbols ∙ sym (symbols-none limits c);
         few = omega (arith, s .symbols, well .total);
         fits = s .fits;
       }
 
-  pub collected-more : {k m : Copies} (i : ℕ) → Collected c (copiesOf (bansFrom l i)) k → banAt l i .z < c .count
+  pub collected-more : {k m : Copies} (i : ℕ) → Collected c (copiesOf (bansFrom l i)) k → KnownBan (c .count) (banAt l i)
       → Added (banAt l i .y) (banAt l i .z) (lenOf c (banAt l i .z)) k m → m .fits ≡ true → Collected c (copiesOf (bansFrom l (i + 1))) m
-  collected-more i had z a f = rw (bans-more l i) (collected-next (bansFrom l i) (banAt l i) had z a f)
+  collected-more i had known a f = rw (bans-more l i) (collected-next (bansFrom l i) (banAt l i) had known a f)
 
   pub gathered-passed : {k m : Copies} (i n : ℕ) → i < n → Collected c (copiesOf (bansFrom l i)) k
       → Added (banAt l i .y) (banAt l i .z) (lenOf c (banAt l i .z)) k m → m .fits ≡ false → Gathered c (bansFrom l n) m

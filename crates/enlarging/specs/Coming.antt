@@ -20,7 +20,7 @@ use Rattle.table.specs.WellFormed.{WellFormed}
 use Rattle.table.specs.Words.{size-count}
 use Rattle.enlarging.specs.declared.Copies.{Copies}
 use Rattle.enlarging.specs.Arrays.{any-found}
-use Rattle.enlarging.specs.Held.{copyHeld, held, Held, origin-at, behind-at, held-is, number-below}
+use Rattle.enlarging.specs.Held.{copyHeld, held, Held, origin-at, behind-at, held-is, held-again}
 
 -- A scan of the copies: none before i is the copy of z after y.
 abbrev pub NoCopy : Copies → ℕ → ℕ → ℕ → Type 0
@@ -69,11 +69,11 @@ entryBy e n bs x y = if ltb y (n + length (copiesOf bs)) && comes e n bs x y the
 -- What is known where it is asked whether x may come after y.
 pub record Asked (l : List ℕ) (bans : ℕ) (k : Copies) (x y : ℕ) : Type 0 where
   pub arrays : Held (k .originals) (copiesOf (bansFrom l bans)) k
+  pub own : Held (k .originals) (held k) k
   pub within : 3 * bans ≤ length l
   pub next : x < k .originals + k .number
   pub last : y < k .originals + k .number
   pub most : k .originals + k .number ≤ limits .words
-  pub column : getD (k .origins) y 0 < k .originals
 
 pub asked : {l : List ℕ} {bans : ℕ} {k : Copies} {x y : ℕ} → Held (k .originals) (copiesOf (bansFrom l bans)) k → 3 * bans ≤ length l
     → x < k .originals + k .number → y < k .originals + k .number → Asked l bans k x y
@@ -82,11 +82,11 @@ asked {l} {bans} {k} {x} {y} h w a b =
     let m = h .most in
     record {
       arrays = h;
+      own = held-again h;
       within = w;
       next = a;
       last = b;
       most = omega arith;
-      column = number-below h y b;
     }
 
 -- The copies let x stand after y.
@@ -120,26 +120,26 @@ module _ {l : List ℕ} {bans : ℕ} {k : Copies} {x y : ℕ} (a : Asked l bans 
       let b : getD (k .behind) y 0 ≡ copyAt (k .originals) (copiesOf (bansFrom l bans)) y .behind = behind-at (a .arrays) y (omega arith) ∙ rw far in
       ap not e ∙ rw (far, origin-at (a .arrays) x (omega arith), b, origin-at (a .arrays) y (omega arith))
 
-  -- y as its array has it
-  column-is : getD (k .origins) y 0 ≡ origin (k .originals) (copiesOf (bansFrom l bans)) y
-  column-is = let m = a .most in let j = a .last in origin-at (a .arrays) y (omega arith)
+  -- o is the word of y, and e the row of the word of x.
+  module _ (e : List ℕ) {o : ℕ} (word : o ≡ getD (k .origins) y 0) where
+    column : origin (k .originals) (copiesOf (bansFrom l bans)) y ≡ o
+    column = let m = a .most in let j = a .last in sym (word ∙ origin-at (a .arrays) y (omega arith))
 
-  module _ (e : List ℕ) where
-    pub comes-not : (getD e (getD (k .origins) y 0) 0 ≡ 1 → ⊥) → false ≡ comes e (k .originals) (bansFrom l bans) x y
+    pub comes-not : (getD e o 0 ≡ 1 → ⊥) → false ≡ comes e (k .originals) (bansFrom l bans) x y
     unfolding comes
-    comes-not h = rw (← column-is, ne-eqb (getD e (getD (k .origins) y 0) 0) 1 h)
+    comes-not h = rw (column, ne-eqb (getD e o 0) 1 h)
 
-    module _ (f : getD e (getD (k .origins) y 0) 0 ≡ 1) {r : Bool} (s : r ≡ standsAfter (k .originals) (held k) x (getD (k .origins) y 0)) where
-      stands-is : standsAfter (k .originals) (copiesOf (bansFrom l bans)) x (getD (k .origins) y 0) ≡ r
-      stands-is = ap (λ (cs : List Copy). standsAfter (k .originals) cs x (getD (k .origins) y 0)) (sym (held-is (a .arrays))) ∙ sym s
+    module _ (f : getD e o 0 ≡ 1) {r : Bool} (s : r ≡ standsAfter (k .originals) (held k) x o) where
+      stands-is : standsAfter (k .originals) (copiesOf (bansFrom l bans)) x o ≡ r
+      stands-is = ap (λ (cs : List Copy). standsAfter (k .originals) cs x o) (sym (held-is (a .arrays))) ∙ sym s
 
       pub comes-elsewhere : r ≡ false → false ≡ comes e (k .originals) (bansFrom l bans) x y
       unfolding comes
-      comes-elsewhere q = rw (← column-is, eq-eqb (getD e (getD (k .origins) y 0) 0) 1 f, stands-is, q)
+      comes-elsewhere q = rw (column, eq-eqb (getD e o 0) 1 f, stands-is, q)
 
       pub comes-allowed : {q : Bool} → r ≡ true → q ≡ allowed (k .originals) (bansFrom l bans) x y → q ≡ comes e (k .originals) (bansFrom l bans) x y
       unfolding comes
-      comes-allowed p t = rw (← column-is, eq-eqb (getD e (getD (k .origins) y 0) 0) 1 f, stands-is, p) t
+      comes-allowed p t = rw (column, eq-eqb (getD e o 0) 1 f, stands-is, p) t
 
 -- The rows of a code tell what its table permits.
 pub comes-may : {c : Code} (bs : List Ban) (x y : ℕ) → WellFormed limits c

@@ -1,6 +1,6 @@
 -- Copies as they are collected in two arrays behind the words: the list that the arrays hold, and the arrays of a list.
 use mathlib.Core.Path.{_≡_, refl, sym, ap, _∙_, subst}
-use mathlib.Core.Bool.{true}
+use mathlib.Core.Bool.{true, false}
 use mathlib.Core.List.{List, [], _∷_, _++_}
 use Prim.Native.Nat.{ℕ, _+_, _-_, _≤_, _<_}
 use native.Mathlib.Decide.{decLt}
@@ -11,9 +11,10 @@ use lib.Seq.{getD-at}
 use borrow.Author.Tests.{lt-ltb, le-ltb}
 use Rattle.code.specs.Definitions.Lists.{if_then_else_, table}
 use Rattle.code.specs.Definitions.Sheets.{limits}
-use Rattle.code.specs.Definitions.Bans.{Copy, noCopy, copyAt, origin}
+use Rattle.code.specs.Definitions.Bans.{Copy, noCopy, hasCopy, copyAt, origin}
 use Rattle.code.specs.Laws.Lists.{getD-table, table-list}
-use Rattle.copies.specs.CopyLists.{origin-word, origin-copy}
+use Rattle.copies.specs.CopyLists.{Once, origin-word, origin-copy, origin-known}
+use Rattle.copies.specs.BanLists.{once-more}
 use Rattle.enlarging.specs.declared.Copies.{Copies}
 use Rattle.enlarging.specs.Arrays.{set-table}
 
@@ -28,14 +29,14 @@ held k = table (copyHeld k) (k .number)
 abbrev pub behindAt : ℕ → List Copy → ℕ → ℕ
 behindAt n cs x = if ltb x n then 0 else copyAt n cs x .behind
 
--- The arrays behind n words hold the copies cs, of known words.
+-- The arrays behind n words hold the copies cs, of known words and each once.
 pub record Held (n : ℕ) (cs : List Copy) (k : Copies) : Type 0 where
   pub originals : k .originals ≡ n
   pub number : k .number ≡ length cs
   pub most : n + length cs ≤ limits .words
   pub origins : k .origins ≡ table (origin n cs) (limits .words)
   pub behind : k .behind ≡ table (behindAt n cs) (limits .words)
-  pub known : (i : ℕ) → i < length cs → getD cs i noCopy .of < n
+  pub copies : Once n cs
 
 module _ {n : ℕ} {cs : List Copy} {k : Copies} (h : Held n cs k) where
   pub origin-at : (x : ℕ) → x < limits .words → getD (k .origins) x 0 ≡ origin n cs x
@@ -56,19 +57,12 @@ module _ {n : ℕ} {cs : List Copy} {k : Copies} (h : Held n cs k) where
   unfolding held
   held-is = rw (h .number) (table-list (copyHeld k) (length cs) cs noCopy refl copy-at)
 
-  pub origin-below : (x : ℕ) → x < n + length cs → origin n cs x < n
-  origin-below x l = go (decLt x n)
-    where
-      go : Dec (x < n) → origin n cs x < n
-      go (yes m) = rw (origin-word n cs x m) m
-      go (no m) = rw (origin-copy n cs x (omega arith)) (h .known (x - n) (omega arith))
-
-  -- as the arrays have it
+  -- The arrays have numbers of words.
   pub number-below : (x : ℕ) → x < k .originals + k .number → getD (k .origins) x 0 < n
   number-below x l =
       let o = h .originals in
       let m = h .number in
-      rw (origin-at x (omega (arith, h .most))) (origin-below x (omega arith))
+      rw (origin-at x (omega (arith, h .most))) (origin-known n cs (h .copies) x (omega arith))
 
   -- The arrays hold the copies behind their own number of words, and their own list.
   pub held-own : Held (k .originals) cs k
@@ -109,13 +103,6 @@ module _ (n : ℕ) (cs : List Copy) (c : Copy) where
       go (yes m) = rw (lt-ltb x n m)
       go (no m) = let l : n ≤ x = omega arith in rw (le-ltb x n l) (ap (λ (d : Copy). d .behind) (copy-kept x l e (decLt x (n + length cs))))
 
-  known-more : c .of < n → ((i : ℕ) → i < length cs → getD cs i noCopy .of < n) → (i : ℕ) → i < length (cs ++ (c ∷ [])) → getD (cs ++ (c ∷ [])) i noCopy .of < n
-  known-more h k i l = go (decLt i (length cs))
-    where
-      go : Dec (i < length cs) → getD (cs ++ (c ∷ [])) i noCopy .of < n
-      go (yes m) = rw (List·getD-append cs (c ∷ []) noCopy i m) (k i m)
-      go (no m) = rw (getD-at cs c [] noCopy i (omega (arith, length-append cs (c ∷ [])))) h
-
 -- the arrays with the copy of z after y behind the others
 abbrev pub withCopy : ℕ → ℕ → ℕ → Copies → Copies
 withCopy y z len k = record {
@@ -127,9 +114,9 @@ withCopy y z len k = record {
   fits = true;
 }
 
-pub held-more : {n : ℕ} {cs : List Copy} {k : Copies} (y z len : ℕ) → Held n cs k → z < n → n + length cs < limits .words
+pub held-more : {n : ℕ} {cs : List Copy} {k : Copies} (y z len : ℕ) → Held n cs k → hasCopy cs y z ≡ false → y < n → z < n → n + length cs < limits .words
     → Held n (cs ++ (record { behind = y; of = z } ∷ [])) (withCopy y z len k)
-held-more {n} {cs} {k} y z len h below room =
+held-more {n} {cs} {k} y z len h fresh y< z< room =
     let c : Copy = record { behind = y; of = z } in
     let long = length-append cs (c ∷ []) in
     record {
@@ -140,5 +127,5 @@ held-more {n} {cs} {k} y z len h below room =
           (set-table (origin n cs) (origin n (cs ++ (c ∷ []))) (limits .words) (n + length cs) z room (origin-new n cs c) (origin-kept n cs c));
       behind = rw (h .originals, h .number, h .behind)
           (set-table (behindAt n cs) (behindAt n (cs ++ (c ∷ []))) (limits .words) (n + length cs) y room (behind-new n cs c) (behind-kept n cs c));
-      known = known-more n cs c below (h .known);
+      copies = once-more (h .copies) c fresh y< z<;
     }

@@ -49,6 +49,14 @@ fn is_banned(numbers: &[u8], bans: usize, x: u8, y: u8, z: u8) -> bool
     false
 }
 
+// The number of the word of which x is a copy, or x itself.
+fn origin_of(copies: Copies, x: usize) -> usize
+    requires { ⌜ Held (copies .originals) (held copies) copies × (x < copies .originals + copies .number) ⌝ }
+    ensures { λ r. ⌜ (r ≡ getD (copies .origins) x 0) × (r < copies .originals) ⌝ }
+{
+    copies.origins[x] as usize
+}
+
 // Whether the copies let x stand after the word y and its copies.
 fn stands_after(copies: Copies, x: usize, y: u8) -> bool
     requires { ⌜ Held (copies .originals) (held copies) copies × (x < copies .originals + copies .number) ⌝ }
@@ -82,12 +90,11 @@ fn may_come(row: Row, copies: Copies, numbers: &[u8], bans: usize, x: usize, y: 
     requires { ⌜ Asked (now numbers) bans copies x y ⌝ }
     ensures { λ r. ⌜ r ≡ comes (row .entries) (copies .originals) (bansFrom (now (numbers .entry)) bans) x y ⌝ }
 {
-    let last = copies.origins[y];
-    let column = last as usize;
-    if row.entries[column] != 1 {
+    let last = origin_of(copies, y);
+    if row.entries[last] != 1 {
         return false;
     }
-    if !stands_after(copies, x, last) {
+    if !stands_after(copies, x, last as u8) {
         return false;
     }
     is_allowed(copies, numbers, bans, x, y)
@@ -114,14 +121,6 @@ fn fill_row(row: Row, copies: Copies, numbers: &[u8], bans: usize, x: usize) -> 
         y += 1;
     }
     filled
-}
-
-// The number of the word of which x is a copy, or x itself.
-fn origin_of(copies: Copies, x: usize) -> usize
-    requires { ⌜ Held (copies .originals) (held copies) copies × (x < copies .originals + copies .number) ⌝ }
-    ensures { λ r. ⌜ (r ≡ getD (copies .origins) x 0) × (r < copies .originals) ⌝ }
-{
-    copies.origins[x] as usize
 }
 
 // The code with a word and a row for each word and each copy. Only words may begin.

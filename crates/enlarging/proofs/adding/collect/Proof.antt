@@ -61,8 +61,8 @@ loop-again : tie.Need-loop-again Inv-loop μ-loop
 loop-again c =
     let s = c .before .before .before .before .before .before .before .before .before .before .before in
     let l = c .before .before .before .before .before .before .before .loop in
-    let z = known-ban _ _ (s .pre .2) (l .i) (search needs) .z in
-    (search needs, collected-more (s .args .numbers .now) (l .i) (l .inv .1) z (c .before .before .add-copy .ensures) (not-false _ (c .if1 .left)))
+    let known = known-ban _ _ (s .pre .2) (l .i) (search needs) in
+    (search needs, collected-more (s .args .numbers .now) (l .i) (l .inv .1) known (c .before .before .add-copy .ensures) (not-false _ (c .if1 .left)))
 
 returns-2 : tie.Need-returns-2 Inv-loop μ-loop
 returns-2 c =
