@@ -4,7 +4,6 @@ use mathlib.Core.Bool.{Bool, true, false, true≢false, false≢true}
 use mathlib.Core.List.{List, [], _∷_, _++_}
 use mathlib.Core.Logic.{_⊎_, inl, inr}
 use Prim.Native.Nat.{ℕ, zero, suc, _+_, _-_, _≤_, _<_}
-use native.Mathlib.Decide.{decLt}
 use native.Mathlib.Omega.{arith}
 use native.Mathlib.Nat.{add-zero, add-suc}
 use native.Mathlib.Numerals.{add-one}
@@ -23,7 +22,7 @@ use Rattle.copies.specs.BanLists.{Known, once-none, withBan, copies-next}
 use Rattle.copies.specs.Triples.{banAt, bansFrom, bans-none, bans-more, KnownBan}
 use Rattle.table.specs.WellFormed.{lenOf, WellFormed}
 use Rattle.enlarging.specs.declared.Copies.{Copies}
-use Rattle.enlarging.specs.Held.{held, Held, behindAt, withCopy, held-is, held-more}
+use Rattle.enlarging.specs.Held.{held, Held, behindAt, behind-none, withCopy, held-is, held-more}
 use Rattle.enlarging.specs.Symbols.{symbolsWith, tooMany, symbols-none, symbols-more, refused-too-many}
 
 -- The words of a code, without copies.
@@ -49,14 +48,10 @@ start n all x e h m = record {
   originals = refl;
   number = refl;
   origins = e ∙ fill-end (origin n []) 0 x (limits .words) (λ k l. origin-copy n [] k (omega arith)) m;
-  behind = fill-end (behindAt n []) 0 0 (limits .words) (λ k l. nothing k (decLt k n)) (omega arith);
+  behind = fill-end (behindAt n []) 0 0 (limits .words) (λ k l. behind-none n k) (omega arith);
   symbols = refl;
   fits = refl;
 }
-  where
-    nothing : (k : ℕ) → Dec (k < n) → behindAt n [] k ≡ 0
-    nothing k (yes l) = rw (lt-ltb k n l)
-    nothing k (no l) = rw (le-ltb k n (omega arith))
 
 -- the copies that passed a limit
 abbrev pub stopped : Copies → Copies

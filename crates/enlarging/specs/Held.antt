@@ -29,6 +29,13 @@ held k = table (copyHeld k) (k .number)
 abbrev pub behindAt : ℕ → List Copy → ℕ → ℕ
 behindAt n cs x = if ltb x n then 0 else copyAt n cs x .behind
 
+pub behind-none : (n x : ℕ) → behindAt n [] x ≡ 0
+behind-none n x = go (decLt x n)
+  where
+    go : Dec (x < n) → behindAt n [] x ≡ 0
+    go (yes l) = rw (lt-ltb x n l)
+    go (no l) = rw (le-ltb x n (omega arith))
+
 -- The arrays behind n words hold the copies cs, of known words and each once.
 pub record Held (n : ℕ) (cs : List Copy) (k : Copies) : Type 0 where
   pub originals : k .originals ≡ n

@@ -20,6 +20,7 @@ use Rattle.code.specs.Laws.Lists.{table-list, table-same}
 use Rattle.copies.specs.CopyLists.{origin-word, stands-word}
 use Rattle.copies.specs.BanLists.{no-ban}
 use Rattle.table.specs.WellFormed.{WellFormed}
+use Rattle.enlarging.specs.Held.{behind-none}
 use Rattle.enlarging.specs.Symbols.{symbolsWith, symbols-none, refused-too-many}
 use Rattle.enlarging.specs.Coming.{allowed, comes, comes-may}
 use Rattle.enlarging.specs.Filling.{enlargedRow}
@@ -61,14 +62,9 @@ module _ {c : Code} (well : WellFormed limits c) where
   own-rows : table (enlargedRow c []) (limits .words) ≡ c .rows
   own-rows = table-list (enlargedRow c []) (limits .words) (c .rows) noRow (well .rows) own-row
 
-  none-behind : (x : ℕ) → Dec (x < c .count) → behindOf limits c [] x ≡ 0
-  unfolding copiesFrom
-  none-behind x (yes l) = rw (lt-ltb x (c .count) l)
-  none-behind x (no l) = rw (le-ltb x (c .count) (omega arith))
-
   itself : enlargedCode limits c [] ≡ plainOf limits c
   unfolding enlargedCode plainOf copiesFrom
-  itself = rw (own-words, own-rows, table-same (behindOf limits c []) (λ x. 0) (limits .words) (λ x l. none-behind x (decLt x (c .count))), add-zero (c .count))
+  itself = rw (own-words, own-rows, table-same (behindOf limits c []) (λ x. 0) (limits .words) (λ x l. behind-none (c .count) x), add-zero (c .count))
 
   not-refused : refused17 limits c [] ≡ false
   unfolding copiesFrom

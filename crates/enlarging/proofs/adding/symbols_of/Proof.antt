@@ -1,4 +1,4 @@
--- The loop adds the lengths of the words. The invariant: the symbols are those of the words below k, at most 16 each.
+-- The loop adds the lengths of the words. The invariant: the symbols are those of the words below k, each within its limit.
 use mathlib.Core.Path.{_≡_, refl, sym}
 use Prim.Native.Nat.{_-_, _*_, _≤_}
 use native.Mathlib.Omega.{arith}
