@@ -26,7 +26,7 @@ use Rattle.copies.specs.Witnesses.{listBans, ListBan, witness-copies, witness-l
 use Rattle.table.specs.WellFormed.{lenOf}
 use Rattle.table.specs.Words.{size-count}
 use Rattle.table.specs.Round.{word-is, row-is, code-is}
-use Rattle.enlargements.specs.WellEnlarged.{kept, WellEnlarged}
+use Rattle.enlargements.specs.WellEnlarged.{barred, WellEnlarged}
 use Rattle.enlargements.specs.Numbers.{count-copies, copy-in, all-numbers, number-at, copy-number, origin-number, numbers-once}
 use Rattle.enlargements.specs.FromBans.{FromBans}
 use Rattle.enlargements.specs.Totals.{enlarged-lengths}
@@ -64,7 +64,7 @@ value-is e c n os bs p q r s = rw (p, q, r, s)
 
 -- The bans of a value: behind each copy, the words that may not come there.
 abbrev pub bansOf : Enlarged → List Ban
-bansOf e = listBans (λ i. kept e (e .originals + i)) (e .originals) (copiesIn e) 0
+bansOf e = listBans (λ i. barred e (e .originals + i)) (e .originals) (copiesIn e) 0
 
 module _ {l : Limits} {e : Enlarged} (w : WellEnlarged l e) where
   pub well-once : Once (e .originals) (copiesIn e)
@@ -73,27 +73,27 @@ module _ {l : Limits} {e : Enlarged} (w : WellEnlarged l e) where
   -- The copies of the bans are those of the value.
   pub copies-back : copiesOf (bansOf e) ≡ copiesIn e
   copies-back =
-      witness-copies (λ i. kept e (e .originals + i)) (e .originals) (copiesIn e) well-once
+      witness-copies (λ i. barred e (e .originals + i)) (e .originals) (copiesIn e) well-once
       (λ j h. w .copy (e .originals + j) (omega arith) (omega (arith, all-numbers (w .numbers))) .ban)
 
   -- What is banned
 
-  kept-at : (x y z j : ℕ) → CopyAt (copiesIn e) y z j
-      → kept e (e .originals + j) x ≡ not (tableOf (e .code) .follow (nextWord (e .originals) (copiesIn e) z x) (e .originals + copyIndex (copiesIn e) y z))
-  kept-at x y z j at =
+  barred-at : (x y z j : ℕ) → CopyAt (copiesIn e) y z j
+      → barred e (e .originals + j) x ≡ not (tableOf (e .code) .follow (nextWord (e .originals) (copiesIn e) z x) (e .originals + copyIndex (copiesIn e) y z))
+  barred-at x y z j at =
       let index = w .once y z (copyIndex (copiesIn e) y z) j (found y z (copiesIn e) (has-copy at)) at in
       let of : getD (e .origins) (e .originals + j) 0 ≡ z = ap (λ (c : Copy). c .of) (sym (copy-in e j (at .below))) ∙ at .of in
       rw (index, of)
 
-  ban-out : (x y z : ℕ) → bannedBy (bansOf e) x y z ≡ true → ListBan (λ i. kept e (e .originals + i)) (e .originals) (copiesIn e) 0 x y z
-  ban-out = witness-out (λ i. kept e (e .originals + i)) (e .originals) (copiesIn e) 0
+  ban-out : (x y z : ℕ) → bannedBy (bansOf e) x y z ≡ true → ListBan (λ i. barred e (e .originals + i)) (e .originals) (copiesIn e) 0 x y z
+  ban-out = witness-out (λ i. barred e (e .originals + i)) (e .originals) (copiesIn e) 0
 
   ban-copy : (x y z : ℕ) → bannedBy (bansOf e) x y z ≡ true → bansIn (copiesIn e) (tableOf (e .code) .follow) (e .originals) x y z ≡ true
   unfolding bansIn
   ban-copy x y z b =
       let o = ban-out x y z b in
       let zero-add : 0 + o .j ≡ o .j = omega arith in
-      and-eq-true-iff (hasCopy (copiesIn e) y z) _ .1 (has-copy (o .at), sym (kept-at x y z (o .j) (o .at)) ∙ rw zero-add at (o .passes))
+      and-eq-true-iff (hasCopy (copiesIn e) y z) _ .1 (has-copy (o .at), sym (barred-at x y z (o .j) (o .at)) ∙ rw zero-add at (o .passes))
 
   copy-ban : (x y z : ℕ) → x < e .originals → bansIn (copiesIn e) (tableOf (e .code) .follow) (e .originals) x y z ≡ true → bannedBy (bansOf e) x y z ≡ true
   unfolding bansIn
@@ -103,7 +103,7 @@ module _ {l : Limits} {e : Enlarged} (w : WellEnlarged l e) where
       let at = found y z cs (a .0) in
       let zero-add : 0 + copyIndex cs y z ≡ copyIndex cs y z = omega arith in
       rw (at .behind, at .of) at
-      (witness-in (λ i. kept e (e .originals + i)) (e .originals) cs 0 (copyIndex cs y z) x (at .below) h (rw zero-add (kept-at x y z (copyIndex cs y z) at ∙ a .1)))
+      (witness-in (λ i. barred e (e .originals + i)) (e .originals) cs 0 (copyIndex cs y z) x (at .below) h (rw zero-add (barred-at x y z (copyIndex cs y z) at ∙ a .1)))
 
   -- The bans are those that the matrix says.
   bans-back : (x y z : ℕ) → x < e .originals → bannedBy (bansOf e) x y z ≡ bansIn (copiesIn e) (tableOf (e .code) .follow) (e .originals) x y z
@@ -237,4 +237,4 @@ module _ {l : Limits} {e : Enlarged} (w : WellEnlarged l e) where
   -- and from no more bans than there are words for each copy.
   pub few-bans : length (to-bans .bans) ≤ (e .code .count - e .originals) * e .originals
   unfolding to-bans
-  few-bans = rw (count-copies e) at (witness-length (λ i. kept e (e .originals + i)) (e .originals) (copiesIn e) 0)
+  few-bans = rw (count-copies e) at (witness-length (λ i. barred e (e .originals + i)) (e .originals) (copiesIn e) 0)

@@ -16,7 +16,7 @@ pub record FromBans (l : Limits) (e : Enlarged) : Type 0 where
   pub given : WellFormed l base
   pub bans : List Ban
   pub known : Known (base .count) bans
-  -- 02, request 2: "Y is not Z", in every ban
+  -- 02, request 2: "Y and Z different", in every ban
   pub apart : (x y : ℕ) → bannedBy bans x y y ≡ false
   pub room : refused17 l base bans ≡ false
   pub same : enlargedCode l base bans ≡ e

@@ -22,7 +22,7 @@ use Rattle.copies.specs.Enlargements.{Fair}
 use Rattle.table.specs.Exactly.{Exactly, exactly-true, exactly-false, exactly-iff, exactly-and, exactly-not, exactly-same, exactly-lt, exactly-eq}
 use Rattle.table.specs.Round.{word-is}
 use Rattle.table.specs.WellFormed.{WellFormed}
-use Rattle.enlargements.specs.WellEnlarged.{NumberFits, Numbered, kept, CopyFits, WellEnlarged}
+use Rattle.enlargements.specs.WellEnlarged.{NumberFits, Numbered, barred, CopyFits, WellEnlarged}
 use Rattle.enlargements.specs.Numbers.{count-copies, copy-in, all-numbers, number-at, copy-number, origin-number, next-within, numbers-once}
 use Rattle.enlargements.specs.Tests.{numberOf, copiesAt, NumbersFit, Lent, AtOwnPlace, IfCopyFits, CopiesFit, EntryFits, MatrixFits}
 use Rattle.enlargements.specs.Plain.{plain-fair}
@@ -144,20 +144,20 @@ words-same a b symbols =
 
 module _ (e : Enlarged) (x : ℕ) where
   -- A word may not come behind a copy where its number there has no 1.
-  pub kept-entry : (w : ℕ) {next of : ℕ} {t : Bool} → of ≡ getD (e .origins) x 0 → next ≡ nextWord (e .originals) (copiesIn e) of w → Exactly t (entryOf (e .code) next x ≡ 1)
-      → kept e x w ≡ not t
-  kept-entry w {next} p q one =
+  pub barred-entry : (w : ℕ) {next of : ℕ} {t : Bool} → of ≡ getD (e .origins) x 0 → next ≡ nextWord (e .originals) (copiesIn e) of w → Exactly t (entryOf (e .code) next x ≡ 1)
+      → barred e x w ≡ not t
+  barred-entry w {next} p q one =
       let same = exactly-same (exactly-eq (entryOf (e .code) next x) 1) one in
       sym (ap not (sym same) ∙ rw (q, p))
 
-  pub ban-found : (w : ℕ) → w < e .originals → kept e x w ≡ true → Exactly true (Some (kept e x) (e .originals))
+  pub ban-found : (w : ℕ) → w < e .originals → barred e x w ≡ true → Exactly true (Some (barred e x) (e .originals))
   ban-found w h k = exactly-true (record { x = w; below = h; passes = k })
 
-  pub ban-none : ((w : ℕ) → w < e .originals → kept e x w ≡ false) → Exactly false (Some (kept e x) (e .originals))
+  pub ban-none : ((w : ℕ) → w < e .originals → barred e x w ≡ false) → Exactly false (Some (barred e x) (e .originals))
   ban-none none = exactly-false (λ s. true≢false (sym (s .passes) ∙ none (s .x) (s .below)))
 
   pub copy-tested : {place mark : ℕ} {t b : Bool} → place ≡ nextWord (e .originals) (copiesIn e) (getD (e .behind) x 0) (getD (e .origins) x 0) → mark ≡ getD (e .code .begins) x 0
-      → Exactly t (getD (e .code .words) x noWord ≡ getD (e .code .words) (getD (e .origins) x 0) noWord) → Exactly b (Some (kept e x) (e .originals))
+      → Exactly t (getD (e .code .words) x noWord ≡ getD (e .code .words) (getD (e .origins) x 0) noWord) → Exactly b (Some (barred e x) (e .originals))
       → Exactly (eqb place x && (t && (eqb mark 0 && b))) (AtOwnPlace e x × CopyFits e x)
   copy-tested {place} {mark} p m word ban =
       exactly-iff (

@@ -22,7 +22,7 @@ pub record NumberFits (n count x of behind : ℕ) : Type 0 where
   pub behind-word : x < n → behind ≡ 0
   pub behind-copy : n ≤ x → x < count → behind < n
   pub behind-past : count ≤ x → behind ≡ 0
-  -- 02, request 2: "Y is not Z"
+  -- 02, request 2: "Y and Z different"
   pub apart : n ≤ x → x < count → behind ≡ of → ⊥
 
 -- All numbers of a value.
@@ -35,14 +35,14 @@ pub record Numbered (l : Limits) (e : Enlarged) : Type 0 where
   pub number : (x : ℕ) → x < l .words → NumberFits (e .originals) (e .code .count) x (getD (e .origins) x 0) (getD (e .behind) x 0)
 
 -- The word w may not come behind the copy x.
-abbrev pub kept : Enlarged → ℕ → ℕ → Bool
-kept e x w = not (tableOf (e .code) .follow (nextWord (e .originals) (copiesIn e) (getD (e .origins) x 0) w) x)
+abbrev pub barred : Enlarged → ℕ → ℕ → Bool
+barred e x w = not (tableOf (e .code) .follow (nextWord (e .originals) (copiesIn e) (getD (e .origins) x 0) w) x)
 
 -- The copy x has its word's symbols, cannot begin a message, and comes from some ban.
 pub record CopyFits (e : Enlarged) (x : ℕ) : Type 0 where
   pub word : getD (e .code .words) x noWord ≡ getD (e .code .words) (getD (e .origins) x 0) noWord
   pub mark : getD (e .code .begins) x 0 ≡ 0
-  pub ban : Some (kept e x) (e .originals)
+  pub ban : Some (barred e x) (e .originals)
 
 pub record WellEnlarged (l : Limits) (e : Enlarged) : Type 0 where
   pub code : WellFormed l (e .code)

@@ -14,7 +14,7 @@ ghost use Rattle.code.specs.Definitions.Sheets.{limits};
 ghost use Rattle.code.specs.Laws.Below.{Some};
 ghost use Rattle.table.specs.Exactly.{Exactly};
 ghost use Rattle.table.specs.WellFormed.{WellFormed};
-ghost use Rattle.enlargements.specs.WellEnlarged.{NumberFits, Numbered, kept, CopyFits, WellEnlarged};
+ghost use Rattle.enlargements.specs.WellEnlarged.{NumberFits, Numbered, barred, CopyFits, WellEnlarged};
 ghost use Rattle.enlargements.specs.Tests.{copiesAt, valueOf, NumbersFit, Lent, AtOwnPlace, CopiesFit, EntryFits, MatrixFits};
 
 // A byte as a number of a word.
@@ -115,7 +115,7 @@ fn same_word(a: Word, b: Word) -> bool
 // Whether some word may not come behind the copy x.
 fn has_ban(code: Code, origins: &[u8], behind: &[u8], n: usize, x: usize) -> bool
     requires { ⌜ Numbered limits (valueOf code n (now origins) (now behind)) × (x < code .count) ⌝ }
-    ensures { λ r. ⌜ Exactly r (Some (kept (valueOf code n (now (origins .entry)) (now (behind .entry))) x) n) ⌝ }
+    ensures { λ r. ⌜ Exactly r (Some (barred (valueOf code n (now (origins .entry)) (now (behind .entry))) x) n) ⌝ }
 {
     let of = wide(origins[x]);
     let mut w = 0;

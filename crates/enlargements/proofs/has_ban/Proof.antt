@@ -6,14 +6,14 @@ use native.Mathlib.Omega.{arith}
 use borrow.Author.Count.{below-more}
 use borrow.Author.Needs.{needs}
 use Rattle.code.specs.Definitions.Sheets.{limits}
-use Rattle.enlargements.specs.WellEnlarged.{kept}
+use Rattle.enlargements.specs.WellEnlarged.{barred}
 use Rattle.enlargements.specs.Tests.{valueOf}
-use Rattle.enlargements.specs.Tested.{kept-entry, ban-found, ban-none, next-low}
+use Rattle.enlargements.specs.Tested.{barred-entry, ban-found, ban-none, next-low}
 use Rattle.enlargements.proofs.has_ban.Statement.{statement}
 use Rattle.enlargements.proofs.has_ban.Tie as tie
 
 abbrev Inv-loop : tie.InvT-loop
-Inv-loop origins behind n x code of w₀ w = (w ≤ n) × ((k : ℕ) → k < w → kept (valueOf code n origins behind) x k ≡ false)
+Inv-loop origins behind n x code of w₀ w = (w ≤ n) × ((k : ℕ) → k < w → barred (valueOf code n origins behind) x k ≡ false)
 
 abbrev μ-loop : tie.MeasureT-loop
 μ-loop origins behind n x code of w₀ w = n - w
@@ -31,7 +31,7 @@ returns c =
     let l = t .before .before .loop in
     let e = valueOf (a .t1) (a .n) (a .origins .now) (a .behind .now) in
     ban-found e (a .x) (l .w) (t .before .loop-test .taken)
-    (kept-entry e (a .x) (l .w) (t .before .before .before .wide .ensures) (t .next-word .ensures) (c .before .is-one .ensures) ∙ c .if1 .taken)
+    (barred-entry e (a .x) (l .w) (t .before .before .before .wide .ensures) (t .next-word .ensures) (c .before .is-one .ensures) ∙ c .if1 .taken)
 
 loop-again : tie.Need-loop-again Inv-loop μ-loop
 loop-again c =
@@ -40,8 +40,8 @@ loop-again c =
     let l = t .before .before .loop in
     let e = valueOf (a .t1) (a .n) (a .origins .now) (a .behind .now) in (
       omega arith,
-      below-more (λ k. kept e (a .x) k ≡ false) (l .w) (l .inv .1)
-          (kept-entry e (a .x) (l .w) (t .before .before .before .wide .ensures) (t .next-word .ensures) (c .before .is-one .ensures) ∙ c .if1 .left),
+      below-more (λ k. barred e (a .x) k ≡ false) (l .w) (l .inv .1)
+          (barred-entry e (a .x) (l .w) (t .before .before .before .wide .ensures) (t .next-word .ensures) (c .before .is-one .ensures) ∙ c .if1 .left),
     )
 
 returns-2 : tie.Need-returns-2 Inv-loop μ-loop
