@@ -8,6 +8,7 @@ use code::Verdict;
 ghost use mathlib.Core.Path.{_≡_};
 ghost use mathlib.Core.List.{[], _∷_};
 ghost use Prim.Native.Nat.{_≤_};
+ghost use lib.Dec.{ltb};
 ghost use lib.ListN.{length};
 ghost use Rattle.code.specs.Definitions.Answers.{refusalNumber};
 ghost use Rattle.code.specs.Definitions.Operations.{written};
@@ -18,6 +19,13 @@ pub struct Answer {}
 impl Answer {
     // Entries an answer.
     pub const LENGTH: usize = 4;
+}
+
+// Whether a buffer of so many entries is too short for an answer.
+pub fn is_short(entries: usize) -> bool
+    ensures { λ r. ⌜ r ≡ ltb entries answerLength ⌝ }
+{
+    entries < Answer::LENGTH
 }
 
 pub fn number(r: Refusal) -> u64

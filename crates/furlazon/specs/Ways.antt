@@ -1,11 +1,12 @@
 -- The ways through the exported functions, one for each end of a call.
 use mathlib.Core.Path.{_≡_, refl, sym, _∙_}
+use mathlib.Core.Bool.{Bool, true, false}
 use mathlib.Core.List.{List, []}
 use Prim.Native.Nat.{ℕ, _≤_, _<_, min}
 use native.Mathlib.Omega.{arith}
 use lib.Dec.{ltb}
 use lib.ListN.{length}
-use borrow.Author.Tests.{lt-ltb, le-ltb}
+use borrow.Author.Tests.{lt-ltb, le-ltb, ltb-true, ltb-false}
 use Rattle.code.specs.declared.Code.{Code}
 use Rattle.code.specs.declared.Taken.{Taken}
 use Rattle.code.specs.declared.Refusal.{Refusal}
@@ -49,6 +50,13 @@ module _ (n table : ℕ) {s : ℕ} (is : s ≡ shortNumber) where
 
   pub lower-long : imageLength ≤ table → n ≡ (if ltb table imageLength then min n shortNumber else n)
   lower-long h = rw (le-ltb table imageLength h)
+
+-- What is known of the room for an answer after the test for it.
+pub answer-short : (n : ℕ) {b : Bool} → b ≡ ltb n answerLength → b ≡ true → n < answerLength
+answer-short n e t = ltb-true n answerLength (sym e ∙ t)
+
+pub answer-room : (n : ℕ) {b : Bool} → b ≡ ltb n answerLength → b ≡ false → answerLength ≤ n
+answer-room n e t = ltb-false n answerLength (sym e ∙ t)
 
 -- The other operations: an image that is too short to be read, an answer that is too short to be told, and the operation's answer
 

@@ -3,7 +3,7 @@
 
 pub mod untold;
 
-use answers::Answer;
+use answers::is_short;
 use answers::number;
 use answers::put_encoding;
 use answers::put_judgement;
@@ -72,7 +72,7 @@ pub extern "C" fn furlazon_encode(
         return number(Refusal::ShortBuffer);
     }
     let code = unpack(table);
-    if answer.len() < Answer::LENGTH {
+    if is_short(answer.len()) {
         return untold_encoding(code, words);
     }
     let e = encoding::encode(code, words, message);
@@ -97,7 +97,7 @@ pub extern "C" fn furlazon_read(
         return number(Refusal::ShortBuffer);
     }
     let code = unpack(table);
-    if answer.len() < Answer::LENGTH {
+    if is_short(answer.len()) {
         return untold_reading(code, message);
     }
     let e = reading::read(code, message, first, second, work);
@@ -122,7 +122,7 @@ pub extern "C" fn furlazon_verdict(
         return number(Refusal::ShortBuffer);
     }
     let code = unpack(table);
-    if answer.len() < Answer::LENGTH {
+    if is_short(answer.len()) {
         return untold_verdict(code);
     }
     let e = decipher::verdict(code, message, first, second, work);

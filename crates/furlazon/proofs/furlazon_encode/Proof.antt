@@ -1,5 +1,5 @@
 -- An image too short to be read is found first, then an answer too short to be told; then the operation answers, and its answer is written as numbers.
-use Rattle.furlazon.specs.Ways.{encode-unread, encode-untold, encode-answered}
+use Rattle.furlazon.specs.Ways.{answer-short, answer-room, encode-unread, encode-untold, encode-answered}
 use borrow.Author.Needs.{needs}
 use Rattle.furlazon.proofs.furlazon_encode.Statement.{statement}
 use Rattle.furlazon.proofs.furlazon_encode.Tie as tie
@@ -8,10 +8,10 @@ returns : tie.Need-returns
 returns c = search encode-unread
 
 returns-2 : tie.Need-returns-2
-returns-2 c = search encode-untold
+returns-2 c = search (encode-untold, answer-short)
 
 returns-3 : tie.Need-returns-3
-returns-3 c = search encode-answered
+returns-3 c = search (encode-answered, answer-room)
 
 pub furlazon-encode-spec : {M : Type 1} → statement M
 furlazon-encode-spec =
@@ -21,9 +21,10 @@ furlazon-encode-spec =
     returns
     (λ c κs. search needs)
     (λ c κs. search needs)
+    (λ c κs. search needs)
     returns-2
     (λ c κs. search needs)
-    (λ c κs. search needs)
+    (λ c κs. search answer-room)
     (λ c. search needs)
     (λ c. search needs)
     returns-3)

@@ -1,5 +1,5 @@
 -- An image too short to be read is found first, then an answer too short to be told; then the operation answers, and its answer is written as numbers.
-use Rattle.furlazon.specs.Ways.{read-unread, read-untold, read-answered}
+use Rattle.furlazon.specs.Ways.{answer-short, answer-room, read-unread, read-untold, read-answered}
 use borrow.Author.Needs.{needs}
 use Rattle.furlazon.proofs.furlazon_read.Statement.{statement}
 use Rattle.furlazon.proofs.furlazon_read.Tie as tie
@@ -8,10 +8,10 @@ returns : tie.Need-returns
 returns c = search read-unread
 
 returns-2 : tie.Need-returns-2
-returns-2 c = search read-untold
+returns-2 c = search (read-untold, answer-short)
 
 returns-3 : tie.Need-returns-3
-returns-3 c = search read-answered
+returns-3 c = search (read-answered, answer-room)
 
 pub furlazon-read-spec : {M : Type 1} → statement M
 furlazon-read-spec =
@@ -21,9 +21,10 @@ furlazon-read-spec =
     returns
     (λ c κs. search needs)
     (λ c κs. search needs)
+    (λ c κs. search needs)
     returns-2
     (λ c κs. search needs)
-    (λ c κs. search needs)
+    (λ c κs. search answer-room)
     (λ c. search needs)
     (λ c. search needs)
     (λ c. search needs)
