@@ -124,7 +124,7 @@ module _ (n : ℕ) (f : List ℕ) where
       go true z = absurd (false≢true (rw z at e))
       go false z = let s = eqb-false (length f) 0 z in omega arith
 
-  number-below : isNumber n f ≡ true → numberOf f < n
+  pub number-below : isNumber n f ≡ true → numberOf f < n
   unfolding isNumber
   number-below e =
       ltb-true (numberOf f) n (and-eq-true-iff (not (eqb (length f) 0) && noLeadingZero f && every isDecimal f) (ltb (numberOf f) n) .0 e .1)

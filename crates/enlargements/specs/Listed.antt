@@ -36,9 +36,9 @@ pub record RoomyLists (l : Limits) : Type 0 where
   pub digits : l .words ≤ 100
   pub bytes : (k : ℕ) → k ≤ l .words → 10 * ((l .words - k) * k) ≤ l .bytes
 
-not-true : (b : Bool) → (b ≡ true → ⊥) → b ≡ false
-not-true true n = absurd (n refl)
-not-true false n = refl
+never-true : (b : Bool) → (b ≡ true → ⊥) → b ≡ false
+never-true true n = absurd (n refl)
+never-true false n = refl
 
 module _ {l : Limits} {e : Enlarged} where
   given-by : (c : Code) (s : List ℕ) → WellFormed l c → Enlarges l (plainOf l c) s (record { answer = Accepted; enlarged = e }) → FromBans l e
@@ -48,14 +48,14 @@ module _ {l : Limits} {e : Enlarged} where
       let y : _≡_ {A = ℕ} 0 1 = cc in
       absurd (omega arith)
   given-by c s w (enlarged h x) =
-      let listed = not-true (refused16 (c .count) s) (h .1 .1 .0) in
+      let listed = never-true (refused16 (c .count) s) (h .1 .1 .0) in
       record {
         base = c;
         given = w;
         bans = bansOf s;
         known = listed-known (c .count) s listed;
         apart = listed-apart (c .count) s listed;
-        room = not-true (refused17 l c (bansOf s)) (h .1 .1 .1 .0);
+        room = never-true (refused17 l c (bansOf s)) (h .1 .1 .1 .0);
         same = sym (ap (λ (y : Enlargement). y .enlarged) x);
       }
 

@@ -15,6 +15,7 @@ use Rattle.code.specs.Definitions.BanLists.{banOf, badBan, banRecords, refused1
 use Rattle.code.specs.Laws.Clean.{bad-end, body-end}
 use Rattle.code.specs.Laws.Lists.{or-neither}
 use Rattle.copies.specs.BanLists.{Known, ban}
+use Rattle.copies.specs.Triples.{KnownBan}
 use Rattle.table.specs.Join.{join, isPlain, fields-join, records-join, bad-join, plain-join, length-join}
 use Rattle.listing.specs.Numbers.{numberField, number-back, number-digits, number-short, number-known}
 
@@ -35,12 +36,6 @@ unfoldable pub print : List Ban → List ℕ
 print [] = []
 print (b ∷ bs) = join crlf (map recordOf (b ∷ bs)) ++ crlf
 
--- The numbers of a ban below n.
-record Within (n : ℕ) (b : Ban) : Type 0 where
-  x : b .x < n
-  y : b .y < n
-  z : b .z < n
-
 -- Where nothing is banned after one word twice, no ban names one word twice.
 ban-apart : (b : Ban) (bs : List Ban) → ((x y : ℕ) → bannedBy (b ∷ bs) x y y ≡ false) → b .y ≡ b .z → ⊥
 unfolding any bannedBy
@@ -50,7 +45,7 @@ ban-apart b bs a e =
     ∙ rw (eq-eqb (b .x) (b .x) refl, eq-eqb (b .y) (b .y) refl) (eq-eqb (b .z) (b .y) (sym e)))
 
 module _ (n : ℕ) (few : n ≤ 100) where
-  module _ (b : Ban) (w : Within n b) where
+  module _ (b : Ban) (w : KnownBan n b) where
     x< : b .x < 100
     x< = omega (arith, w .x)
 

@@ -4,21 +4,18 @@ use mathlib.Core.Bool.{Bool, true, false, not, _&&_, and-false, and-eq-true-iff}
 use mathlib.Core.List.{List, [], _∷_, map}
 use Prim.Native.Nat.{ℕ, _<_}
 use native.Mathlib.Omega.{arith}
-use lib.Dec.{ltb, eqb}
+use lib.Dec.{eqb}
 use lib.ListN.{length}
-use borrow.Author.Tests.{ltb-true, eqb-true, eqb-false, not-false}
+use borrow.Author.Tests.{eqb-true, eqb-false, not-false}
 use Rattle.code.specs.Definitions.Lists.{any, every}
 use Rattle.code.specs.Definitions.Sheets.{badBytes}
 use Rattle.code.specs.Definitions.Bans.{Ban, isBan, bannedBy}
-use Rattle.code.specs.Definitions.BanLists.{isDecimal, noLeadingZero, numberOf, isNumber, banOf, badBan, banRecords, refused16, bansOf}
+use Rattle.code.specs.Definitions.BanLists.{isNumber, banOf, badBan, banRecords, refused16, bansOf}
 use Rattle.code.specs.Laws.Lists.{or-neither}
+use Rattle.bans.specs.Numbers.{number-below}
 use Rattle.copies.specs.BanLists.{Known, no-ban, ban}
 
 module _ (n : ℕ) where
-  number-below : (f : List ℕ) → isNumber n f ≡ true → numberOf f < n
-  unfolding isNumber
-  number-below f e = ltb-true (numberOf f) n (and-eq-true-iff (not (eqb (length f) 0) && noLeadingZero f && every isDecimal f) (ltb (numberOf f) n) .0 e .1)
-
   -- A record that is three word numbers.
   three : (r : List (List ℕ)) → eqb (length r) 3 ≡ true → every (isNumber n) r ≡ true
       → (banOf r .x < n) × ((banOf r .y < n) × (banOf r .z < n))
@@ -30,7 +27,7 @@ module _ (n : ℕ) where
       let a = and-eq-true-iff (isNumber n f) (every (isNumber n) (g ∷ h ∷ r)) .0 e in
       let b = and-eq-true-iff (isNumber n g) (every (isNumber n) (h ∷ r)) .0 (a .1) in
       let c = and-eq-true-iff (isNumber n h) (every (isNumber n) r) .0 (b .1) in
-      (number-below f (a .0), (number-below g (b .0), number-below h (c .0)))
+      (number-below n f (a .0), (number-below n g (b .0), number-below n h (c .0)))
 
   good-record : (r : List (List ℕ)) → badBan n r ≡ false
       → ((banOf r .x < n) × ((banOf r .y < n) × (banOf r .z < n))) × (eqb (banOf r .y) (banOf r .z) ≡ false)

@@ -28,7 +28,7 @@ decimal-digit : (d : ℕ) → d < 10 → isDecimal (d + 48) ≡ true
 decimal-digit d h = rw (le-leb 48 (d + 48) (omega arith), le-leb (d + 48) 57 (omega arith))
 
 digit-digit : (d : ℕ) → d < 10 → isDigit (d + 48) ≡ true
-digit-digit d h = rw (le-leb 48 (d + 48) (omega arith), le-leb (d + 48) 57 (omega arith))
+digit-digit d h = rw (decimal-digit d h)
 
 module _ (v : ℕ) (small : v < 100) where
   by-size : (P : List ℕ → Type 0) → (v < 10 → P ((v + 48) ∷ [])) → (10 ≤ v → P ((v / 10 + 48) ∷ (v % 10 + 48) ∷ [])) → P (numberField v)
