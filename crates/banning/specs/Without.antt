@@ -12,11 +12,12 @@ use Rattle.code.specs.declared.Enlarged.{Enlarged}
 use Rattle.code.specs.declared.Limits.{Limits}
 use Rattle.code.specs.Definitions.Bans.{origin}
 use Rattle.code.specs.Definitions.Enlarged.{plainOf}
-use Rattle.code.specs.Definitions.Operations.{WithoutCopies}
+use Rattle.code.specs.Definitions.Operations.{WithoutCopies, FromLists}
 use Rattle.code.specs.Laws.Lists.{table-list}
 use Rattle.copies.specs.CopyLists.{origin-word, origin-copy}
 use Rattle.enlargements.specs.WellEnlarged.{WellEnlarged}
 use Rattle.enlargements.specs.Plain.{plain-well}
+use Rattle.enlargements.specs.Listed.{RoomyLists, from-lists, to-lists}
 use Rattle.table.specs.Exactly.{Exactly, exactly-false}
 use Rattle.table.specs.Given.{well}
 use Rattle.table.specs.Round.{from-sheet}
@@ -53,11 +54,11 @@ module _ {l : Limits} {e : Enlarged} where
   plain-all p = ap (λ (d : Enlarged). d .originals) (p .plain)
 
   -- What `without_copies` returns.
-  pub tested-all : Roomy l → {a : Bool} → Exactly a (WellEnlarged l e) → a ≡ true → Exactly (eqb (e .originals) (e .code .count)) (WithoutCopies l e)
+  pub tested-all : Roomy l → {a : Bool} → Exactly a (FromLists l e) → a ≡ true → Exactly (eqb (e .originals) (e .code .count)) (WithoutCopies l e)
   tested-all room t h = record {
-    yes = λ q. all-originals room (t .yes h) (eqb-true (e .originals) (e .code .count) q);
+    yes = λ q. all-originals room (from-lists (t .yes h)) (eqb-true (e .originals) (e .code .count) q);
     no = λ q p. eqb-false (e .originals) (e .code .count) q (plain-all p);
   }
 
-  pub tested-not : {a : Bool} → Exactly a (WellEnlarged l e) → a ≡ false → Exactly false (WithoutCopies l e)
-  tested-not t h = exactly-false (λ p. t .no h (plain-value p))
+  pub tested-not : Roomy l → RoomyLists l → {a : Bool} → Exactly a (FromLists l e) → a ≡ false → Exactly false (WithoutCopies l e)
+  tested-not room lists t h = exactly-false (λ p. t .no h (to-lists room lists (plain-value p)))

@@ -22,6 +22,7 @@ use Rattle.code.specs.Definitions.Operations.{Enlarges, refused, enlarged, From
 use Rattle.code.specs.Laws.Lists.{length-table, getD-table, any-at}
 use Rattle.listing.specs.Lists.{print, print-accepted, print-short, bans-back}
 use Rattle.listing.specs.Named.{listed-known, listed-apart}
+use Rattle.table.specs.Exactly.{Exactly, exactly-iff}
 use Rattle.table.specs.Given.{well}
 use Rattle.table.specs.Round.{from-sheet}
 use Rattle.table.specs.Written.{Roomy}
@@ -117,3 +118,7 @@ limits-lists = record {
       let below : over k ≡ false = rw (getD-table (λ i. i) (limits .words + 1) k 0 (omega arith)) at (any-at over (table (λ i. i) (limits .words + 1)) 0 none-over k (rw (length-table (λ (i : ℕ). i) (limits .words + 1)) (omega arith))) in
       ltb-false (limits .bytes) (10 * ((limits .words - k) * k)) below;
 }
+
+-- So a test of the value tells whether a sheet and a list give it.
+pub lists-tested : {e : Enlarged} {a : Bool} → Exactly a (WellEnlarged limits e) → Exactly a (FromLists limits e)
+lists-tested = exactly-iff (well-enlarged (omega arith) limits-lists)

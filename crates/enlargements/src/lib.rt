@@ -1,4 +1,4 @@
-// The test for refusal 8 of codes with copies: whether a table and bans give a value. The plain code, the numbers of its words and copies, each copy and each entry
+// Codes with copies: a table without copies as one of them, and the test for refusal 8: whether a table and bans give a value. The plain code, the numbers of its words and copies, each copy and each entry
 // of the matrix are tested, each by itself.
 
 use code::Code;
@@ -6,16 +6,45 @@ use code::Enlarged;
 use code::Row;
 use code::Word;
 use table::and;
+ghost use mathlib.Core.List.{[]};
 ghost use mathlib.Core.Path.{_≡_};
 ghost use Prim.Native.Nat.{ℕ, _≤_, _<_};
 ghost use lib.ListN.{length, getD};
-ghost use Rattle.code.specs.Definitions.Bans.{nextWord};
+ghost use Rattle.code.specs.Definitions.Bans.{origin, nextWord};
+ghost use Rattle.code.specs.Definitions.Enlarged.{plainOf};
+ghost use Rattle.code.specs.Definitions.Operations.{FromLists};
 ghost use Rattle.code.specs.Definitions.Sheets.{limits};
 ghost use Rattle.code.specs.Laws.Below.{Some};
 ghost use Rattle.table.specs.Exactly.{Exactly};
 ghost use Rattle.table.specs.WellFormed.{WellFormed};
 ghost use Rattle.enlargements.specs.WellEnlarged.{NumberFits, Numbered, barred, CopyFits, WellEnlarged};
 ghost use Rattle.enlargements.specs.Tests.{copiesAt, valueOf, NumbersFit, Lent, AtOwnPlace, CopiesFit, EntryFits, MatrixFits};
+
+// The origin of number x where n words have no copies.
+fn own(x: usize, n: usize) -> u8
+    requires { ⌜ x < limits .words ⌝ }
+    ensures { λ r. ⌜ r ≡ origin n [] x ⌝ }
+{
+    if x < n { x as u8 } else { 0 }
+}
+
+// A table without copies, as a code with copies.
+pub fn plain(code: Code) -> Enlarged
+    ensures { λ r. ⌜ r ≡ plainOf limits code ⌝ }
+{
+    let mut origins = [0u8; Code::WORDS];
+    let mut x: usize = 0;
+    while x < Code::WORDS {
+        origins[x] = own(x, code.count);
+        x += 1;
+    }
+    Enlarged {
+        code: code,
+        originals: code.count,
+        origins: origins,
+        behind: [0; Code::WORDS],
+    }
+}
 
 // A byte as a number of a word.
 fn wide(number: u8) -> usize
@@ -224,9 +253,9 @@ fn copied_well(code: Code, origins: &[u8], behind: &[u8], n: usize) -> bool
     )
 }
 
-// Whether a table and bans give this value: where not, refusal 8 holds.
+// Whether a sheet and a ban list give this value: where not, refusal 8 holds.
 pub fn well_enlarged(e: Enlarged) -> bool
-    ensures { λ r. ⌜ Exactly r (WellEnlarged limits e) ⌝ }
+    ensures { λ r. ⌜ Exactly r (FromLists limits e) ⌝ }
 {
     let code = e.code;
     if !table::well_formed(code) {

@@ -1,6 +1,7 @@
 -- `without_copies` says exactly whether a well-enlarged value has originals alone: those are the tables without copies.
 use native.Mathlib.Omega.{arith}
 use borrow.Author.Needs.{needs}
+use Rattle.enlargements.specs.Listed.{limits-lists}
 use Rattle.banning.specs.Without.{tested-all, tested-not}
 use Rattle.banning.proofs.without_copies.Statement.{statement}
 use Rattle.banning.proofs.without_copies.Tie as tie
@@ -9,7 +10,7 @@ returns : tie.Need-returns
 returns c = tested-all (omega arith) (c .before .before .before .well-enlarged .ensures) (c .before .before .if1 .taken)
 
 returns-2 : tie.Need-returns-2
-returns-2 c = search tested-not
+returns-2 c = tested-not (omega arith) limits-lists (c .before .before .before .well-enlarged .ensures) (c .before .before .if1 .left)
 
 pub without-copies-spec : {M : Type 1} → statement M
 without-copies-spec = tie.close (tie.spec (λ c κs. search needs) returns returns-2)

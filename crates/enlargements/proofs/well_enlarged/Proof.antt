@@ -1,4 +1,4 @@
--- `well_enlarged` says exactly whether the value is well-enlarged: of its code, of its numbers, and of the rest.
+-- `well_enlarged` tests whether the value is well-enlarged, of its code, of its numbers, and of the rest; a sheet and a list give just those values.
 use mathlib.Core.Path.{_≡_}
 use native.Mathlib.Omega.{arith}
 use lib.ListN.{length}
@@ -7,15 +7,16 @@ use borrow.Author.Tests.{not-true, not-false}
 use Rattle.code.specs.Definitions.Sheets.{limits}
 use Rattle.table.specs.Given.{well}
 use Rattle.table.specs.Round.{from-sheet}
+use Rattle.enlargements.specs.Listed.{lists-tested}
 use Rattle.enlargements.specs.Tested.{not-code, not-numbered}
 use Rattle.enlargements.proofs.well_enlarged.Statement.{statement}
 use Rattle.enlargements.proofs.well_enlarged.Tie as tie
 
 returns : tie.Need-returns
-returns c = not-code (λ w. c .before .well-formed .ensures .no (not-true _ (c .if1 .taken)) (from-sheet (omega arith) w))
+returns c = lists-tested (not-code (λ w. c .before .well-formed .ensures .no (not-true _ (c .if1 .taken)) (from-sheet (omega arith) w)))
 
 returns-2 : tie.Need-returns-2
-returns-2 c = not-numbered (c .before .numbered .ensures .no (not-true _ (c .if2 .taken)))
+returns-2 c = lists-tested (not-numbered (c .before .numbered .ensures .no (not-true _ (c .if2 .taken))))
 
 -- the type of the parameter says how long its arrays are
 all-origins : (c : tie.After-code) → length (c .before .args .e .origins) ≡ limits .words
@@ -45,4 +46,4 @@ well-enlarged-spec =
     (λ c. search needs)
     (λ c. search needs)
     copied-well-requires
-    (λ c. c .copied-well .ensures))
+    (λ c. lists-tested (c .copied-well .ensures)))
