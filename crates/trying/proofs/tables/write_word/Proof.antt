@@ -1,8 +1,8 @@
 -- The index stays within the array.
 use borrow.Author.Needs.{needs}
 use Prim.Native.Nat.{_≤_, _-_}
-use Rattle.try_sheets.proofs.write_word.Statement.{statement}
-use Rattle.try_sheets.proofs.write_word.Tie as tie
+use Rattle.trying.proofs.tables.write_word.Statement.{statement}
+use Rattle.trying.proofs.tables.write_word.Tie as tie
 
 abbrev Inv-loop : tie.InvT-loop
 Inv-loop w k₀ k = k ≤ 16

@@ -1,8 +1,8 @@
 -- The index stays within the arrays.
 use borrow.Author.Needs.{needs}
 use Prim.Native.Nat.{_≤_, _-_}
-use Rattle.try_sheets.proofs.write_table.Statement.{statement}
-use Rattle.try_sheets.proofs.write_table.Tie as tie
+use Rattle.trying.proofs.tables.write_table.Statement.{statement}
+use Rattle.trying.proofs.tables.write_table.Tie as tie
 
 abbrev Inv-loop : tie.InvT-loop
 Inv-loop table n x₀ t5 t6 t7 x = x ≤ 32

@@ -1,8 +1,8 @@
 -- The index stays within the array.
 use borrow.Author.Needs.{needs}
 use Prim.Native.Nat.{_≤_, _-_}
-use Rattle.try_sheets.proofs.write_row.Statement.{statement}
-use Rattle.try_sheets.proofs.write_row.Tie as tie
+use Rattle.trying.proofs.tables.write_row.Statement.{statement}
+use Rattle.trying.proofs.tables.write_row.Tie as tie
 
 abbrev Inv-loop : tie.InvT-loop
 Inv-loop n row y₀ y = y ≤ 32
