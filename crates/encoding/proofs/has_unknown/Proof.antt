@@ -1,18 +1,19 @@
--- The loop keeps that the entries passed are words of the code.
+-- The loop keeps that the entries passed are original words.
 use Prim.Native.Nat.{_≤_, _-_}
 use native.Mathlib.Omega.{arith}
 use lib.ListN.{length}
 use borrow.Author.Count.{below-none, below-more}
 use borrow.Author.Needs.{needs}
-use Rattle.encoding.specs.Passes.{WordsBelow, unknown-here, unknown-nowhere}
+use Rattle.encoding.specs.Passes.{WordsBelow}
+use Rattle.encoding.specs.Originals.{unknown-here, unknown-nowhere}
 use Rattle.encoding.proofs.has_unknown.Statement.{statement}
 use Rattle.encoding.proofs.has_unknown.Tie as tie
 
 abbrev Inv-loop : tie.InvT-loop
-Inv-loop code words i₀ i = (i ≤ length words) × WordsBelow code words i
+Inv-loop e words i₀ i = (i ≤ length words) × WordsBelow (e .originals) words i
 
 abbrev μ-loop : tie.MeasureT-loop
-μ-loop code words i₀ i = length words - i
+μ-loop e words i₀ i = length words - i
 
 loop-holds : tie.Need-loop-holds Inv-loop μ-loop
 loop-holds c = (omega arith, below-none _)
