@@ -24,7 +24,7 @@ element-copy-out-if2 : tie.Need-element-copy-out-if2 Inv-loop μ-loop
 element-copy-out-if2 c = let low = number-low limits (c .before .before .before .before .before .before .pre) 0 (omega arith) in omega arith
 
 returns-2 : tie.Need-returns-2 Inv-loop μ-loop
-returns-2 c = forbidden-opening limits (c .before .before .before .before .before .before .before .before .pre) (omega arith) (c .if2 .taken)
+returns-2 c = forbidden-opening limits (c .before .before .before .before .before .before .before .before .pre) (omega arith) (λ o. omega arith)
 
 loop-holds : tie.Need-loop-holds Inv-loop μ-loop
 loop-holds c = walk-begins (omega arith)
@@ -35,22 +35,23 @@ cast-y c = omega (arith, c .shared-slice-known3 .given (c .before .before .loop 
 cast-x : tie.Need-cast-x Inv-loop μ-loop
 cast-x c = omega (arith, c .shared-slice-known4 .given (c .before .before .before .loop .i + 1))
 
-next-word-requires : tie.Need-next-word-requires Inv-loop μ-loop
-next-word-requires c κs = search needs
+-- there is a next word
+more : (c : tie.After-next-word Inv-loop μ-loop) → c .before .before .before .before .before .before .loop .i + 1 < length (c .before .before .before .before .before .before .before .before .before .before .before .before .before .before .before .args .words .now)
+more c = omega arith
 
 -- the number that is found has a row
 row-low : (c : tie.After-next-word Inv-loop μ-loop) → c .next-word .result < limits .words
-row-low c = search (next-low limits)
+row-low c = let next = more c in search (next-low limits)
 
 -- and the number in hand a column
 column-low : (c : tie.At-loop Inv-loop μ-loop) → c .loop .last < limits .words
 column-low c = search (held-low limits)
 
 returns-3 : tie.Need-returns-3 Inv-loop μ-loop
-returns-3 c = search (forbidden-here limits)
+returns-3 c = let next = more (c .before .before .before) in search (forbidden-here limits)
 
 loop-again : tie.Need-loop-again Inv-loop μ-loop
-loop-again c = search (walked-on limits)
+loop-again c = let next = more (c .before .before .before) in search (walked-on limits)
 
 returns-4 : tie.Need-returns-4 Inv-loop μ-loop
 returns-4 c = search (forbidden-nowhere limits)
@@ -75,7 +76,7 @@ has-forbidden-spec =
     cast-x
     (λ c. search needs)
     (λ c. search needs)
-    next-word-requires
+    (λ c κs. search needs)
     (λ c. omega (arith, row-low c))
     row-low
     (λ c. column-low (c .before .before .before .before .before .before .before))

@@ -27,7 +27,7 @@ returns c =
     unknown-here (start .pre) (start .args .words .now) (c .before .before .before .before .loop .i) (omega arith) (omega arith)
 
 loop-again : tie.Need-loop-again Inv-loop μ-loop
-loop-again c = (search needs, below-more _ _ (c .before .before .before .before .loop .inv .1) (c .if1 .left))
+loop-again c = (search needs, below-more _ _ (c .before .before .before .before .loop .inv .1) (omega arith))
 
 returns-2 : tie.Need-returns-2 Inv-loop μ-loop
 returns-2 c = search unknown-nowhere
