@@ -18,7 +18,7 @@ use Rattle.table.specs.Exactly.{Exactly, exactly-true, exactly-false}
 use Rattle.encoding.specs.Messages.{messageOf}
 use Rattle.encoding.specs.Passes.{WordsBelow, Known}
 
--- A value that a sheet and a list give, and a sequence of its original words.
+-- A well-enlarged value, and a sequence of its original words.
 pub record Original (l : Limits) (e : Enlarged) (s : List ℕ) : Type 0 where
   pub well : WellEnlarged l e
   pub known : WordsBelow (e .originals) s (length s)
