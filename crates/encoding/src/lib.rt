@@ -2,31 +2,34 @@
 
 use code::Code;
 use code::Encoding;
+use code::Enlarged;
 use code::Message;
 use code::Refusal;
 use code::SymbolCount;
 use code::Word;
 use copying::copy_at;
+use enlargements::next_word;
 ghost use mathlib.Core.Path.{_≡_};
 ghost use Prim.Native.Nat.{_+_, _≤_, min};
 ghost use lib.ListN.{length};
 ghost use lib.Seq.{paste};
+ghost use Rattle.code.specs.Definitions.Enlarged.{originalTable};
 ghost use Rattle.code.specs.Definitions.Operations.{HasUnknown, HasForbidden, written, Encodes};
 ghost use Rattle.code.specs.Definitions.Sheets.{limits};
-ghost use Rattle.code.specs.Definitions.Tables.{tableOf};
+ghost use Rattle.enlargements.specs.WellEnlarged.{WellEnlarged};
 ghost use Rattle.table.specs.Exactly.{Exactly};
-ghost use Rattle.table.specs.WellFormed.{WellFormed};
 ghost use Rattle.encoding.specs.Messages.{messageOf};
-ghost use Rattle.encoding.specs.Passes.{Known, CannotBegin, HasBarred};
+ghost use Rattle.encoding.specs.Passes.{Known};
+ghost use Rattle.encoding.specs.Originals.{Original};
 
-// Refusal 9: some entry is no word's number.
-fn has_unknown(code: Code, words: &[u8]) -> bool
-    requires { ⌜ WellFormed limits code ⌝ }
-    ensures { λ r. ⌜ Exactly r (HasUnknown (tableOf code) (now (words .entry))) ⌝ }
+// Refusal 9: some entry is no original word's number.
+fn has_unknown(e: Enlarged, words: &[u8]) -> bool
+    requires { ⌜ WellEnlarged limits e ⌝ }
+    ensures { λ r. ⌜ Exactly r (HasUnknown (originalTable e) (now (words .entry))) ⌝ }
 {
     let mut i: usize = 0;
     while i < words.len() {
-        if code.count <= words[i] as usize {
+        if e.originals <= words[i] as usize {
             return true;
         }
         i += 1;
@@ -34,45 +37,35 @@ fn has_unknown(code: Code, words: &[u8]) -> bool
     false
 }
 
-// The first word may not begin a message.
-fn cannot_begin(code: Code, words: &[u8]) -> bool
-    requires { ⌜ Known limits code (now words) ⌝ }
-    ensures { λ r. ⌜ Exactly r (CannotBegin (tableOf code) (now (words .entry))) ⌝ }
+// Refusal 10: the first word may not begin, or some word may not come where it stands. The walk keeps the number that a word has after the one before it: what may
+// follow a copy obeys the bans, so one entry of the matrix decides about a pair and a triple.
+fn has_forbidden(e: Enlarged, words: &[u8]) -> bool
+    requires { ⌜ Original limits e (now words) ⌝ }
+    ensures { λ r. ⌜ Exactly r (HasForbidden (originalTable e) (now (words .entry))) ⌝ }
 {
     if words.len() == 0 {
         return false;
     }
-    let first = words[0] as usize;
-    code.begins[first] != 1
-}
-
-// Some word x may not come immediately after the word y before it.
-fn has_barred(code: Code, words: &[u8]) -> bool
-    requires { ⌜ Known limits code (now words) ⌝ }
-    ensures { λ r. ⌜ Exactly r (HasBarred (tableOf code) (now (words .entry))) ⌝ }
-{
+    let code = e.code;
+    let origins = e.origins;
+    let behind = e.behind;
+    let mut last = words[0] as usize;
+    if code.begins[last] != 1 {
+        return true;
+    }
     let mut i: usize = 0;
     while i + 1 < words.len() {
         let y = words[i] as usize;
         let x = words[i + 1] as usize;
-        let row = code.rows[x];
-        if row.entries[y] != 1 {
+        let next = next_word(&origins, &behind, e.originals, code.count, y, x);
+        let row = code.rows[next];
+        if row.entries[last] != 1 {
             return true;
         }
+        last = next;
         i += 1;
     }
     false
-}
-
-// Refusal 10: the first word may not begin, or some pair is not permitted.
-fn has_forbidden(code: Code, words: &[u8]) -> bool
-    requires { ⌜ Known limits code (now words) ⌝ }
-    ensures { λ r. ⌜ Exactly r (HasForbidden (tableOf code) (now (words .entry))) ⌝ }
-{
-    if cannot_begin(code, words) {
-        return true;
-    }
-    has_barred(code, words)
 }
 
 // The length of the message, and one more than the limit for a longer one: adding stops there.
@@ -118,25 +111,25 @@ fn write_message(code: Code, words: &[u8], message: &mut [u8])
 }
 
 // Encodes a sequence of word numbers: its message stands at the start of the buffer. Refused with 8, 9, 10, 11 or 13, it leaves the buffer as it was.
-pub fn encode(code: Code, words: &[u8], message: &mut [u8]) -> Encoding
-    ensures { λ r. ⌜ Encodes limits code (now (words .entry)) (now (message .entry)) (now (message .exit)) r ⌝ }
+pub fn encode(e: Enlarged, words: &[u8], message: &mut [u8]) -> Encoding
+    ensures { λ r. ⌜ Encodes limits e (now (words .entry)) (now (message .entry)) (now (message .exit)) r ⌝ }
 {
-    if !table::well_formed(code) {
+    if !enlargements::well_enlarged(e) {
         return Encoding::Refused(Refusal::NotFromSheet);
     }
-    if has_unknown(code, words) {
+    if has_unknown(e, words) {
         return Encoding::Refused(Refusal::UnknownWord);
     }
-    if has_forbidden(code, words) {
+    if has_forbidden(e, words) {
         return Encoding::Refused(Refusal::ForbiddenPair);
     }
-    let n = message_len(code, words);
+    let n = message_len(e.code, words);
     if Message::SYMBOLS < n {
         return Encoding::Refused(Refusal::MessageLength);
     }
     if message.len() < n {
         return Encoding::Refused(Refusal::ShortBuffer);
     }
-    write_message(code, words, message);
+    write_message(e.code, words, message);
     Encoding::Encoded(SymbolCount(n))
 }

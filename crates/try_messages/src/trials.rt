@@ -4,8 +4,8 @@ use crate::buffers;
 use crate::fields;
 use crate::lists;
 use crate::tables;
-use code::Code;
 use code::Encoding;
+use code::Enlarged;
 use code::Reading;
 use code::Refusal;
 use libc::STDOUT_FILENO;
@@ -45,19 +45,19 @@ fn write_encoding(answer: Encoding, message: &[u8]) -> usize {
     }
 }
 
-fn encode_in(code: Code, words: &[u8], message: &mut [u8]) {
-    let answer = encoding::encode(code, words, message);
+fn encode_in(value: Enlarged, words: &[u8], message: &mut [u8]) {
+    let answer = encoding::encode(value, words, message);
     let n = write_encoding(answer, message);
     buffers::write_kept(buffers::is_kept(message, n));
 }
 
 pub fn encode(line: &[u8]) {
-    let code = tables::of_trial(line, 4);
+    let value = enlargements::plain(tables::of_trial(line, 4));
     let mut words = [0u8; ENTRIES];
     let n = put_list(line, &mut words);
     let room = fields::number_within(line, 3, buffers::ROOM);
     let mut message = [buffers::BEFORE; buffers::ROOM];
-    encode_in(code, &words[0..n], &mut message[0..room]);
+    encode_in(value, &words[0..n], &mut message[0..room]);
 }
 
 // How many words of each reading are written.
@@ -106,15 +106,15 @@ fn write_both_kept(first: &[u8], second: &[u8], written: Written) {
     }
 }
 
-fn read_in(code: Code, message: &[u8], first: &mut [u8], second: &mut [u8], work: &mut [u64]) {
-    let answer = reading::read(code, message, first, second, work);
+fn read_in(value: Enlarged, message: &[u8], first: &mut [u8], second: &mut [u8], work: &mut [u64]) {
+    let answer = reading::read(value, message, first, second, work);
     let written = write_reading(answer, first, second);
     write_both_kept(first, second, written);
     buffers::write_work(work);
 }
 
 pub fn read(line: &[u8]) {
-    let code = tables::of_trial(line, 6);
+    let value = enlargements::plain(tables::of_trial(line, 6));
     let mut message = [0u8; ENTRIES];
     let n = put_list(line, &mut message);
     let a = fields::number_within(line, 3, buffers::ROOM);
@@ -124,7 +124,7 @@ pub fn read(line: &[u8]) {
     let mut second = [buffers::BEFORE; buffers::ROOM];
     let mut work = [buffers::WORK_BEFORE; buffers::ROOM];
     read_in(
-        code,
+        value,
         &message[0..n],
         &mut first[0..a],
         &mut second[0..b],

@@ -2,7 +2,7 @@
 use native.Mathlib.Omega.{arith}
 use borrow.Author.Needs.{needs}
 use Rattle.code.specs.Definitions.Sheets.{limits}
-use Rattle.encoding.specs.Ways.{way-8, sheet-well, way-9, all-known, way-10, way-11, way-13, way-encoded}
+use Rattle.encoding.specs.Ways.{way-8, lists-well, way-9, all-original, all-known, way-10, way-11, way-13, way-encoded}
 use Rattle.encoding.proofs.encode.Statement.{statement}
 use Rattle.encoding.proofs.encode.Tie as tie
 
@@ -10,13 +10,13 @@ returns : tie.Need-returns
 returns c = search (way-8 limits)
 
 has-unknown-requires : tie.Need-has-unknown-requires
-has-unknown-requires c κs = search (sheet-well limits)
+has-unknown-requires c κs = search (lists-well limits)
 
 returns-2 : tie.Need-returns-2
 returns-2 c = search (way-9 limits)
 
 has-forbidden-requires : tie.Need-has-forbidden-requires
-has-forbidden-requires c κs = search (all-known limits)
+has-forbidden-requires c κs = search (all-original limits)
 
 returns-3 : tie.Need-returns-3
 returns-3 c = search (way-10 limits)

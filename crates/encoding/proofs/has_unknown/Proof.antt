@@ -1,18 +1,19 @@
--- The loop keeps that the entries passed are words of the code.
+-- The loop keeps that the entries passed are original words.
 use Prim.Native.Nat.{_≤_, _-_}
 use native.Mathlib.Omega.{arith}
 use lib.ListN.{length}
 use borrow.Author.Count.{below-none, below-more}
 use borrow.Author.Needs.{needs}
-use Rattle.encoding.specs.Passes.{WordsBelow, unknown-here, unknown-nowhere}
+use Rattle.encoding.specs.Passes.{WordsBelow}
+use Rattle.encoding.specs.Originals.{unknown-here, unknown-nowhere}
 use Rattle.encoding.proofs.has_unknown.Statement.{statement}
 use Rattle.encoding.proofs.has_unknown.Tie as tie
 
 abbrev Inv-loop : tie.InvT-loop
-Inv-loop code words i₀ i = (i ≤ length words) × WordsBelow code words i
+Inv-loop e words i₀ i = (i ≤ length words) × WordsBelow (e .originals) words i
 
 abbrev μ-loop : tie.MeasureT-loop
-μ-loop code words i₀ i = length words - i
+μ-loop e words i₀ i = length words - i
 
 loop-holds : tie.Need-loop-holds Inv-loop μ-loop
 loop-holds c = (omega arith, below-none _)
@@ -26,7 +27,7 @@ returns c =
     unknown-here (start .pre) (start .args .words .now) (c .before .before .before .before .loop .i) (omega arith) (omega arith)
 
 loop-again : tie.Need-loop-again Inv-loop μ-loop
-loop-again c = (search needs, below-more _ _ (c .before .before .before .before .loop .inv .1) (c .if1 .left))
+loop-again c = (search needs, below-more _ _ (c .before .before .before .before .loop .inv .1) (omega arith))
 
 returns-2 : tie.Need-returns-2 Inv-loop μ-loop
 returns-2 c = search unknown-nowhere
