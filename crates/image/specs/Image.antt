@@ -1,7 +1,7 @@
 -- The image of a code with copies, a flat list of bytes, and the code that such a list holds.
 use mathlib.Core.Path.{_≡_}
 use mathlib.Core.List.{List, [], _∷_, _++_, flatMap}
-use Prim.Native.Nat.{ℕ, _+_, _*_, _≤_}
+use Prim.Native.Nat.{ℕ, _+_, _*_, _≤_, _<_}
 use lib.ListN.{length, getD}
 use Rattle.code.specs.declared.Word.{Word}
 use Rattle.code.specs.declared.Row.{Row}
@@ -9,7 +9,7 @@ use Rattle.code.specs.declared.Code.{Code}
 use Rattle.code.specs.declared.Enlarged.{Enlarged}
 use Rattle.code.specs.Definitions.Lists.{table}
 use Rattle.code.specs.Definitions.Sheets.{limits}
-use Rattle.table.specs.WellFormed.{WellFormed}
+use Rattle.code.specs.Definitions.Tables.{noWord, noRow}
 
 -- 32 words of 16 symbols and a length, 32 rows of 32 entries, 32 start marks, and the count: the bytes of a word, where the rows begin, where the marks begin,
 -- where the count stands, and all bytes of the code
@@ -56,9 +56,18 @@ codeBytes c = wordsBytes (c .words) ++ rowsBytes (c .rows) ++ c .begins ++ (c .c
 unfoldable pub imageOf : Enlarged → List ℕ
 imageOf e = codeBytes (e .code) ++ (e .originals ∷ []) ++ e .origins ++ e .behind
 
--- What an image can hold: a code as sheets give it, and as many originals as a byte can count.
+-- What an image can hold: arrays of their lengths, and numbers that fit a byte.
+pub record PackableCode (c : Code) : Type 0 where
+  pub words : length (c .words) ≡ limits .words
+  pub rows : length (c .rows) ≡ limits .words
+  pub begins : length (c .begins) ≡ limits .words
+  pub symbols : (k : ℕ) → k < limits .words → length (getD (c .words) k noWord .symbols) ≡ limits .symbols
+  pub len : (k : ℕ) → k < limits .words → getD (c .words) k noWord .len ≤ 255
+  pub entries : (x : ℕ) → x < limits .words → length (getD (c .rows) x noRow .entries) ≡ limits .words
+  pub count : c .count ≤ 255
+
 pub record Packable (e : Enlarged) : Type 0 where
-  pub code : WellFormed limits (e .code)
+  pub code : PackableCode (e .code)
   pub originals : e .originals ≤ 255
   pub origins : length (e .origins) ≡ limits .words
   pub behind : length (e .behind) ≡ limits .words

@@ -14,8 +14,7 @@ use Rattle.code.specs.Definitions.Sheets.{limits}
 use Rattle.code.specs.Definitions.Tables.{noWord, noRow}
 use Rattle.copying.specs.Copies.{paste-all}
 use Rattle.copying.specs.Runs.{sets-behind, sets-front}
-use Rattle.table.specs.WellFormed.{WellFormed}
-use Rattle.image.specs.Image.{wordWidth, rowsPlace, marksPlace, countPlace, codeLength, originsPlace, behindPlace, imageLength, wordBytes, rowBytes, wordsBytes, rowsBytes, codeBytes, imageOf, Packable}
+use Rattle.image.specs.Image.{wordWidth, rowsPlace, marksPlace, countPlace, codeLength, originsPlace, behindPlace, imageLength, wordBytes, rowBytes, wordsBytes, rowsBytes, codeBytes, imageOf, PackableCode, Packable}
 use Rattle.image.specs.Blocks.{blocks-length, blocks-next}
 
 pub word-stored : (w : Word) (d d′ : List ℕ) (at : ℕ) → length (w .symbols) ≡ 16 → at + wordWidth ≤ length d → d′ ≡ paste d at (w .symbols) 16
@@ -23,45 +22,45 @@ pub word-stored : (w : Word) (d d′ : List ℕ) (at : ℕ) → length (w .symbo
 word-stored w d d′ at long room e =
     rw (e, paste-all d (w .symbols) at 16 (sym long) (omega arith)) (sets-behind (w .symbols) (w .len ∷ []) d at (at + 16) (omega arith))
 
-module _ {c : Code} (well : WellFormed limits c) where
+module _ {c : Code} (fits : PackableCode c) where
   pub word-wide : (k : ℕ) → k < length (c .words) → length (wordBytes (getD (c .words) k noWord)) ≡ wordWidth
   word-wide k h =
       let w : Word = getD (c .words) k noWord in
-      let long = well .word k (omega (arith, well .words)) .array in
+      let long = fits .symbols k (omega (arith, fits .words)) in
       length-append (w .symbols) (w .len ∷ []) ∙ ap (λ (n : ℕ). n + 1) long
 
   pub row-wide : (k : ℕ) → k < length (c .rows) → length (rowBytes (getD (c .rows) k noRow)) ≡ 32
-  row-wide k h = well .row k (omega (arith, well .rows)) .array
+  row-wide k h = fits .entries k (omega (arith, fits .rows))
 
   -- One word more is stored, and one row more.
   pub words-next : (b d d′ : List ℕ) (k : ℕ) → k < 32 → d ≡ sets b 0 (wordsBytes (take k (c .words)))
       → d′ ≡ sets d (k * wordWidth) (wordBytes (getD (c .words) k noWord)) → d′ ≡ sets b 0 (wordsBytes (take (k + 1) (c .words)))
-  words-next b d d′ k h e n = n ∙ rw e (blocks-next wordBytes noWord wordWidth (c .words) word-wide b 0 (k * wordWidth) k (omega arith) (omega (arith, well .words)))
+  words-next b d d′ k h e n = n ∙ rw e (blocks-next wordBytes noWord wordWidth (c .words) word-wide b 0 (k * wordWidth) k (omega arith) (omega (arith, fits .words)))
 
   pub rows-next : (b d d′ : List ℕ) (k : ℕ) → k < 32 → codeLength ≤ length d → d ≡ sets b rowsPlace (rowsBytes (take k (c .rows)))
       → d′ ≡ paste d (rowsPlace + k * 32) (rowBytes (getD (c .rows) k noRow)) 32 → d′ ≡ sets b rowsPlace (rowsBytes (take (k + 1) (c .rows)))
   rows-next b d d′ k h room e n =
       n
-      ∙ paste-all d (rowBytes (getD (c .rows) k noRow)) (rowsPlace + k * 32) 32 (sym (row-wide k (omega (arith, well .rows)))) (omega arith)
-      ∙ rw e (blocks-next rowBytes noRow 32 (c .rows) row-wide b rowsPlace (rowsPlace + k * 32) k (omega arith) (omega (arith, well .rows)))
+      ∙ paste-all d (rowBytes (getD (c .rows) k noRow)) (rowsPlace + k * 32) 32 (sym (row-wide k (omega (arith, fits .rows)))) (omega arith)
+      ∙ rw e (blocks-next rowBytes noRow 32 (c .rows) row-wide b rowsPlace (rowsPlace + k * 32) k (omega arith) (omega (arith, fits .rows)))
 
   pub all-words : (k : ℕ) → 32 ≤ k → take k (c .words) ≡ c .words
-  all-words k h = take-all k (c .words) (omega (arith, well .words))
+  all-words k h = take-all k (c .words) (omega (arith, fits .words))
 
   pub all-rows : (k : ℕ) → 32 ≤ k → take k (c .rows) ≡ c .rows
-  all-rows k h = take-all k (c .rows) (omega (arith, well .rows))
+  all-rows k h = take-all k (c .rows) (omega (arith, fits .rows))
 
   pub length-words : length (wordsBytes (c .words)) ≡ rowsPlace
-  length-words = rw (all-words 32 (omega arith)) at (blocks-length wordBytes noWord wordWidth (c .words) word-wide 32 (omega (arith, well .words)))
+  length-words = rw (all-words 32 (omega arith)) at (blocks-length wordBytes noWord wordWidth (c .words) word-wide 32 (omega (arith, fits .words)))
 
   length-rows : length (rowsBytes (c .rows)) ≡ 1024
-  length-rows = rw (all-rows 32 (omega arith)) at (blocks-length rowBytes noRow 32 (c .rows) row-wide 32 (omega (arith, well .rows)))
+  length-rows = rw (all-rows 32 (omega arith)) at (blocks-length rowBytes noRow 32 (c .rows) row-wide 32 (omega (arith, fits .rows)))
 
   pub length-both : length (wordsBytes (c .words) ++ rowsBytes (c .rows)) ≡ marksPlace
   length-both = rw (length-append, length-words, length-rows)
 
   pub length-all : length (wordsBytes (c .words) ++ rowsBytes (c .rows) ++ c .begins) ≡ countPlace
-  length-all = omega (arith, length-append (wordsBytes (c .words) ++ rowsBytes (c .rows)) (c .begins), length-both, well .begins)
+  length-all = omega (arith, length-append (wordsBytes (c .words) ++ rowsBytes (c .rows)) (c .begins), length-both, fits .begins)
 
   pub length-code : length (codeBytes c) ≡ codeLength
   unfolding codeBytes
@@ -73,7 +72,7 @@ module _ {c : Code} (well : WellFormed limits c) where
     rows-length = ap length n ∙ length-sets w rowsPlace (rowsBytes (c .rows)) ∙ ap length e ∙ length-sets b 0 (wordsBytes (c .words))
 
     marks-stored : m ≡ sets r marksPlace (c .begins)
-    marks-stored = k ∙ paste-all r (c .begins) marksPlace 32 (sym (well .begins)) (omega (arith, rows-length))
+    marks-stored = k ∙ paste-all r (c .begins) marksPlace 32 (sym (fits .begins)) (omega (arith, rows-length))
 
     -- Words, rows, start marks and count are the bytes of the code.
     pub packed-code : set m countPlace (c .count) ≡ sets b 0 (codeBytes c)

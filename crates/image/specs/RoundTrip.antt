@@ -13,42 +13,41 @@ use Rattle.code.specs.Definitions.Lists.{table}
 use Rattle.code.specs.Definitions.Sheets.{limits}
 use Rattle.code.specs.Definitions.Tables.{noWord, noRow}
 use Rattle.code.specs.Laws.Lists.{table-list, table-more}
-use Rattle.table.specs.WellFormed.{WellFormed}
-use Rattle.image.specs.Image.{wordWidth, rowsPlace, marksPlace, countPlace, codeLength, originsPlace, behindPlace, imageLength, wordBytes, rowBytes, wordsBytes, rowsBytes, codeBytes, imageOf, Packable, byteFrom, wordNumber, rowNumber, codeIn, enlargedIn}
+use Rattle.image.specs.Image.{wordWidth, rowsPlace, marksPlace, countPlace, codeLength, originsPlace, behindPlace, imageLength, wordBytes, rowBytes, wordsBytes, rowsBytes, codeBytes, imageOf, PackableCode, Packable, byteFrom, wordNumber, rowNumber, codeIn, enlargedIn}
 use Rattle.image.specs.Blocks.{block-at, blocks-table}
 use Rattle.image.specs.Packing.{word-wide, row-wide, length-words, length-both, length-all, length-code, length-originals, length-origins}
 
-module _ {c : Code} (well : WellFormed limits c) (rest : List ℕ) where
+module _ {c : Code} (fits : PackableCode c) (rest : List ℕ) where
   word-byte : (k j : ℕ) → k < 32 → j < wordWidth → getD (codeBytes c ++ rest) (k * wordWidth + j) 0 ≡ getD (wordBytes (getD (c .words) k noWord)) j 0
   unfolding codeBytes
   word-byte k j h i =
       rw (append-assoc, append-assoc, append-assoc)
-      (block-at wordBytes noWord wordWidth (c .words) (word-wide well) (rowsBytes (c .rows) ++ (c .begins ++ ((c .count ∷ []) ++ rest))) k j (omega (arith, well .words)) i)
+      (block-at wordBytes noWord wordWidth (c .words) (word-wide fits) (rowsBytes (c .rows) ++ (c .begins ++ ((c .count ∷ []) ++ rest))) k j (omega (arith, fits .words)) i)
 
   row-byte : (k j : ℕ) → k < 32 → j < 32 → getD (codeBytes c ++ rest) (rowsPlace + k * 32 + j) 0 ≡ getD (rowBytes (getD (c .rows) k noRow)) j 0
   unfolding codeBytes
   row-byte k j h i =
-      let at : rowsPlace + k * 32 + j ≡ length (wordsBytes (c .words)) + (k * 32 + j) = omega (arith, length-words well) in
+      let at : rowsPlace + k * 32 + j ≡ length (wordsBytes (c .words)) + (k * 32 + j) = omega (arith, length-words fits) in
       rw (append-assoc, append-assoc, append-assoc, at)
       (getD-append-add (wordsBytes (c .words)) (rowsBytes (c .rows) ++ (c .begins ++ ((c .count ∷ []) ++ rest))) (k * 32 + j) 0
-      ∙ block-at rowBytes noRow 32 (c .rows) (row-wide well) (c .begins ++ ((c .count ∷ []) ++ rest)) k j (omega (arith, well .rows)) i)
+      ∙ block-at rowBytes noRow 32 (c .rows) (row-wide fits) (c .begins ++ ((c .count ∷ []) ++ rest)) k j (omega (arith, fits .rows)) i)
 
   mark-byte : (k : ℕ) → k < 32 → getD (codeBytes c ++ rest) (marksPlace + k) 0 ≡ getD (c .begins) k 0
   unfolding codeBytes
   mark-byte k h =
-      let at : marksPlace + k ≡ length (wordsBytes (c .words) ++ rowsBytes (c .rows)) + k = omega (arith, length-both well) in
+      let at : marksPlace + k ≡ length (wordsBytes (c .words) ++ rowsBytes (c .rows)) + k = omega (arith, length-both fits) in
       rw (append-assoc, append-assoc, at)
       (getD-append-add (wordsBytes (c .words) ++ rowsBytes (c .rows)) (c .begins ++ ((c .count ∷ []) ++ rest)) k 0
-      ∙ List·getD-append (c .begins) ((c .count ∷ []) ++ rest) 0 k (omega (arith, well .begins)))
+      ∙ List·getD-append (c .begins) ((c .count ∷ []) ++ rest) 0 k (omega (arith, fits .begins)))
 
   count-byte : getD (codeBytes c ++ rest) countPlace 0 ≡ c .count
   unfolding codeBytes
-  count-byte = rw append-assoc (getD-at (wordsBytes (c .words) ++ rowsBytes (c .rows) ++ c .begins) (c .count) rest 0 countPlace (length-all well))
+  count-byte = rw append-assoc (getD-at (wordsBytes (c .words) ++ rowsBytes (c .rows) ++ c .begins) (c .count) rest 0 countPlace (length-all fits))
 
   word-same : (k : ℕ) → k < 32 → wordNumber (codeBytes c ++ rest) k ≡ getD (c .words) k noWord
   word-same k h =
       let w : Word = getD (c .words) k noWord in
-      let long = well .word k h .array in
+      let long = fits .symbols k h in
       let symbols-same = table-list (byteFrom (codeBytes c ++ rest) (k * wordWidth)) 16 (w .symbols) 0 long
       (λ j i. word-byte k j h (omega arith) ∙ List·getD-append (w .symbols) (w .len ∷ []) 0 j (omega arith)) in
       let len-same = word-byte k 16 h (omega arith) ∙ getD-at (w .symbols) (w .len) [] 0 16 long in
@@ -57,16 +56,16 @@ module _ {c : Code} (well : WellFormed limits c) (rest : List ℕ) where
   row-same : (k : ℕ) → k < 32 → rowNumber (codeBytes c ++ rest) k ≡ getD (c .rows) k noRow
   row-same k h =
       let r : Row = getD (c .rows) k noRow in
-      let entries-same = table-list (byteFrom (codeBytes c ++ rest) (rowsPlace + k * 32)) 32 (r .entries) 0 (well .row k h .array) (λ j i. row-byte k j h i) in
+      let entries-same = table-list (byteFrom (codeBytes c ++ rest) (rowsPlace + k * 32)) 32 (r .entries) 0 (fits .entries k h) (λ j i. row-byte k j h i) in
       rw entries-same
 
-  -- A code that a sheet gives is what its bytes hold.
+  -- A code is what its bytes hold.
   code-holds : codeIn (codeBytes c ++ rest) ≡ c
   unfolding codeIn
   code-holds =
-      let words-same = table-list (wordNumber (codeBytes c ++ rest)) 32 (c .words) noWord (well .words) word-same in
-      let rows-same = table-list (rowNumber (codeBytes c ++ rest)) 32 (c .rows) noRow (well .rows) row-same in
-      let marks-same = table-list (byteFrom (codeBytes c ++ rest) marksPlace) 32 (c .begins) 0 (well .begins) mark-byte in
+      let words-same = table-list (wordNumber (codeBytes c ++ rest)) 32 (c .words) noWord (fits .words) word-same in
+      let rows-same = table-list (rowNumber (codeBytes c ++ rest)) 32 (c .rows) noRow (fits .rows) row-same in
+      let marks-same = table-list (byteFrom (codeBytes c ++ rest) marksPlace) 32 (c .begins) 0 (fits .begins) mark-byte in
       rw (words-same, rows-same, marks-same, count-byte)
 
 module _ {e : Enlarged} (fits : Packable e) (rest : List ℕ) where

@@ -12,8 +12,7 @@ ghost use lib.ListN.{length};
 ghost use lib.Seq.{sets};
 ghost use Rattle.code.specs.Definitions.Operations.{written};
 ghost use Rattle.code.specs.Definitions.Sheets.{limits};
-ghost use Rattle.table.specs.WellFormed.{WellFormed};
-ghost use Rattle.image.specs.Image.{wordWidth, rowsPlace, codeLength, imageLength, wordBytes, rowsBytes, wordsBytes, codeBytes, imageOf, Packable, wordIn, rowIn, codeIn, enlargedIn};
+ghost use Rattle.image.specs.Image.{wordWidth, rowsPlace, codeLength, imageLength, wordBytes, rowsBytes, wordsBytes, codeBytes, imageOf, PackableCode, Packable, wordIn, rowIn, codeIn, enlargedIn};
 
 pub struct Image {}
 
@@ -48,7 +47,7 @@ fn put_word(w: Word, table: &mut [u8], at: usize)
 
 // Stores the words at the start.
 fn put_words(code: Code, table: &mut [u8])
-    requires { ⌜ WellFormed limits code × (codeLength ≤ length (now table)) ⌝ }
+    requires { ⌜ PackableCode code × (codeLength ≤ length (now table)) ⌝ }
     ensures { λ _. ⌜ now (table .exit) ≡ sets (now (table .entry)) 0 (wordsBytes (code .words)) ⌝ }
 {
     let mut k: usize = 0;
@@ -61,7 +60,7 @@ fn put_words(code: Code, table: &mut [u8])
 
 // Stores the rows behind the words.
 fn put_rows(code: Code, table: &mut [u8])
-    requires { ⌜ WellFormed limits code × (codeLength ≤ length (now table)) ⌝ }
+    requires { ⌜ PackableCode code × (codeLength ≤ length (now table)) ⌝ }
     ensures { λ _. ⌜ now (table .exit) ≡ sets (now (table .entry)) rowsPlace (rowsBytes (code .rows)) ⌝ }
 {
     let mut k: usize = 0;
@@ -75,7 +74,7 @@ fn put_rows(code: Code, table: &mut [u8])
 
 // Stores a code at the start.
 fn pack_code(code: Code, table: &mut [u8])
-    requires { ⌜ WellFormed limits code × (codeLength ≤ length (now table)) ⌝ }
+    requires { ⌜ PackableCode code × (codeLength ≤ length (now table)) ⌝ }
     ensures { λ _. ⌜ now (table .exit) ≡ sets (now (table .entry)) 0 (codeBytes code) ⌝ }
 {
     put_words(code, table);
