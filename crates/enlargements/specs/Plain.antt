@@ -1,9 +1,10 @@
--- A table of a sheet, as the value without copies that it is, is well-enlarged.
-use mathlib.Core.Path.{_≡_, refl}
+-- A table of a sheet, as the value without copies that it is, is well-enlarged; and how such a value is filled in.
+use mathlib.Core.Path.{_≡_, refl, _∙_}
 use mathlib.Core.Bool.{true}
-use mathlib.Core.List.{[]}
-use Prim.Native.Nat.{ℕ, _-_, _<_}
+use mathlib.Core.List.{List, [], _++_}
+use Prim.Native.Nat.{ℕ, _+_, _-_, _≤_, _<_}
 use native.Mathlib.Omega.{arith}
+use lib.ListN.{length, drop, set, replicate, length-set, length-replicate}
 use Rattle.code.specs.declared.Code.{Code}
 use Rattle.code.specs.declared.Enlarged.{Enlarged}
 use Rattle.code.specs.declared.Limits.{Limits}
@@ -11,6 +12,7 @@ use Rattle.code.specs.Definitions.Lists.{any, table}
 use Rattle.code.specs.Definitions.Tables.{tableOf}
 use Rattle.code.specs.Definitions.Bans.{hasCopy, origin, standsAfter}
 use Rattle.code.specs.Definitions.Enlarged.{plainOf, copiesIn}
+use Rattle.code.specs.Laws.Filling.{fill-next, fill-rest}
 use Rattle.code.specs.Laws.Lists.{length-table, getD-table}
 use Rattle.copies.specs.CopyLists.{origin-word, origin-copy, next-stands, next-itself}
 use Rattle.copies.specs.Enlargements.{Fair}
@@ -68,3 +70,21 @@ module _ {l : Limits} {c : Code} (given : WellFormed l c) where
     copy = λ x h k. absurd (omega arith);
     fair = plain-fair (plainOf l c) refl;
   }
+
+-- Filling in the origins of a table without copies: the first x of them stand there.
+module _ (l : Limits) (n : ℕ) where
+  abbrev pub OwnTo : List ℕ → ℕ → Type 0
+  OwnTo now x = (x ≤ l .words) × (length now ≡ l .words) × (now ≡ table (origin n []) x ++ drop x (replicate (l .words) 0))
+
+  pub own-none : OwnTo (replicate (l .words) 0) 0
+  unfolding table
+  own-none = (omega arith, length-replicate {A = ℕ} (l .words) 0, refl)
+
+  pub own-more : {now : List ℕ} {x : ℕ} → OwnTo now x → x < l .words → (v : ℕ) → v ≡ origin n [] x → OwnTo (set now x v) (x + 1)
+  own-more {now} {x} own h v e =
+      let zeros = length-replicate {A = ℕ} (l .words) 0 in
+      (omega arith, length-set now x v ∙ own .1, rw (own .2, e) (fill-next (origin n []) (replicate (l .words) 0) x (omega arith)))
+
+  pub own-all : {now : List ℕ} {x : ℕ} → OwnTo now x → l .words ≤ x → now ≡ table (origin n []) (l .words)
+  own-all {now} {x} own h =
+      own .2 ∙ fill-rest (origin n []) (replicate (l .words) 0) 0 x (l .words) (length-replicate {A = ℕ} (l .words) 0) (λ k a b. absurd (omega arith)) (own .0)

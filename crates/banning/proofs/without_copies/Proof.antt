@@ -10,7 +10,7 @@ returns : tie.Need-returns
 returns c = tested-all (omega arith) (c .before .before .before .well-enlarged .ensures) (c .before .before .if1 .taken)
 
 returns-2 : tie.Need-returns-2
-returns-2 c = tested-not (omega arith) limits-lists (c .before .before .before .well-enlarged .ensures) (c .before .before .if1 .left)
+returns-2 c = tested-not (omega arith) limits-lists (c .before .well-enlarged .ensures) (c .if1 .left)
 
 pub without-copies-spec : {M : Type 1} → statement M
 without-copies-spec = tie.close (tie.spec (λ c κs. search needs) returns returns-2)
