@@ -5,7 +5,8 @@ use mathlib.Core.List.{List, [], _∷_, _++_}
 use Prim.Native.Nat.{ℕ, _≤_, _<_, min}
 use lib.Dec.{ltb}
 use lib.ListN.{length}
-use Rattle.code.specs.declared.Code.{Code}
+use Rattle.code.specs.declared.Enlarged.{Enlarged}
+use Rattle.code.specs.declared.Enlargement.{Enlargement}
 use Rattle.code.specs.declared.Refusal.{Refusal}
 use Rattle.code.specs.declared.Refusal.the-variants.{ShortBuffer}
 use Rattle.code.specs.declared.SheetAnswer.{SheetAnswer}
@@ -14,29 +15,39 @@ use Rattle.code.specs.declared.Encoding.{Encoding}
 use Rattle.code.specs.declared.Reading.{Reading}
 use Rattle.code.specs.declared.Judgement.{Judgement}
 use Rattle.code.specs.Definitions.Answers.{refusalNumber}
+use Rattle.code.specs.Definitions.Enlarged.{plainOf}
 use Rattle.code.specs.Definitions.Lists.{if_then_else_}
-use Rattle.code.specs.Definitions.Operations.{Condition, Lowest, written, encodingConditions, readingConditions, verdictConditions, Encodes, ReadsMessage, Judges}
+use Rattle.code.specs.Definitions.Operations.{Condition, Lowest, written, encodingConditions, readingConditions, verdictConditions, Enlarges, Encodes, ReadsMessage, Judges}
 use Rattle.code.specs.Definitions.Sheets.{limits, taken}
-use Rattle.image.specs.Image.{imageLength, imageOf, codeIn}
+use Rattle.image.specs.Image.{imageLength, imageOf, enlargedIn}
 use Rattle.answers.specs.Answers.{answerLength, encodingNumber, encodingEntries, readingNumber, readingEntries, judgementNumber, judgementEntries}
 
 abbrev pub shortNumber : ℕ
 shortNumber = refusalNumber ShortBuffer
 
--- Where the buffer for the table is too short, 13 holds beside the sheet's own refusal, which is below it or, for a start field, above.
+-- Where the buffer for the table is too short, 13 holds beside the own refusal of a sheet or a ban list, which is below it or, from 15 on, above.
 abbrev pub sheetNumber : SheetAnswer → List ℕ → ℕ
 sheetNumber Accepted b = if ltb (length b) imageLength then shortNumber else 0
 sheetNumber (Refused r) b = if ltb (length b) imageLength then min (refusalNumber r) shortNumber else refusalNumber r
 
--- An accepted sheet's table is written as its image; a refusal changes nothing.
-abbrev pub afterSheet : SheetAnswer → Code → List ℕ → List ℕ
-afterSheet Accepted c b = if ltb (length b) imageLength then b else written (imageOf c) b
-afterSheet (Refused r) c b = b
+-- The table of an accepted sheet or list is written as its image; a refusal changes nothing.
+abbrev pub afterSheet : SheetAnswer → Enlarged → List ℕ → List ℕ
+afterSheet Accepted e b = if ltb (length b) imageLength then b else written (imageOf e) b
+afterSheet (Refused r) e b = b
+
+-- The answer a to a sheet or a list, which gives the value e, with the buffer b for the table.
+pub record Answered (a : SheetAnswer) (e : Enlarged) (b b′ : List ℕ) (r : ℕ) : Type 0 where
+  pub number : r ≡ sheetNumber a b
+  pub table : b′ ≡ afterSheet a e b
 
 -- Taking in the sheet s, with the buffer b for the table.
-pub record TakesIn (s b b′ : List ℕ) (r : ℕ) : Type 0 where
-  pub number : r ≡ sheetNumber (taken limits s .answer) b
-  pub table : b′ ≡ afterSheet (taken limits s .answer) (taken limits s .code) b
+abbrev pub TakesIn : (s b b′ : List ℕ) → ℕ → Type 0
+TakesIn s b b′ r = Answered (taken limits s .answer) (plainOf limits (taken limits s .code)) b b′ r
+
+-- Enlarging the table in t by the ban list s, with the buffer b for the enlarged table.
+pub data EnlargeCall (t s b b′ : List ℕ) (r : ℕ) : Type 0 where
+  unread : length t < imageLength → r ≡ shortNumber → b′ ≡ b → EnlargeCall t s b b′ r
+  answered : {x : Enlargement} → imageLength ≤ length t → Enlarges limits (enlargedIn t) s x → Answered (x .answer) (x .enlarged) b b′ r → EnlargeCall t s b b′ r
 
 -- The answer is too short to be told, whatever the other buffers are.
 abbrev pub noAnswer : Condition
@@ -51,22 +62,22 @@ pub record Untold (conditions : List Condition) (r : ℕ) : Type 0 where
 -- Encoding the sequence s by the table in t into the buffer m, with the buffer a for the answer.
 pub data EncodeCall (t s m a m′ a′ : List ℕ) (r : ℕ) : Type 0 where
   unread : length t < imageLength → r ≡ shortNumber → m′ ≡ m → a′ ≡ a → EncodeCall t s m a m′ a′ r
-  untold : imageLength ≤ length t → length a < answerLength → Untold (encodingConditions limits (codeIn t) s []) r → m′ ≡ m → a′ ≡ a → EncodeCall t s m a m′ a′ r
-  answered : {e : Encoding} → imageLength ≤ length t → answerLength ≤ length a → Encodes limits (codeIn t) s m m′ e → r ≡ encodingNumber e
+  untold : imageLength ≤ length t → length a < answerLength → Untold (encodingConditions limits (enlargedIn t) s []) r → m′ ≡ m → a′ ≡ a → EncodeCall t s m a m′ a′ r
+  answered : {e : Encoding} → imageLength ≤ length t → answerLength ≤ length a → Encodes limits (enlargedIn t) s m m′ e → r ≡ encodingNumber e
       → a′ ≡ written (encodingEntries e) a → EncodeCall t s m a m′ a′ r
 
 -- Reading the message m by the table in t into the buffers f and g, with the working buffer w and the buffer a for the answer.
 pub data ReadCall (t m f g w a f′ g′ w′ a′ : List ℕ) (r : ℕ) : Type 0 where
   unread : length t < imageLength → r ≡ shortNumber → f′ ≡ f → g′ ≡ g → w′ ≡ w → a′ ≡ a → ReadCall t m f g w a f′ g′ w′ a′ r
-  untold : imageLength ≤ length t → length a < answerLength → Untold (readingConditions limits (codeIn t) m [] [] []) r → f′ ≡ f → g′ ≡ g → w′ ≡ w → a′ ≡ a
+  untold : imageLength ≤ length t → length a < answerLength → Untold (readingConditions limits (enlargedIn t) m [] [] []) r → f′ ≡ f → g′ ≡ g → w′ ≡ w → a′ ≡ a
       → ReadCall t m f g w a f′ g′ w′ a′ r
-  answered : {e : Reading} → imageLength ≤ length t → answerLength ≤ length a → ReadsMessage limits (codeIn t) m f g w f′ g′ w′ e → r ≡ readingNumber e
+  answered : {e : Reading} → imageLength ≤ length t → answerLength ≤ length a → ReadsMessage limits (enlargedIn t) m f g w f′ g′ w′ e → r ≡ readingNumber e
       → a′ ≡ written (readingEntries e) a → ReadCall t m f g w a f′ g′ w′ a′ r
 
 -- The verdict on the table in t, with the message buffer m, the reading buffers f and g, the working buffer w and the buffer a for the answer.
 pub data VerdictCall (t m f g w a m′ f′ g′ w′ a′ : List ℕ) (r : ℕ) : Type 0 where
   unread : length t < imageLength → r ≡ shortNumber → m′ ≡ m → f′ ≡ f → g′ ≡ g → w′ ≡ w → a′ ≡ a → VerdictCall t m f g w a m′ f′ g′ w′ a′ r
-  untold : imageLength ≤ length t → length a < answerLength → Untold (verdictConditions limits (codeIn t) [] [] [] []) r → m′ ≡ m → f′ ≡ f → g′ ≡ g → w′ ≡ w → a′ ≡ a
+  untold : imageLength ≤ length t → length a < answerLength → Untold (verdictConditions limits (enlargedIn t) [] [] [] []) r → m′ ≡ m → f′ ≡ f → g′ ≡ g → w′ ≡ w → a′ ≡ a
       → VerdictCall t m f g w a m′ f′ g′ w′ a′ r
-  answered : {e : Judgement} → imageLength ≤ length t → answerLength ≤ length a → Judges limits (codeIn t) m f g w m′ f′ g′ w′ e → r ≡ judgementNumber e
+  answered : {e : Judgement} → imageLength ≤ length t → answerLength ≤ length a → Judges limits (enlargedIn t) m f g w m′ f′ g′ w′ e → r ≡ judgementNumber e
       → a′ ≡ written (judgementEntries e) a → VerdictCall t m f g w a m′ f′ g′ w′ a′ r

@@ -1,4 +1,4 @@
--- From call to call: the table that taking in a sheet leaves in a buffer is the one that the other functions find there.
+-- From call to call: the table that taking in a sheet, or enlarging by a ban list, leaves in a buffer is the one that the other functions find there.
 use mathlib.Core.Path.{_≡_, refl}
 use Prim.Native.Nat.{ℕ, _≤_, _<_}
 use mathlib.Core.List.{List}
@@ -6,16 +6,19 @@ use native.Mathlib.Omega.{arith}
 use native.Mathlib.Decide.{decLt}
 use lib.ListN.{length, drop}
 use borrow.Author.Tests.{lt-ltb, le-ltb}
+use Rattle.code.specs.declared.Enlarged.{Enlarged}
 use Rattle.code.specs.declared.Refusal.{Refusal}
 use Rattle.code.specs.declared.Refusal.the-variants.{SheetLength, SheetBytes, RecordCount, WordLength, CodeLength, FieldCount, RowEntry, NotFromSheet, UnknownWord, ForbiddenPair, MessageLength, MessageSymbol, ShortBuffer, NoReading, StartField, BanRecord, BanLimit}
 use Rattle.code.specs.declared.SheetAnswer.{SheetAnswer}
 use Rattle.code.specs.declared.SheetAnswer.the-variants.{Accepted, Refused}
 use Rattle.code.specs.Definitions.Answers.{refusalNumber}
+use Rattle.code.specs.Definitions.Enlarged.{plainOf}
+use Rattle.code.specs.Definitions.Operations.{Enlarges, FromLists}
 use Rattle.code.specs.Definitions.Sheets.{limits, taken}
-use Rattle.image.specs.Image.{imageLength, imageOf, codeIn}
-use Rattle.furlazon.specs.Calls.{sheetNumber, TakesIn}
+use Rattle.image.specs.Image.{imageLength, imageOf, Packable, enlargedIn}
 use Rattle.image.specs.RoundTrip.{image-holds}
-use Rattle.furlazon.specs.Ways.{accepted-well}
+use Rattle.furlazon.specs.Calls.{sheetNumber, Answered, TakesIn, EnlargeCall}
+use Rattle.furlazon.specs.Packs.{sheet-packs, list-accepted, list-packs}
 
 some-number : (r : Refusal) → 1 ≤ refusalNumber r
 some-number SheetLength = omega arith
@@ -42,9 +45,22 @@ accepted Accepted b e (no h) = (refl, omega arith)
 accepted (Refused r) b e (yes h) = let n = rw (lt-ltb (length b) imageLength h) at e in absurd (omega (arith, some-number r))
 accepted (Refused r) b e (no h) = let n = rw (le-ltb (length b) imageLength (omega arith)) at e in absurd (omega (arith, some-number r))
 
--- After a 0, the sheet was accepted, and the buffer holds its code.
-pub sheet-held : (s b b′ : List ℕ) → TakesIn s b b′ 0 → (taken limits s .answer ≡ Accepted) × (codeIn b′ ≡ taken limits s .code)
-sheet-held s b b′ call =
-    let a = accepted (taken limits s .answer) b (call .number) (decLt (length b) imageLength) in
-    let image = rw (a .0, le-ltb (length b) imageLength (a .1)) at (call .table) in
-    (a .0, rw image (image-holds (accepted-well s b (taken limits s) refl (a .0)) (drop (length (imageOf (taken limits s .code))) b)))
+-- After a 0, the sheet or the list was accepted, and the buffer holds what it gives.
+held : {a : SheetAnswer} {e : Enlarged} {b b′ : List ℕ} → Answered a e b b′ 0 → (a ≡ Accepted → Packable e) → (a ≡ Accepted) × (enlargedIn b′ ≡ e)
+held {a} {e} {b} call fits =
+    let d = accepted a b (call .number) (decLt (length b) imageLength) in
+    let image = rw (d .0, le-ltb (length b) imageLength (d .1)) at (call .table) in
+    (d .0, rw image (image-holds (fits (d .0)) (drop (length (imageOf e)) b)))
+
+pub sheet-held : (s : List ℕ) {b b′ : List ℕ} → TakesIn s b b′ 0 → (taken limits s .answer ≡ Accepted) × (enlargedIn b′ ≡ plainOf limits (taken limits s .code))
+sheet-held s call = held call (sheet-packs s refl refl)
+
+pub list-held : {t s b b′ : List ℕ} → EnlargeCall t s b b′ 0 → Enlarges limits (enlargedIn t) s (record { answer = Accepted; enlarged = enlargedIn b′ })
+list-held (EnlargeCall.unread h e k) = absurd (omega arith)
+list-held (EnlargeCall.answered h g call) = let d = held call (list-packs g) in rw (d .1) (list-accepted g (d .0))
+
+-- What a sheet and then a list leave is not refused 8.
+pub both-held : (s : List ℕ) {t b u d d′ : List ℕ} → TakesIn s b t 0 → EnlargeCall t u d d′ 0 → FromLists limits (enlargedIn d′)
+both-held s {u = u} first second =
+    let a = sheet-held s first in
+    record { table = taken limits s .code; given = record { sheet = s; gives = rw (a .0) }; list = u; gives = rw (a .1) at (list-held second) }

@@ -1,4 +1,5 @@
 pub mod Calls
 pub mod Untold
 pub mod Ways
+pub mod Packs
 pub mod Held

@@ -4,7 +4,7 @@ use mathlib.Core.List.{List, [], _∷_, _++_}
 use mathlib.Core.Logic.{inl, inr}
 use Prim.Native.Nat.{ℕ}
 use native.Mathlib.Omega.{arith}
-use Rattle.code.specs.declared.Code.{Code}
+use Rattle.code.specs.declared.Enlarged.{Enlarged}
 use Rattle.code.specs.declared.Refusal.{Refusal}
 use Rattle.code.specs.declared.Refusal.the-variants.{ShortBuffer}
 use Rattle.code.specs.declared.Encoding.{Encoding}
@@ -38,7 +38,7 @@ abbrev untoldEncoding : Encoding → ℕ
 untoldEncoding (Encoded k) = shortNumber
 untoldEncoding (Not-encoded r) = refusalNumber r
 
-pub untold-encoding : {c : Code} {s b : List ℕ} {e : Encoding} {n : ℕ} → Encodes limits c s [] b e → n ≡ untoldEncoding e → Untold (encodingConditions limits c s []) n
+pub untold-encoding : {v : Enlarged} {s b : List ℕ} {e : Encoding} {n : ℕ} → Encodes limits v s [] b e → n ≡ untoldEncoding e → Untold (encodingConditions limits v s []) n
 untold-encoding (Encodes.refused {r} h k) = untold-refused r _ h
 untold-encoding (Encodes.encoded h k w) = untold-none _ h
 
@@ -48,8 +48,8 @@ untoldReading (Two k l) = shortNumber
 untoldReading (Not-read r) = refusalNumber r
 
 -- Reading needs an entry of the working buffer even for the empty message, so it does not get as far as 14.
-pub untold-reading : {c : Code} {m f g w : List ℕ} {e : Reading} {n : ℕ} → ReadsMessage limits c m [] [] [] f g w e → n ≡ untoldReading e
-    → Untold (readingConditions limits c m [] [] []) n
+pub untold-reading : {v : Enlarged} {m f g w : List ℕ} {e : Reading} {n : ℕ} → ReadsMessage limits v m [] [] [] f g w e → n ≡ untoldReading e
+    → Untold (readingConditions limits v m [] [] []) n
 untold-reading (ReadsMessage.refused {r} h i j k) = untold-refused r _ h
 untold-reading (ReadsMessage.unreadable h none i j k) = absurd (h .1 .1 .1 .0 (inr (inr (omega arith))))
 untold-reading (ReadsMessage.one h only l i j k) = untold-none _ h
@@ -59,7 +59,7 @@ abbrev untoldVerdict : Judgement → ℕ
 untoldVerdict (Judged v) = shortNumber
 untoldVerdict (Not-judged r) = refusalNumber r
 
-pub untold-verdict : {c : Code} {m f g w : List ℕ} {e : Judgement} {n : ℕ} → Judges limits c [] [] [] [] m f g w e → n ≡ untoldVerdict e
-    → Untold (verdictConditions limits c [] [] [] []) n
+pub untold-verdict : {v : Enlarged} {m f g w : List ℕ} {e : Judgement} {n : ℕ} → Judges limits v [] [] [] [] m f g w e → n ≡ untoldVerdict e
+    → Untold (verdictConditions limits v [] [] [] []) n
 untold-verdict (Judges.refused {r} h i j k l) = untold-refused r _ h
 untold-verdict (Judges.judged x s u h means shown k) = untold-none _ h

@@ -7,38 +7,47 @@ use native.Mathlib.Omega.{arith}
 use lib.Dec.{ltb}
 use lib.ListN.{length}
 use borrow.Author.Tests.{lt-ltb, le-ltb, ltb-true, ltb-false}
-use Rattle.code.specs.declared.Code.{Code}
+use Rattle.code.specs.declared.Enlarged.{Enlarged}
+use Rattle.code.specs.declared.Enlargement.{Enlargement}
 use Rattle.code.specs.declared.Taken.{Taken}
 use Rattle.code.specs.declared.Refusal.{Refusal}
+use Rattle.code.specs.declared.SheetAnswer.{SheetAnswer}
 use Rattle.code.specs.declared.SheetAnswer.the-variants.{Accepted, Refused}
 use Rattle.code.specs.declared.Encoding.{Encoding}
 use Rattle.code.specs.declared.Reading.{Reading}
 use Rattle.code.specs.declared.Judgement.{Judgement}
 use Rattle.code.specs.Definitions.Answers.{refusalNumber}
+use Rattle.code.specs.Definitions.Enlarged.{plainOf}
 use Rattle.code.specs.Definitions.Lists.{if_then_else_}
-use Rattle.code.specs.Definitions.Operations.{written, encodingConditions, readingConditions, verdictConditions, Encodes, ReadsMessage, Judges}
+use Rattle.code.specs.Definitions.Operations.{written, encodingConditions, readingConditions, verdictConditions, Enlarges, Encodes, ReadsMessage, Judges}
 use Rattle.code.specs.Definitions.Sheets.{limits, taken}
-use Rattle.table.specs.Given.{well}
-use Rattle.table.specs.WellFormed.{WellFormed}
-use Rattle.image.specs.Image.{imageLength, imageOf, codeIn}
+use Rattle.image.specs.Image.{imageLength, imageOf, enlargedIn}
 use Rattle.answers.specs.Answers.{answerLength, encodingNumber, encodingEntries, readingNumber, readingEntries, judgementNumber, judgementEntries}
-use Rattle.furlazon.specs.Calls.{shortNumber, TakesIn, Untold, EncodeCall, ReadCall, VerdictCall}
+use Rattle.furlazon.specs.Calls.{shortNumber, Answered, TakesIn, EnlargeCall, Untold, EncodeCall, ReadCall, VerdictCall}
 
--- Taking in a sheet
+-- Answering a sheet or a ban list
 
-module _ (s b : List ℕ) (t : Taken) (gives : t ≡ taken limits s) where
-  pub accepted-well : t .answer ≡ Accepted → WellFormed limits (t .code)
-  accepted-well a = well (record { sheet = s; gives = sym gives ∙ rw a })
+module _ {a : SheetAnswer} {e : Enlarged} {b : List ℕ} where
+  pub table-short : {n : ℕ} → a ≡ Accepted → length b < imageLength → n ≡ shortNumber → Answered a e b b n
+  table-short d h k = let l = lt-ltb (length b) imageLength h in record { number = rw (d, l) k; table = rw (d, l) }
 
-  pub sheet-short : (n : ℕ) → t .answer ≡ Accepted → length b < imageLength → n ≡ shortNumber → TakesIn s b b n
-  sheet-short n a h e = let l = lt-ltb (length b) imageLength h in record { number = rw (← gives, a, l) e; table = rw (← gives, a, l) }
+  pub table-written : {b′ : List ℕ} → a ≡ Accepted → imageLength ≤ length b → b′ ≡ written (imageOf e) b → Answered a e b b′ 0
+  table-written d h k = let l = le-ltb (length b) imageLength h in record { number = rw (d, l); table = rw (d, l) k }
 
-  pub sheet-accepted : (b′ : List ℕ) → t .answer ≡ Accepted → imageLength ≤ length b → b′ ≡ written (imageOf (t .code)) b → TakesIn s b b′ 0
-  sheet-accepted b′ a h e = let l = le-ltb (length b) imageLength h in record { number = rw (← gives, a, l); table = rw (← gives, a, l) e }
+  pub table-refused : {r : Refusal} {k n : ℕ} → a ≡ Refused r → k ≡ refusalNumber r → n ≡ (if ltb (length b) imageLength then min k shortNumber else k)
+      → Answered a e b b n
+  table-refused d k h = record { number = rw (d, ← k) h; table = rw d }
 
-  pub sheet-refused : (r : Refusal) (k n : ℕ) → t .answer ≡ Refused r → k ≡ refusalNumber r → n ≡ (if ltb (length b) imageLength then min k shortNumber else k)
-      → TakesIn s b b n
-  sheet-refused r k n a e h = record { number = rw (← gives, a, ← e) h; table = rw (← gives, a) }
+pub sheet-answered : (s : List ℕ) {b b′ : List ℕ} {n : ℕ} {t : Taken} {e : Enlarged} → t ≡ taken limits s → e ≡ plainOf limits (t .code) → Answered (t .answer) e b b′ n
+    → TakesIn s b b′ n
+sheet-answered s g p h = rw (p, g) at h
+
+pub list-unread : {t s b : List ℕ} {n : ℕ} → length t < imageLength → n ≡ shortNumber → EnlargeCall t s b b n
+list-unread h e = EnlargeCall.unread h e refl
+
+pub list-answered : {t s b b′ : List ℕ} {n : ℕ} {e : Enlarged} {x : Enlargement} → imageLength ≤ length t → e ≡ enlargedIn t → Enlarges limits e s x
+    → Answered (x .answer) (x .enlarged) b b′ n → EnlargeCall t s b b′ n
+list-answered h u g k = EnlargeCall.answered h (rw u at g) k
 
 -- The lower number
 module _ (n table : ℕ) {s : ℕ} (is : s ≡ shortNumber) where
@@ -64,11 +73,11 @@ module _ {t s m a : List ℕ} where
   pub encode-unread : {n : ℕ} → length t < imageLength → n ≡ shortNumber → EncodeCall t s m a m a n
   encode-unread h e = EncodeCall.unread h e refl refl
 
-  pub encode-untold : {n : ℕ} {c : Code} → imageLength ≤ length t → length a < answerLength → c ≡ codeIn t → Untold (encodingConditions limits c s []) n
+  pub encode-untold : {n : ℕ} {v : Enlarged} → imageLength ≤ length t → length a < answerLength → v ≡ enlargedIn t → Untold (encodingConditions limits v s []) n
       → EncodeCall t s m a m a n
   encode-untold h l u e = EncodeCall.untold h l (rw u at e) refl refl
 
-  pub encode-answered : {m′ a′ : List ℕ} {n : ℕ} {e : Encoding} {c : Code} → imageLength ≤ length t → answerLength ≤ length a → c ≡ codeIn t → Encodes limits c s m m′ e
+  pub encode-answered : {m′ a′ : List ℕ} {n : ℕ} {e : Encoding} {v : Enlarged} → imageLength ≤ length t → answerLength ≤ length a → v ≡ enlargedIn t → Encodes limits v s m m′ e
       → (n ≡ encodingNumber e) × (a′ ≡ written (encodingEntries e) a) → EncodeCall t s m a m′ a′ n
   encode-answered h l u r w = EncodeCall.answered h l (rw u at r) (w .0) (w .1)
 
@@ -76,21 +85,21 @@ module _ {t m f g w a : List ℕ} where
   pub read-unread : {n : ℕ} → length t < imageLength → n ≡ shortNumber → ReadCall t m f g w a f g w a n
   read-unread h e = ReadCall.unread h e refl refl refl refl
 
-  pub read-untold : {n : ℕ} {c : Code} → imageLength ≤ length t → length a < answerLength → c ≡ codeIn t → Untold (readingConditions limits c m [] [] []) n
+  pub read-untold : {n : ℕ} {v : Enlarged} → imageLength ≤ length t → length a < answerLength → v ≡ enlargedIn t → Untold (readingConditions limits v m [] [] []) n
       → ReadCall t m f g w a f g w a n
   read-untold h l u e = ReadCall.untold h l (rw u at e) refl refl refl refl
 
-  pub read-answered : {f′ g′ w′ a′ : List ℕ} {n : ℕ} {e : Reading} {c : Code} → imageLength ≤ length t → answerLength ≤ length a → c ≡ codeIn t
-      → ReadsMessage limits c m f g w f′ g′ w′ e → (n ≡ readingNumber e) × (a′ ≡ written (readingEntries e) a) → ReadCall t m f g w a f′ g′ w′ a′ n
+  pub read-answered : {f′ g′ w′ a′ : List ℕ} {n : ℕ} {e : Reading} {v : Enlarged} → imageLength ≤ length t → answerLength ≤ length a → v ≡ enlargedIn t
+      → ReadsMessage limits v m f g w f′ g′ w′ e → (n ≡ readingNumber e) × (a′ ≡ written (readingEntries e) a) → ReadCall t m f g w a f′ g′ w′ a′ n
   read-answered h l u r e = ReadCall.answered h l (rw u at r) (e .0) (e .1)
 
   pub verdict-unread : {n : ℕ} → length t < imageLength → n ≡ shortNumber → VerdictCall t m f g w a m f g w a n
   verdict-unread h e = VerdictCall.unread h e refl refl refl refl refl
 
-  pub verdict-untold : {n : ℕ} {c : Code} → imageLength ≤ length t → length a < answerLength → c ≡ codeIn t → Untold (verdictConditions limits c [] [] [] []) n
+  pub verdict-untold : {n : ℕ} {v : Enlarged} → imageLength ≤ length t → length a < answerLength → v ≡ enlargedIn t → Untold (verdictConditions limits v [] [] [] []) n
       → VerdictCall t m f g w a m f g w a n
   verdict-untold h l u e = VerdictCall.untold h l (rw u at e) refl refl refl refl refl
 
-  pub verdict-answered : {m′ f′ g′ w′ a′ : List ℕ} {n : ℕ} {e : Judgement} {c : Code} → imageLength ≤ length t → answerLength ≤ length a → c ≡ codeIn t
-      → Judges limits c m f g w m′ f′ g′ w′ e → (n ≡ judgementNumber e) × (a′ ≡ written (judgementEntries e) a) → VerdictCall t m f g w a m′ f′ g′ w′ a′ n
+  pub verdict-answered : {m′ f′ g′ w′ a′ : List ℕ} {n : ℕ} {e : Judgement} {v : Enlarged} → imageLength ≤ length t → answerLength ≤ length a → v ≡ enlargedIn t
+      → Judges limits v m f g w m′ f′ g′ w′ e → (n ≡ judgementNumber e) × (a′ ≡ written (judgementEntries e) a) → VerdictCall t m f g w a m′ f′ g′ w′ a′ n
   verdict-answered h l u r e = VerdictCall.answered h l (rw u at r) (e .0) (e .1)

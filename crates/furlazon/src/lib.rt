@@ -8,8 +8,10 @@ use answers::number;
 use answers::put_encoding;
 use answers::put_judgement;
 use answers::put_reading;
+use code::Enlarged;
 use code::Refusal;
 use code::SheetAnswer;
+use enlargements::plain;
 use image::Image;
 use image::pack;
 use image::unpack;
@@ -19,11 +21,12 @@ use untold::untold_verdict;
 ghost use mathlib.Core.Path.{_≡_};
 ghost use Prim.Native.Nat.{min};
 ghost use lib.Dec.{ltb};
+ghost use Rattle.code.specs.declared.SheetAnswer.the-variants.{Accepted};
 ghost use Rattle.code.specs.Definitions.Lists.{if_then_else_};
-ghost use Rattle.image.specs.Image.{imageLength};
-ghost use Rattle.furlazon.specs.Calls.{shortNumber, TakesIn, EncodeCall, ReadCall, VerdictCall};
+ghost use Rattle.image.specs.Image.{imageLength, Packable};
+ghost use Rattle.furlazon.specs.Calls.{shortNumber, Answered, TakesIn, EnlargeCall, EncodeCall, ReadCall, VerdictCall};
 
-// The lower of a sheet's refusal and 13, where a buffer of this length is too short for a table.
+// The lower of the refusal of a sheet or a ban list and 13, where a buffer of this length is too short for a table.
 fn lower(refusal: u64, table: usize) -> u64
     ensures { λ r. ⌜ r ≡ (if ltb table imageLength then min refusal shortNumber else refusal) ⌝ }
 {
@@ -36,6 +39,23 @@ fn lower(refusal: u64, table: usize) -> u64
     refusal
 }
 
+// Answers a sheet or a ban list that gives the value `e`: 0, and its image stands at the start of `table`; or the refusal's number.
+fn put_table(answer: SheetAnswer, e: Enlarged, table: &mut [u8]) -> u64
+    requires { ⌜ (answer ≡ Accepted → Packable e) ⌝ }
+    ensures { λ r. ⌜ Answered answer e (now (table .entry)) (now (table .exit)) r ⌝ }
+{
+    match answer {
+        SheetAnswer::Accepted => {
+            if table.len() < Image::LENGTH {
+                return number(Refusal::ShortBuffer);
+            }
+            pack(e, table);
+            0
+        }
+        SheetAnswer::Refused(r) => lower(number(r), table.len()),
+    }
+}
+
 // Takes in a sheet. 0: accepted, and the table's image stands at the start of `table`. Else the refusal's number, and `table` is as it was.
 #[no_mangle]
 pub extern "C" fn furlazon_take_in(sheet: &[u8], table: &mut [u8]) -> u64
@@ -43,17 +63,25 @@ pub extern "C" fn furlazon_take_in(sheet: &[u8], table: &mut [u8]) -> u64
 {
     let taken = sheet::take_in(sheet);
     let answer = taken.answer;
-    match answer {
-        SheetAnswer::Accepted => {
-            if table.len() < Image::LENGTH {
-                return number(Refusal::ShortBuffer);
-            }
-            let code = taken.code;
-            pack(code, table);
-            0
-        }
-        SheetAnswer::Refused(r) => lower(number(r), table.len()),
+    let code = taken.code;
+    let value = plain(code);
+    put_table(answer, value, table)
+}
+
+// Enlarges a table by a list of bans that look two words back. 0: accepted, and the image of the enlarged table stands at the start of `enlarged`. Else the
+// refusal's number, and `enlarged` is as it was.
+#[no_mangle]
+pub extern "C" fn furlazon_enlarge(table: &[u8], bans: &[u8], enlarged: &mut [u8]) -> u64
+    ensures { λ r. ⌜ EnlargeCall (now (table .entry)) (now (bans .entry)) (now (enlarged .entry)) (now (enlarged .exit)) r ⌝ }
+{
+    if table.len() < Image::LENGTH {
+        return number(Refusal::ShortBuffer);
     }
+    let value = unpack(table);
+    let e = banning::enlarge(value, bans);
+    let answer = e.answer;
+    let larger = e.enlarged;
+    put_table(answer, larger, enlarged)
 }
 
 // Encodes a sequence of word numbers. 0: the message stands at the start of `message`, and `answer` has its length. Else the refusal's number, and
@@ -71,11 +99,11 @@ pub extern "C" fn furlazon_encode(
     if table.len() < Image::LENGTH {
         return number(Refusal::ShortBuffer);
     }
-    let code = unpack(table);
+    let value = unpack(table);
     if is_short(answer.len()) {
-        return untold_encoding(code, words);
+        return untold_encoding(value, words);
     }
-    let e = encoding::encode(code, words, message);
+    let e = encoding::encode(value, words, message);
     put_encoding(e, answer)
 }
 
@@ -96,11 +124,11 @@ pub extern "C" fn furlazon_read(
     if table.len() < Image::LENGTH {
         return number(Refusal::ShortBuffer);
     }
-    let code = unpack(table);
+    let value = unpack(table);
     if is_short(answer.len()) {
-        return untold_reading(code, message);
+        return untold_reading(value, message);
     }
-    let e = reading::read(code, message, first, second, work);
+    let e = reading::read(value, message, first, second, work);
     put_reading(e, answer)
 }
 
@@ -121,10 +149,10 @@ pub extern "C" fn furlazon_verdict(
     if table.len() < Image::LENGTH {
         return number(Refusal::ShortBuffer);
     }
-    let code = unpack(table);
+    let value = unpack(table);
     if is_short(answer.len()) {
-        return untold_verdict(code);
+        return untold_verdict(value);
     }
-    let e = decipher::verdict(code, message, first, second, work);
+    let e = decipher::verdict(value, message, first, second, work);
     put_judgement(e, answer)
 }

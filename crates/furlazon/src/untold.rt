@@ -2,8 +2,8 @@
 // holds.
 
 use answers::number;
-use code::Code;
 use code::Encoding;
+use code::Enlarged;
 use code::Judgement;
 use code::Reading;
 use code::Refusal;
@@ -12,24 +12,24 @@ ghost use Rattle.code.specs.Definitions.Operations.{encodingConditions, reading
 ghost use Rattle.code.specs.Definitions.Sheets.{limits};
 ghost use Rattle.furlazon.specs.Calls.{Untold};
 
-pub fn untold_encoding(code: Code, words: &[u8]) -> u64
-    ensures { λ r. ⌜ Untold (encodingConditions limits code (now (words .entry)) []) r ⌝ }
+pub fn untold_encoding(value: Enlarged, words: &[u8]) -> u64
+    ensures { λ r. ⌜ Untold (encodingConditions limits value (now (words .entry)) []) r ⌝ }
 {
     let mut message = [0u8; 0];
-    let e = encoding::encode(code, words, &mut message);
+    let e = encoding::encode(value, words, &mut message);
     match e {
         Encoding::Refused(r) => number(r),
         Encoding::Encoded(_) => number(Refusal::ShortBuffer),
     }
 }
 
-pub fn untold_reading(code: Code, message: &[u8]) -> u64
-    ensures { λ r. ⌜ Untold (readingConditions limits code (now (message .entry)) [] [] []) r ⌝ }
+pub fn untold_reading(value: Enlarged, message: &[u8]) -> u64
+    ensures { λ r. ⌜ Untold (readingConditions limits value (now (message .entry)) [] [] []) r ⌝ }
 {
     let mut first = [0u8; 0];
     let mut second = [0u8; 0];
     let mut work = [0u64; 0];
-    let e = reading::read(code, message, &mut first, &mut second, &mut work);
+    let e = reading::read(value, message, &mut first, &mut second, &mut work);
     match e {
         Reading::Refused(r) => number(r),
         Reading::One(_) => number(Refusal::ShortBuffer),
@@ -37,14 +37,14 @@ pub fn untold_reading(code: Code, message: &[u8]) -> u64
     }
 }
 
-pub fn untold_verdict(code: Code) -> u64
-    ensures { λ r. ⌜ Untold (verdictConditions limits code [] [] [] []) r ⌝ }
+pub fn untold_verdict(value: Enlarged) -> u64
+    ensures { λ r. ⌜ Untold (verdictConditions limits value [] [] [] []) r ⌝ }
 {
     let mut message = [0u8; 0];
     let mut first = [0u8; 0];
     let mut second = [0u8; 0];
     let mut work = [0u64; 0];
-    let e = decipher::verdict(code, &mut message, &mut first, &mut second, &mut work);
+    let e = decipher::verdict(value, &mut message, &mut first, &mut second, &mut work);
     match e {
         Judgement::Refused(r) => number(r),
         Judgement::Judged(_) => number(Refusal::ShortBuffer),

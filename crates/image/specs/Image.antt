@@ -1,14 +1,18 @@
--- The image of a code table, a flat list of bytes, and the code that such a list holds.
+-- The image of a code with copies, a flat list of bytes, and the code that such a list holds.
+use mathlib.Core.Path.{_≡_}
 use mathlib.Core.List.{List, [], _∷_, _++_, flatMap}
-use Prim.Native.Nat.{ℕ, _+_, _*_}
-use lib.ListN.{getD}
+use Prim.Native.Nat.{ℕ, _+_, _*_, _≤_, _<_}
+use lib.ListN.{length, getD}
 use Rattle.code.specs.declared.Word.{Word}
 use Rattle.code.specs.declared.Row.{Row}
 use Rattle.code.specs.declared.Code.{Code}
+use Rattle.code.specs.declared.Enlarged.{Enlarged}
 use Rattle.code.specs.Definitions.Lists.{table}
+use Rattle.code.specs.Definitions.Sheets.{limits}
+use Rattle.code.specs.Definitions.Tables.{noWord, noRow}
 
 -- 32 words of 16 symbols and a length, 32 rows of 32 entries, 32 start marks, and the count: the bytes of a word, where the rows begin, where the marks begin,
--- where the count stands, and all bytes
+-- where the count stands, and all bytes of the code
 abbrev pub wordWidth : ℕ
 wordWidth = 17
 
@@ -21,8 +25,18 @@ marksPlace = 1568
 abbrev pub countPlace : ℕ
 countPlace = 1600
 
+abbrev pub codeLength : ℕ
+codeLength = 1601
+
+-- Then how many words are originals, for each word its origin, and for each the word behind: where the origins begin, where the words behind begin, and all bytes
+abbrev pub originsPlace : ℕ
+originsPlace = codeLength + 1
+
+abbrev pub behindPlace : ℕ
+behindPlace = originsPlace + limits .words
+
 abbrev pub imageLength : ℕ
-imageLength = 1601
+imageLength = behindPlace + limits .words
 
 abbrev pub wordBytes : Word → List ℕ
 wordBytes w = w .symbols ++ (w .len ∷ [])
@@ -36,8 +50,27 @@ wordsBytes ws = flatMap wordBytes ws
 abbrev pub rowsBytes : List Row → List ℕ
 rowsBytes rs = flatMap rowBytes rs
 
-unfoldable pub imageOf : Code → List ℕ
-imageOf c = wordsBytes (c .words) ++ rowsBytes (c .rows) ++ c .begins ++ (c .count ∷ [])
+unfoldable pub codeBytes : Code → List ℕ
+codeBytes c = wordsBytes (c .words) ++ rowsBytes (c .rows) ++ c .begins ++ (c .count ∷ [])
+
+unfoldable pub imageOf : Enlarged → List ℕ
+imageOf e = codeBytes (e .code) ++ (e .originals ∷ []) ++ e .origins ++ e .behind
+
+-- What an image can hold: arrays of their lengths, and numbers that fit a byte.
+pub record PackableCode (c : Code) : Type 0 where
+  pub words : length (c .words) ≡ limits .words
+  pub rows : length (c .rows) ≡ limits .words
+  pub begins : length (c .begins) ≡ limits .words
+  pub symbols : (k : ℕ) → k < limits .words → length (getD (c .words) k noWord .symbols) ≡ limits .symbols
+  pub len : (k : ℕ) → k < limits .words → getD (c .words) k noWord .len ≤ 255
+  pub entries : (x : ℕ) → x < limits .words → length (getD (c .rows) x noRow .entries) ≡ limits .words
+  pub count : c .count ≤ 255
+
+pub record Packable (e : Enlarged) : Type 0 where
+  pub code : PackableCode (e .code)
+  pub originals : e .originals ≤ 255
+  pub origins : length (e .origins) ≡ limits .words
+  pub behind : length (e .behind) ≡ limits .words
 
 -- byte k after the place `at`
 abbrev pub byteFrom : List ℕ → ℕ → ℕ → ℕ
@@ -59,3 +92,6 @@ rowNumber b k = rowIn b (rowsPlace + k * 32)
 
 unfoldable pub codeIn : List ℕ → Code
 codeIn b = record { words = table (wordNumber b) 32; rows = table (rowNumber b) 32; begins = rowIn b marksPlace .entries; count = getD b countPlace 0 }
+
+unfoldable pub enlargedIn : List ℕ → Enlarged
+enlargedIn b = record { code = codeIn b; originals = getD b codeLength 0; origins = rowIn b originsPlace .entries; behind = rowIn b behindPlace .entries }

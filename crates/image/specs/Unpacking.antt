@@ -9,7 +9,7 @@ use Rattle.code.specs.declared.Row.{Row}
 use Rattle.code.specs.declared.Code.{Code}
 use Rattle.code.specs.Definitions.Lists.{table}
 use Rattle.code.specs.Laws.Filling.{fill-next}
-use Rattle.image.specs.Image.{marksPlace, countPlace, rowIn, wordNumber, rowNumber, codeIn}
+use Rattle.image.specs.Image.{marksPlace, countPlace, codeLength, originsPlace, behindPlace, rowIn, wordNumber, rowNumber, codeIn, enlargedIn}
 
 -- Filled to its end, an array is the table.
 pub filled : {A : Type 0} (f : ℕ → A) (d : List A) (i n : ℕ) → i ≡ n → length d ≤ n → table f i ++ drop i d ≡ table f n
@@ -49,3 +49,9 @@ unpacked-all b c k u h =
     let words-all = u .words ∙ filled (wordNumber b) (replicate 32 zeroWord) k 32 (omega (arith, u .most)) (omega arith) in
     let rows-all = u .rows ∙ filled (rowNumber b) (replicate 32 zeroRow) k 32 (omega (arith, u .most)) (omega arith) in
     rw (← words-all, ← rows-all, ← u .begins, ← u .count)
+
+-- Behind the code stand the number of originals, the origins and the words behind.
+pub unpacked : (b : List ℕ) (c : Code) (r s : Row) → c ≡ codeIn b → r ≡ rowIn b originsPlace → s ≡ rowIn b behindPlace
+    → record { code = c; originals = getD b codeLength 0; origins = r .entries; behind = s .entries } ≡ enlargedIn b
+unfolding enlargedIn
+unpacked b c r s e n k = rw (e, n, k)

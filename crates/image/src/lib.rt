@@ -1,7 +1,8 @@
-// The image of a code table: the bytes in which a table crosses to C or Rust. For each of the 32 words its 16 symbols and then its length; then the
-// 32 rows of 32 entries each; then the 32 start marks; then the count.
+// The image of a code with copies: the bytes in which a table crosses to C or Rust. For each of the 32 words its 16 symbols and then its length; then the
+// 32 rows of 32 entries each; then the 32 start marks; then the count; then how many words are originals, the 32 origins and the 32 words behind.
 
 use code::Code;
+use code::Enlarged;
 use code::Row;
 use code::Word;
 use copying::copy_at;
@@ -11,8 +12,7 @@ ghost use lib.ListN.{length};
 ghost use lib.Seq.{sets};
 ghost use Rattle.code.specs.Definitions.Operations.{written};
 ghost use Rattle.code.specs.Definitions.Sheets.{limits};
-ghost use Rattle.table.specs.WellFormed.{WellFormed};
-ghost use Rattle.image.specs.Image.{wordWidth, rowsPlace, imageLength, wordBytes, rowsBytes, wordsBytes, imageOf, wordIn, rowIn, codeIn};
+ghost use Rattle.image.specs.Image.{wordWidth, rowsPlace, codeLength, imageLength, wordBytes, rowsBytes, wordsBytes, codeBytes, imageOf, PackableCode, Packable, wordIn, rowIn, codeIn, enlargedIn};
 
 pub struct Image {}
 
@@ -25,8 +25,14 @@ impl Image {
     pub const MARKS: usize = Image::ROWS + Code::WORDS * Code::WORDS;
     // Where the count stands.
     pub const COUNT: usize = Image::MARKS + Code::WORDS;
+    // Where the number of originals stands, behind the bytes of the code.
+    pub const ORIGINALS: usize = Image::COUNT + 1;
+    // Where the first origin stands.
+    pub const ORIGINS: usize = Image::ORIGINALS + 1;
+    // Where the first word behind stands.
+    pub const BEHIND: usize = Image::ORIGINS + Code::WORDS;
     // Bytes an image.
-    pub const LENGTH: usize = Image::COUNT + 1;
+    pub const LENGTH: usize = Image::BEHIND + Code::WORDS;
 }
 
 // Stores a word from `at` on.
@@ -41,7 +47,7 @@ fn put_word(w: Word, table: &mut [u8], at: usize)
 
 // Stores the words at the start.
 fn put_words(code: Code, table: &mut [u8])
-    requires { ⌜ WellFormed limits code × (imageLength ≤ length (now table)) ⌝ }
+    requires { ⌜ PackableCode code × (codeLength ≤ length (now table)) ⌝ }
     ensures { λ _. ⌜ now (table .exit) ≡ sets (now (table .entry)) 0 (wordsBytes (code .words)) ⌝ }
 {
     let mut k: usize = 0;
@@ -54,7 +60,7 @@ fn put_words(code: Code, table: &mut [u8])
 
 // Stores the rows behind the words.
 fn put_rows(code: Code, table: &mut [u8])
-    requires { ⌜ WellFormed limits code × (imageLength ≤ length (now table)) ⌝ }
+    requires { ⌜ PackableCode code × (codeLength ≤ length (now table)) ⌝ }
     ensures { λ _. ⌜ now (table .exit) ≡ sets (now (table .entry)) rowsPlace (rowsBytes (code .rows)) ⌝ }
 {
     let mut k: usize = 0;
@@ -66,16 +72,30 @@ fn put_rows(code: Code, table: &mut [u8])
     }
 }
 
-// Writes the image of a code that a sheet gives at the start of a buffer.
-pub fn pack(code: Code, table: &mut [u8])
-    requires { ⌜ WellFormed limits code × (imageLength ≤ length (now table)) ⌝ }
-    ensures { λ _. ⌜ now (table .exit) ≡ written (imageOf code) (now (table .entry)) ⌝ }
+// Stores a code at the start.
+fn pack_code(code: Code, table: &mut [u8])
+    requires { ⌜ PackableCode code × (codeLength ≤ length (now table)) ⌝ }
+    ensures { λ _. ⌜ now (table .exit) ≡ sets (now (table .entry)) 0 (codeBytes code) ⌝ }
 {
     put_words(code, table);
     put_rows(code, table);
     let begins = code.begins;
     copy_at(table, Image::MARKS, &begins, Code::WORDS);
     table[Image::COUNT] = code.count as u8;
+}
+
+// Writes the image of a code with copies at the start of a buffer.
+pub fn pack(e: Enlarged, table: &mut [u8])
+    requires { ⌜ Packable e × (imageLength ≤ length (now table)) ⌝ }
+    ensures { λ _. ⌜ now (table .exit) ≡ written (imageOf e) (now (table .entry)) ⌝ }
+{
+    let code = e.code;
+    pack_code(code, table);
+    table[Image::ORIGINALS] = e.originals as u8;
+    let origins = e.origins;
+    copy_at(table, Image::ORIGINS, &origins, Code::WORDS);
+    let behind = e.behind;
+    copy_at(table, Image::BEHIND, &behind, Code::WORDS);
 }
 
 // The word that stands from `at` on.
@@ -95,9 +115,9 @@ fn word_in(table: &[u8], at: usize) -> Word
     word
 }
 
-// The row, or the start marks, that stand from `at` on.
+// The row, or the bytes of all words, that stand from `at` on.
 fn row_in(table: &[u8], at: usize) -> Row
-    requires { ⌜ at + 32 ≤ length (now table) ⌝ }
+    requires { ⌜ at + limits .words ≤ length (now table) ⌝ }
     ensures { λ r. ⌜ r ≡ rowIn (now (table .entry)) at ⌝ }
 {
     let mut row = Row {
@@ -111,9 +131,9 @@ fn row_in(table: &[u8], at: usize) -> Row
     row
 }
 
-// The code whose image stands at the start of the bytes.
-pub fn unpack(table: &[u8]) -> Code
-    requires { ⌜ imageLength ≤ length (now table) ⌝ }
+// The code that stands at the start of the bytes.
+fn unpack_code(table: &[u8]) -> Code
+    requires { ⌜ codeLength ≤ length (now table) ⌝ }
     ensures { λ r. ⌜ r ≡ codeIn (now (table .entry)) ⌝ }
 {
     let words = [Word {
@@ -140,4 +160,22 @@ pub fn unpack(table: &[u8]) -> Code
         k += 1;
     }
     code
+}
+
+// The code with copies whose image stands at the start of the bytes.
+pub fn unpack(table: &[u8]) -> Enlarged
+    requires { ⌜ imageLength ≤ length (now table) ⌝ }
+    ensures { λ r. ⌜ r ≡ enlargedIn (now (table .entry)) ⌝ }
+{
+    let code = unpack_code(table);
+    let words = row_in(table, Image::ORIGINS);
+    let others = row_in(table, Image::BEHIND);
+    let origins = words.entries;
+    let behind = others.entries;
+    Enlarged {
+        code: code,
+        originals: table[Image::ORIGINALS] as usize,
+        origins: origins,
+        behind: behind,
+    }
 }

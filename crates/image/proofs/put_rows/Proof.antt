@@ -23,20 +23,20 @@ loop-holds c = search needs
 
 slice-aggregate-copy-at : tie.Need-slice-aggregate-copy-at Inv-loop μ-loop
 slice-aggregate-copy-at c =
-    let well = c .before .before .before .before .before .before .before .pre .0 in
-    sym (well .row (c .before .before .before .before .before .loop .k) (omega arith) .array)
+    let fits = c .before .before .before .before .before .before .before .pre .0 in
+    sym (fits .entries (c .before .before .before .before .before .loop .k) (omega arith))
 
 copy-at-requires : tie.Need-copy-at-requires Inv-loop μ-loop
 copy-at-requires c κs =
     let l = c .before .before .before .before .before .loop in
-    let well = c .before .before .before .before .before .before .before .pre .0 in
-    (omega arith, omega (arith, well .row (l .k) (omega arith) .array))
+    let fits = c .before .before .before .before .before .before .before .pre .0 in
+    (omega arith, omega (arith, fits .entries (l .k) (omega arith)))
 
 loop-again : tie.Need-loop-again Inv-loop μ-loop
 loop-again c =
     let l = c .before .before .before .before .before .before .before .before .loop in
-    let well = c .before .before .before .before .before .before .before .before .before .before .pre .0 in
-    (omega arith, omega arith, rows-next well _ (l .table) _ (l .k) (omega arith) (omega arith) (l .inv .2) (c .before .before .copy-at .ensures))
+    let fits = c .before .before .before .before .before .before .before .before .before .before .pre .0 in
+    (omega arith, omega arith, rows-next fits _ (l .table) _ (l .k) (omega arith) (omega arith) (l .inv .2) (c .before .before .copy-at .ensures))
 
 returns : tie.Need-returns Inv-loop μ-loop
 returns c =

@@ -24,14 +24,14 @@ loop-holds c = search needs
 put-word-requires : tie.Need-put-word-requires Inv-loop μ-loop
 put-word-requires c κs =
     let l = c .before .before .before .loop in
-    let well = c .before .before .before .before .before .pre .0 in
-    (omega (arith, well .word (l .k) (omega arith) .short), omega arith)
+    let fits = c .before .before .before .before .before .pre .0 in
+    (omega (arith, fits .len (l .k) (omega arith)), omega arith)
 
 loop-again : tie.Need-loop-again Inv-loop μ-loop
 loop-again c =
     let l = c .before .before .before .before .before .before .loop in
-    let well = c .before .before .before .before .before .before .before .before .pre .0 in
-    (omega arith, omega arith, words-next well _ (l .table) _ (l .k) (omega arith) (l .inv .2) (c .before .before .put-word .ensures))
+    let fits = c .before .before .before .before .before .before .before .before .pre .0 in
+    (omega arith, omega arith, words-next fits _ (l .table) _ (l .k) (omega arith) (l .inv .2) (c .before .before .put-word .ensures))
 
 returns : tie.Need-returns Inv-loop μ-loop
 returns c =

@@ -1,56 +1,26 @@
--- The loop keeps that the words and rows passed are read.
-use mathlib.Core.Path.{refl, ap}
-use Prim.Native.Nat.{_-_}
+-- The code, the number of originals, the origins and the words behind are read from their places.
 use native.Mathlib.Omega.{arith}
+use Rattle.image.specs.Image.{codeLength}
+use Rattle.image.specs.Unpacking.{unpacked}
 use borrow.Author.Needs.{needs}
-use Rattle.code.specs.declared.Row.{Row}
-use Rattle.code.specs.Definitions.Lists.{table as filling}
-use Rattle.image.specs.Image.{countPlace}
-use Rattle.image.specs.Unpacking.{Unpacked, unpacked-next, unpacked-all}
 use Rattle.image.proofs.unpack.Statement.{statement}
 use Rattle.image.proofs.unpack.Tie as tie
 
-abbrev Inv-loop : tie.InvT-loop
-Inv-loop table code₀ k₀ code k = Unpacked table code k
+cast-t9 : tie.Need-cast-t9
+cast-t9 c = omega (arith, c .shared-slice-known2 .given codeLength)
 
-abbrev μ-loop : tie.MeasureT-loop
-μ-loop table code₀ k₀ code k = 32 - k
-
-cast-t16 : tie.Need-cast-t16 Inv-loop μ-loop
-cast-t16 c = omega (arith, c .shared-slice-known2 .given countPlace)
-
-loop-holds : tie.Need-loop-holds Inv-loop μ-loop
-unfolding filling
-loop-holds c = record { most = omega arith; words-long = refl; rows-long = refl; words = refl; rows = refl; begins = ap (λ (r : Row). r .entries) (c .before .before .row-in .ensures); count = refl }
-
-loop-again : tie.Need-loop-again Inv-loop μ-loop
-loop-again c =
-    let l = c .before .before .before .loop in
-    unpacked-next _ (l .code) (l .k) _ _ (l .inv) (omega arith) (c .before .word-in .ensures) (c .row-in2 .ensures)
-
-returns : tie.Need-returns Inv-loop μ-loop
-returns c = let l = c .before .loop in unpacked-all _ (l .code) (l .k) (l .inv) (omega arith)
+returns : tie.Need-returns
+returns c =
+    let rows = c .before .before .before in
+    unpacked _ _ _ _ (rows .before .before .unpack-code .ensures) (rows .before .row-in .ensures) (rows .row-in2 .ensures)
 
 pub unpack-spec : {M : Type 1} → statement M
 unpack-spec =
     tie.close
     (tie.spec
-    Inv-loop
-    μ-loop
+    (λ c κs. search needs)
+    (λ c κs. search needs)
     (λ c κs. search needs)
     (λ c. search needs)
-    cast-t16
-    loop-holds
-    (λ c. search needs)
-    (λ c κs. search needs)
-    (λ c. search needs)
-    (λ c. search needs)
-    (λ c κs. search needs)
-    (λ c. search needs)
-    (λ c. search needs)
-    (λ c. search needs)
-    (λ c. search needs)
-    (λ c. search needs)
-    (λ c. search needs)
-    loop-again
+    cast-t9
     returns)
