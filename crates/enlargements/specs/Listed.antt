@@ -38,7 +38,7 @@ pub record RoomyLists (l : Limits) : Type 0 where
   pub digits : l .words ≤ 100
   pub bytes : (k : ℕ) → k ≤ l .words → 10 * ((l .words - k) * k) ≤ l .bytes
 
-never-true : (b : Bool) → (b ≡ true → ⊥) → b ≡ false
+pub never-true : (b : Bool) → (b ≡ true → ⊥) → b ≡ false
 never-true true n = absurd (n refl)
 never-true false n = refl
 
@@ -51,7 +51,7 @@ accepted-never {r = r} x =
 
 module _ {l : Limits} {e : Enlarged} where
   -- the bans that an accepted list gives
-  pub given-by : (c : Code) (s : List ℕ) → WellFormed l c → Enlarges l (plainOf l c) s (record { answer = Accepted; enlarged = e }) → FromBans l e
+  unfoldable pub given-by : (c : Code) (s : List ℕ) → WellFormed l c → Enlarges l (plainOf l c) s (record { answer = Accepted; enlarged = e }) → FromBans l e
   unfolding plainOf
   given-by c s w (refused h x) = absurd (accepted-never x)
   given-by c s w (enlarged h x) =
