@@ -1,18 +1,18 @@
 -- Lists that forbid the same make the same copies, but for their order. So they pass the limits together.
 use mathlib.Core.Path.{_≡_, refl, sym, ap, ap₂, _∙_, subst₂}
-use mathlib.Core.Bool.{Bool, true, false, _||_, _&&_, false≢true, true≢false, and-eq-true-iff}
+use mathlib.Core.Bool.{Bool, true, false, _||_, false≢true, and-eq-true-iff}
 use mathlib.Core.List.{List, [], _∷_, _++_, map, map-append}
 use mathlib.Core.Logic.{_⊎_, inl, inr}
-use Prim.Native.Nat.{ℕ, _+_, _≤_, _<_}
+use Prim.Native.Nat.{ℕ, _+_, _≤_}
 use native.Mathlib.Omega.{arith}
 use lib.Dec.{ltb, eqb}
-use lib.ListN.{length, getD}
+use lib.ListN.{length}
 use borrow.Author.Tests.{eqb-true, eq-eqb}
 use Rattle.code.specs.declared.Code.{Code}
 use Rattle.code.specs.declared.Limits.{Limits}
 use Rattle.code.specs.Definitions.Lists.{if_then_else_, any, sum}
 use Rattle.code.specs.Definitions.Tables.{word, tableOf}
-use Rattle.code.specs.Definitions.Bans.{Ban, Copy, noCopy, bannedBy, isCopy, hasCopy, copyIndex, copiesFrom, copiesOf, enlarged}
+use Rattle.code.specs.Definitions.Bans.{Ban, Copy, bannedBy, isCopy, hasCopy, copyIndex, copiesFrom, copiesOf, enlarged}
 use Rattle.code.specs.Definitions.Enlarged.{refused17}
 use Rattle.code.specs.Laws.Below.{or-cases, or-left, or-right}
 use Rattle.code.specs.Laws.Lists.{or-neither, any-append, sum-append}

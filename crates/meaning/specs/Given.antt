@@ -1,5 +1,5 @@
 -- A value that a sheet and a ban list give means the sheet's table with the list's bans.
-use mathlib.Core.Path.{_≡_, refl, sym, ap, _∙_, subst}
+use mathlib.Core.Path.{_≡_, refl, sym, ap, _∙_}
 use mathlib.Core.Bool.{Bool, false}
 use mathlib.Core.List.{List, [], _∷_, _++_}
 use mathlib.Core.Logic.{_↔_}
@@ -9,7 +9,6 @@ use lib.ListN.{take, length-map, length-take}
 use lib.Seq.{take-all, ext-getD}
 use Rattle.code.specs.declared.Code.{Code}
 use Rattle.code.specs.declared.Enlarged.{Enlarged}
-use Rattle.code.specs.declared.Enlargement.{Enlargement}
 use Rattle.code.specs.declared.Limits.{Limits}
 use Rattle.code.specs.declared.SheetAnswer.the-variants.{Accepted}
 use Rattle.code.specs.Definitions.Tables.{Table, size, word, Permitted, message, symbolsOf, tableOf}
@@ -19,7 +18,6 @@ use Rattle.code.specs.Definitions.BanLists.{bansOf}
 use Rattle.code.specs.Definitions.Enlarged.{plainOf, enlargedCode, originalTable}
 use Rattle.code.specs.Definitions.Operations.{Enlarges, refused, enlarged, FromLists}
 use Rattle.copies.specs.Covers.{Cover}
-use Rattle.copies.specs.CoversSame.{covered-alike}
 use Rattle.enlargements.specs.FromBans.{FromBans}
 use Rattle.enlargements.specs.Made.{from-bans}
 use Rattle.enlargements.specs.Back.{original-size}

@@ -5,3 +5,5 @@ pub mod Members
 pub mod SameBans
 pub mod Wrong
 pub mod Copied
+pub mod Answered
+pub mod Empty

@@ -1,10 +1,8 @@
 -- The sequences of an enlarged code match one to one those that obey all bans, by the origins of their words, and behind any of them at most one of a word and
 -- its copies may come.
-use mathlib.Core.Path.{_≡_, refl, sym, ap, _∙_}
-use mathlib.Core.Bool.{true}
+use mathlib.Core.Path.{_≡_, sym, ap, _∙_}
 use mathlib.Core.List.{List, map}
 use Prim.Native.Nat.{ℕ, _<_}
-use lib.Dec.{eqb}
 use lib.ListN.{getD}
 use borrow.Author.Tests.{eq-eqb}
 use Rattle.code.specs.declared.Enlarged.{Enlarged}
@@ -12,7 +10,7 @@ use Rattle.code.specs.declared.Limits.{Limits}
 use Rattle.code.specs.Definitions.Tables.{Table, size, Permitted, message, entryOf, tableOf}
 use Rattle.code.specs.Definitions.Bans.{nextWord}
 use Rattle.code.specs.Definitions.Enlarged.{copiesIn, originalTable}
-use Rattle.copies.specs.Covers.{Cover, lift, named-permitted, named-lift, named-message, lifted-permitted, lifted-named}
+use Rattle.copies.specs.Covers.{lift, named-permitted, named-lift, named-message, lifted-permitted, lifted-named}
 use Rattle.enlargements.specs.WellEnlarged.{WellEnlarged}
 use Rattle.enlargements.specs.Meaning.{Covers, value-covers}
 use Rattle.table.specs.Words.{size-count}

@@ -1,16 +1,14 @@
 -- What a ban list means does not depend on the order of its records, nor on records that stand in it more than once. The copies may then be numbered otherwise, but the two
 -- values are alike.
-use mathlib.Core.Path.{_≡_, refl, sym, ap, _∙_, subst, fun-ext}
-use mathlib.Core.Bool.{Bool}
+use mathlib.Core.Path.{_≡_, refl, sym, _∙_, subst, fun-ext}
 use mathlib.Core.List.{List}
 use mathlib.Core.Logic.{_↔_}
 use Prim.Native.Nat.{ℕ}
-use Rattle.code.specs.declared.Code.{Code}
 use Rattle.code.specs.declared.Enlarged.{Enlarged}
 use Rattle.code.specs.declared.Limits.{Limits}
 use Rattle.code.specs.declared.Verdict.{Verdict}
 use Rattle.code.specs.Definitions.Lists.{any}
-use Rattle.code.specs.Definitions.Tables.{Table, Permitted, tableOf}
+use Rattle.code.specs.Definitions.Tables.{Permitted, tableOf}
 use Rattle.code.specs.Definitions.Answers.{VerdictMeans}
 use Rattle.code.specs.Definitions.Bans.{Ban, isBan, bannedBy, withBans}
 use Rattle.code.specs.Definitions.BanLists.{banOf, banRecords, bansOf}

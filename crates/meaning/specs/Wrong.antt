@@ -1,15 +1,15 @@
 -- A wrong byte makes a wrong record, so refusal 16 depends on the records alone. Lists of the same records are accepted or refused alike.
-use mathlib.Core.Path.{_≡_, refl, sym, ap, _∙_}
-use mathlib.Core.Bool.{Bool, true, false, not, _&&_, _||_, true≢false, false≢true, or-true, and-eq-true-iff}
-use mathlib.Core.List.{List, [], _∷_, _++_, map}
+use mathlib.Core.Path.{_≡_, refl, sym, _∙_}
+use mathlib.Core.Bool.{Bool, true, false, not, _&&_, _||_, or-true, and-eq-true-iff}
+use mathlib.Core.List.{List, [], _∷_, map}
 use mathlib.Core.Logic.{_⊎_, inl, inr}
-use Prim.Native.Nat.{ℕ, _-_, _≤_}
+use Prim.Native.Nat.{ℕ, _-_}
 use native.Mathlib.Omega.{arith}
 use lib.Dec.{ltb, leb, eqb}
-use lib.ListN.{length, take, drop, getD}
+use lib.ListN.{length, take, getD}
 use borrow.Author.Tests.{eqb-true, ne-eqb, leb-true, not-false}
 use Rattle.code.specs.Definitions.Lists.{if_then_else_, any, every}
-use Rattle.code.specs.Definitions.Sheets.{crlf, isDigit, body, push, records, fields, grid, badBytes}
+use Rattle.code.specs.Definitions.Sheets.{crlf, body, push, records, fields, grid, badBytes}
 use Rattle.code.specs.Definitions.BanLists.{isDecimal, numberOf, noLeadingZero, isNumber, banOf, badBan, banRecords, refused16}
 use Rattle.code.specs.Laws.Clean.{bad-end, end-split}
 use Rattle.code.specs.Laws.Lists.{or-neither}
