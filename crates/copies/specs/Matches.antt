@@ -161,6 +161,9 @@ module _ {e t : Table} {name start : ℕ → ℕ} {after : ℕ → ℕ → ℕ} 
   pub named-delay : {N : ℕ} → Delay e N → Delay t N
   named-delay d = record { enough = λ h. d .enough (lifted-share h); needed = λ M z. named-share (d .needed M z) }
 
+  pub lifted-delay : {N : ℕ} → Delay t N → Delay e N
+  lifted-delay d = record { enough = λ h. d .enough (named-share h); needed = λ M z. lifted-share (d .needed M z) }
+
   pub named-unbounded : WithoutBound e → WithoutBound t
   named-unbounded w N = named-share (w N)
 

@@ -5,9 +5,15 @@ use Prim.Native.Nat.{ℕ, _≤_}
 use native.Mathlib.Omega.{arith}
 use lib.ListN.{length, take, drop, length-take}
 use lib.Seq.{take-at}
+use Rattle.code.specs.declared.Enlarged.{Enlarged}
 use Rattle.code.specs.Definitions.Operations.{written}
 use Rattle.code.specs.Definitions.Readings.{TwoReadings}
-use Rattle.code.specs.Definitions.Tables.{Table}
+use Rattle.code.specs.Definitions.Enlarged.{originalTable}
+use Rattle.code.specs.Definitions.Sheets.{limits}
+use Rattle.code.specs.Definitions.Tables.{Table, tableOf}
+use Rattle.copies.specs.Matches.{named-two}
+use Rattle.enlargements.specs.Meaning.{value-covers}
+use Rattle.enlargements.specs.WellEnlarged.{WellEnlarged}
 use Rattle.graph.specs.Goals.{NoGoal, LeastGoal}
 use Rattle.pairs.specs.OpenPairs.{open-finds}
 use Rattle.pairs.specs.RivalPairs.{Ended}
@@ -46,11 +52,10 @@ module _ {places m m′ : List ℕ} where
     pub found-least : LeastGoal (openGraph places) (take n m′)
     found-least = rw symbols-at (was-found answers is .least)
 
-    module _ {t : Table} (laid : LaidOut t places) (ended : Ended t places) where
-      -- It has two readings,
-      pub found-two : TwoReadings t (take n m′)
-      found-two = ends→readings (laid .fits .plain) (open-finds laid (ended .closed) .ends (found-least .goal))
+    -- It has two readings, also by the words that the words of the code stand for,
+    pub found-two : {e : Enlarged} → WellEnlarged limits e → LaidOut (tableOf (e .code)) places → Ended (tableOf (e .code)) places → TwoReadings (originalTable e) (take n m′)
+    found-two value laid ended = named-two (value-covers value) (ends→readings (laid .fits .plain) (open-finds laid (ended .closed) .ends (found-least .goal)))
 
-      -- and at most 8,256 symbols.
-      pub found-few : length (take n m′) ≤ 8256
-      found-few = least-few (laid .fits) (least-goal (open-finds laid (ended .closed)) found-least)
+    -- and at most 8,256 symbols.
+    pub found-few : {t : Table} → LaidOut t places → Ended t places → length (take n m′) ≤ 8256
+    found-few laid ended = least-few (laid .fits) (least-goal (open-finds laid (ended .closed)) found-least)

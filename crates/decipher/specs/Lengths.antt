@@ -6,18 +6,22 @@ use Prim.Native.Nat.{ℕ, _≤_}
 use native.Mathlib.Decide.{ℕ-discrete}
 use native.Mathlib.Omega.{arith}
 use lib.ListN.{length}
-use Rattle.code.specs.declared.Code.{Code}
+use Rattle.code.specs.declared.Enlarged.{Enlarged}
 use Rattle.code.specs.Definitions.Delays.{Delay}
+use Rattle.code.specs.Definitions.Enlarged.{originalTable}
+use Rattle.code.specs.Definitions.Operations.{FromLists}
 use Rattle.code.specs.Definitions.Orders.{Shortlex}
 use Rattle.code.specs.Definitions.Readings.{TwoReadings, Ambiguous, Decipherable}
-use Rattle.code.specs.Definitions.Sheets.{limits, FromSheet}
+use Rattle.code.specs.Definitions.Sheets.{limits}
 use Rattle.code.specs.Definitions.Tables.{Table, tableOf}
 use Rattle.code.specs.Laws.Lists.{table-map}
 use Rattle.code.specs.Laws.Readings.{first-two-readings}
+use Rattle.copies.specs.Matches.{named-two, lifted-two, decipherable-lifted, lifted-delay}
+use Rattle.enlargements.specs.Listed.{from-lists}
+use Rattle.enlargements.specs.Meaning.{Covers, value-covers}
 use Rattle.places.specs.Codes.{code-fits}
 use Rattle.places.specs.Lays.{base}
 use Rattle.places.specs.Whole.{Fits}
-use Rattle.table.specs.Given.{well}
 use Rattle.theory.specs.Ambiguity.{LeastTwoEnds, at-most, ends→readings, readings→ends}
 use Rattle.theory.specs.Finite.{placeCount, pairCount, pairs-within}
 use Rattle.theory.specs.Lengths.{short-ends, least-short, delay-short}
@@ -34,25 +38,31 @@ module _ {t : Table} (fits : Fits t) where
   pub least-few : {m : List ℕ} → LeastTwoEnds t m → length m ≤ 8256
   least-few l = omega (arith, least-short (fits .plain) l, pairs-few)
 
-  -- The shortest ambiguous message has at most 8,256 symbols: where some message has two readings, two ends are reached by at most so many.
-  pub message-few : {m s u : List ℕ} → Ambiguous t m s u → length m ≤ 8256
-  message-few {m} a =
-      let h = short-ends (fits .plain) (readings→ends (fits .plain) (first-two-readings (a .readings)) .ends) in
+  -- The least message with two readings has at most 8,256 symbols: where some message has two, two ends are reached by at most so many.
+  pub message-few : {m : List ℕ} → TwoReadings t m → ((n : List ℕ) → TwoReadings t n → (n ≡ m → ⊥) → Shortlex m n) → length m ≤ 8256
+  message-few {m} two least =
+      let h = short-ends (fits .plain) (readings→ends (fits .plain) two .ends) in
       omega (arith, h .short, pairs-few, at-most m (h .m) (by (h .m) (ends→readings (fits .plain) (h .ends)) (List-discrete ℕ-discrete (h .m) m)))
     where
       by : (n : List ℕ) → TwoReadings t n → Dec (n ≡ m) → (m ≡ n) ⊎ Shortlex m n
       by n r (yes e) = inl (sym e)
-      by n r (no e) = inr (a .least n r e)
+      by n r (no e) = inr (least n r e)
 
   -- 01: "Delays therefore run from 0 to 8,257 at most."
   pub delay-few : {N : ℕ} → Decipherable t → Delay t N → N ≤ 8257
   delay-few {N} d h = omega (arith, delay-short (fits .plain) N d h, pairs-few)
 
-module _ {c : Code} (sheet : FromSheet limits c) where
-  -- The shortest ambiguous message of a table that a sheet gives has at most 8,256 symbols,
-  pub sheet-message-few : {m s u : List ℕ} → Ambiguous (tableOf c) m s u → length m ≤ 8256
-  sheet-message-few = message-few (code-fits c (well sheet))
+module _ {e : Enlarged} (lists : FromLists limits e) where
+  value-fits : Fits (tableOf (e .code))
+  value-fits = code-fits (e .code) (from-lists lists .code)
+
+  covers : Covers e (originalTable e)
+  covers = value-covers (from-lists lists)
+
+  -- The shortest ambiguous message of a value that a sheet and a list give has at most 8,256 symbols,
+  pub value-message-few : {m s u : List ℕ} → Ambiguous (originalTable e) m s u → length m ≤ 8256
+  value-message-few a = message-few value-fits (lifted-two covers (first-two-readings (a .readings))) (λ n r. a .least n (named-two covers r))
 
   -- and the delay of a decipherable one is at most 8,257.
-  pub sheet-delay-few : {N : ℕ} → Decipherable (tableOf c) → Delay (tableOf c) N → N ≤ 8257
-  sheet-delay-few = delay-few (code-fits c (well sheet))
+  pub value-delay-few : {N : ℕ} → Decipherable (originalTable e) → Delay (originalTable e) N → N ≤ 8257
+  value-delay-few d h = delay-few value-fits (decipherable-lifted covers d) (lifted-delay covers h)

@@ -4,7 +4,6 @@ use mathlib.Core.List.{List}
 use Prim.Native.Nat.{ℕ}
 use native.Mathlib.Omega.{arith}
 use lib.ListN.{length}
-use Rattle.code.specs.declared.Code.{Code}
 use Rattle.code.specs.declared.Reading.{Reading}
 use Rattle.code.specs.declared.Reading.the-variants.{Two}
 use Rattle.code.specs.declared.SymbolCount.{SymbolCount}
@@ -13,9 +12,8 @@ use Rattle.code.specs.declared.Verdict.{Verdict}
 use Rattle.code.specs.declared.Verdict.the-variants.{Ambiguous as Two-ways}
 use Rattle.code.specs.Definitions.Operations.{written, zeroed}
 use Rattle.code.specs.Definitions.Readings.{FirstTwo, TwoReadings}
-use Rattle.code.specs.Definitions.Tables.{Table, tableOf}
-use Rattle.reading.specs.Core.{Finds, unreadable, one, two}
-use Rattle.reading.specs.Public.{FindsAll}
+use Rattle.code.specs.Definitions.Tables.{Table}
+use Rattle.finding.specs.Core.{Finds, unreadable, one, two, FindsAll}
 
 -- The first two readings of m stand in the reading buffers, and the verdict has the three lengths. f, g and w are what the buffers held, f′, g′ and w′ what
 -- they hold.
@@ -43,10 +41,10 @@ read-twice {a = a} {b = b} (two {c = c} {d = d} o e k p q) i z l =
     let y : d ≡ b = cc in
     twice o (sym l) (rw x at (sym e)) (rw y at (sym k)) p q z
 
-module _ {c : Code} {m f g w f′ g′ w′ : List ℕ} {r : Reading} (finds : FindsAll c m f g w f′ g′ w′ r) where
+module _ {t : Table} {m f g w f′ g′ w′ : List ℕ} {r : Reading} (finds : FindsAll t m f g w f′ g′ w′ r) where
   -- A message with two readings gets no other answer.
-  pub finds-two : TwoReadings (tableOf c) m → OfTwo r
+  pub finds-two : TwoReadings t m → OfTwo r
   finds-two h = of-two h (finds .finds)
 
-  pub finds-twice : {n : SymbolCount} {a b : WordCount} → r ≡ Two a b → n .0 ≡ length m → ReadTwice (tableOf c) m f g w f′ g′ w′ (Two-ways n a b)
+  pub finds-twice : {n : SymbolCount} {a b : WordCount} → r ≡ Two a b → n .0 ≡ length m → ReadTwice t m f g w f′ g′ w′ (Two-ways n a b)
   finds-twice i l = read-twice (finds .finds) i (finds .work) l

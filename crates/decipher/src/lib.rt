@@ -1,26 +1,29 @@
-// The verdict on a code: ambiguous, decipherable with its delay, or decipherable without bound. The shortest message of a walk over the
+// The verdict on a code with copies or without: ambiguous, decipherable with its delay, or decipherable without bound. The shortest message of a walk over the
 // pairs of places to two ends is looked for; where there is none, the longest walk tells the delay.
 
 use code::Code;
+use code::Enlarged;
 use code::Judgement;
 use code::Reading;
 use code::Refusal;
 use code::SymbolCount;
 use code::Verdict;
 use delay::Extent;
+use enlargements::well_enlarged;
 use places::rivals::some_rivals;
+use reading::named::find_named;
 use shortest::Search;
 ghost use mathlib.Core.Path.{_≡_};
 ghost use Prim.Native.Nat.{_≤_};
 ghost use lib.ListN.{length};
+ghost use Rattle.code.specs.Definitions.Enlarged.{originalTable};
 ghost use Rattle.code.specs.Definitions.Operations.{Judges};
 ghost use Rattle.code.specs.Definitions.Readings.{TwoReadings};
 ghost use Rattle.code.specs.Definitions.Sheets.{limits};
-ghost use Rattle.code.specs.Definitions.Tables.{tableOf};
+ghost use Rattle.enlargements.specs.WellEnlarged.{WellEnlarged};
 ghost use Rattle.places.specs.Flat.{Laid};
 ghost use Rattle.places.specs.Roots.{Numbered};
 ghost use Rattle.table.specs.Exactly.{Exactly};
-ghost use Rattle.table.specs.WellFormed.{WellFormed};
 ghost use Rattle.decipher.specs.Buffers.{Short, Room};
 ghost use Rattle.decipher.specs.Delays.{delayOf, Measured};
 ghost use Rattle.decipher.specs.Twice.{ReadTwice};
@@ -56,19 +59,19 @@ fn is_short(message: usize, first: usize, second: usize, work: usize) -> bool
 
 // The verdict `ambiguous`, from a message that has several readings; the first two then stand in their buffers.
 fn ambiguous(
-    code: Code,
+    e: Enlarged,
     message: &[u8],
     first: &mut [u8],
     second: &mut [u8],
     work: &mut [u64],
 ) -> Verdict
-    requires { ⌜ WellFormed limits code × TwoReadings (tableOf code) (now message) × (length (now message) ≤ 8256)
+    requires { ⌜ WellEnlarged limits e × TwoReadings (originalTable e) (now message) × (length (now message) ≤ 8256)
         × (8256 ≤ length (now first)) × (8256 ≤ length (now second)) × (16384 ≤ length (now work)) ⌝ }
-    ensures { λ r. ⌜ ReadTwice (tableOf code) (now (message .entry)) (now (first .entry)) (now (second .entry)) (now (work .entry))
+    ensures { λ r. ⌜ ReadTwice (originalTable e) (now (message .entry)) (now (first .entry)) (now (second .entry)) (now (work .entry))
         (now (first .exit)) (now (second .exit)) (now (work .exit)) r ⌝ }
 {
     let n = message.len();
-    let Reading::Two(a, b) = reading::find_readings(code, message, first, second, work) else {
+    let Reading::Two(a, b) = find_named(e, message, first, second, work) else {
         // not reached: the message has a second reading
         return Verdict::Unbounded;
     };
@@ -103,43 +106,43 @@ fn decipherable(places: &[u8], work: &mut [u64]) -> Verdict
     }
 }
 
-// The verdict on a code that an accepted sheet gives, in buffers that are long enough.
+// The verdict on a code that a sheet and a list give, in buffers that are long enough. The searches are over its words and copies alike.
 fn decide(
-    code: Code,
+    e: Enlarged,
     message: &mut [u8],
     first: &mut [u8],
     second: &mut [u8],
     work: &mut [u64],
 ) -> Verdict
-    requires { ⌜ WellFormed limits code × Room (length (now message)) (length (now first)) (length (now second)) (length (now work)) ⌝ }
-    ensures { λ r. ⌜ Decided code (now (message .entry)) (now (first .entry)) (now (second .entry)) (now (work .entry))
+    requires { ⌜ WellEnlarged limits e × Room (length (now message)) (length (now first)) (length (now second)) (length (now work)) ⌝ }
+    ensures { λ r. ⌜ Decided (originalTable e) (now (message .entry)) (now (first .entry)) (now (second .entry)) (now (work .entry))
         (now (message .exit)) (now (first .exit)) (now (second .exit)) (now (work .exit)) r ⌝ }
 {
     let mut marks = [0u16; Pairs::MARKS];
-    let places = endings::lay_out(code);
+    let places = endings::lay_out(e.code);
     match shortest::shortest(&places, &mut marks, work, message) {
-        Search::Found(n) => ambiguous(code, &message[..n], first, second, work),
+        Search::Found(n) => ambiguous(e, &message[..n], first, second, work),
         Search::Nothing => decipherable(&places, work),
     }
 }
 
-// Gives the verdict on a code, or the lowest refusal that holds, 8 or 13. For an ambiguous code the message and its first two readings
-// stand at the start of their buffers; otherwise these are as they were. After a verdict the working buffer is zero.
+// Gives the verdict on a code, or the lowest refusal that holds, 8 or 13. For an ambiguous code the message and its first two readings, in the
+// numbers of original words, stand at the start of their buffers; otherwise these are as they were. After a verdict the working buffer is zero.
 pub fn verdict(
-    code: Code,
+    e: Enlarged,
     message: &mut [u8],
     first: &mut [u8],
     second: &mut [u8],
     work: &mut [u64],
 ) -> Judgement
-    ensures { λ r. ⌜ Judges limits code (now (message .entry)) (now (first .entry)) (now (second .entry)) (now (work .entry))
+    ensures { λ r. ⌜ Judges limits e (now (message .entry)) (now (first .entry)) (now (second .entry)) (now (work .entry))
         (now (message .exit)) (now (first .exit)) (now (second .exit)) (now (work .exit)) r ⌝ }
 {
-    if !table::well_formed(code) {
+    if !well_enlarged(e) {
         return Judgement::Refused(Refusal::NotFromSheet);
     }
     if is_short(message.len(), first.len(), second.len(), work.len()) {
         return Judgement::Refused(Refusal::ShortBuffer);
     }
-    Judgement::Judged(decide(code, message, first, second, work))
+    Judgement::Judged(decide(e, message, first, second, work))
 }

@@ -1,11 +1,2 @@
-pub mod Firsts
-pub mod FirstWords
-pub mod Walks
-pub mod Readings
-pub mod Choices
-pub mod Shown
-pub mod Steps
-pub mod Answers
-pub mod Core
-pub mod Parts
 pub mod Public
+pub mod Named

@@ -1,85 +1,18 @@
-// Reading a message: whether no, one or several permitted sequences of words have it, and the first two of them.
+// Reading a message by a code with copies or without: whether no, one or several permitted sequences of original words have it, and the first two of them.
 
-mod choices;
-mod walks;
+pub mod named;
 
-use code::Code;
+use code::Enlarged;
 use code::Message;
 use code::Reading;
 use code::Refusal;
 use code::Word;
-use sets::Sets;
-ghost use mathlib.Core.Path.{_≡_};
-ghost use Prim.Native.Nat.{_+_, _^_, _≤_, _<_};
-ghost use lib.ListN.{length};
+use enlargements::well_enlarged;
+use named::find_named;
 ghost use Rattle.code.specs.Definitions.Sheets.{limits};
 ghost use Rattle.code.specs.Definitions.Operations.{HasHigh, ReadsMessage};
 ghost use Rattle.table.specs.Exactly.{Exactly};
-ghost use Rattle.table.specs.WellFormed.{WellFormed};
-ghost use Rattle.sets.specs.Sets.{SetsOf};
-ghost use Rattle.reading.specs.Core.{ReadsSets};
-ghost use Rattle.reading.specs.Public.{Short, FindsAll};
-
-// Reads a message by the sets of a code's words, which may serve many messages. The marks stand in the working buffer, which need not be clear before and is
-// zero after.
-pub fn read_core(
-    having: &[u64],
-    ends: &[u64],
-    rows: &[u64],
-    lengths: &[usize],
-    n: usize,
-    longest: usize,
-    message: &[u8],
-    first: &mut [u8],
-    second: &mut [u8],
-    work: &mut [u64],
-) -> Reading
-    requires { ⌜ SetsOf (now having) (now ends) (now rows) (now lengths) n longest
-        × (length (now work) ≡ length (now message) + 1) × (length (now message) < 2 ^ 32) × (length (now message) ≤ length (now first))
-        × (length (now message) ≤ length (now second)) ⌝ }
-    ensures { λ r. ⌜ ReadsSets (now (having .entry)) (now (ends .entry)) (now (rows .entry)) (now (lengths .entry)) n longest (now (message .entry))
-        (now (first .entry)) (now (second .entry)) (now (work .entry)) (now (first .exit)) (now (second .exit)) (now (work .exit)) r ⌝ }
-{
-    marking::mark_all(having, ends, rows, longest, message, work);
-    let r = walks::first_readings(rows, lengths, n, message.len(), work, first, second);
-    bits::clear(work);
-    r
-}
-
-// Reads a message by a code that an accepted sheet gives, in buffers that are long enough.
-pub fn find_readings(
-    code: Code,
-    message: &[u8],
-    first: &mut [u8],
-    second: &mut [u8],
-    work: &mut [u64],
-) -> Reading
-    requires { ⌜ WellFormed limits code × (length (now message) < 2 ^ 32) × (length (now message) ≤ length (now first))
-        × (length (now message) ≤ length (now second)) × (length (now message) < length (now work)) ⌝ }
-    ensures { λ r. ⌜ FindsAll code (now (message .entry)) (now (first .entry)) (now (second .entry)) (now (work .entry))
-        (now (first .exit)) (now (second .exit)) (now (work .exit)) r ⌝ }
-{
-    let mut having = [0u64; Sets::SYMBOLS];
-    let mut ends = [0u64; Word::SYMBOLS];
-    let mut rows = [0u64; Code::WORDS];
-    let mut lengths = [0usize; Code::WORDS];
-    let longest = sets::lay(code, &mut having, &mut ends, &mut rows, &mut lengths);
-    // Only the rest is cleared: the marks need no clear entries, and leave theirs zero.
-    let used = message.len() + 1;
-    bits::clear(&mut work[used..]);
-    read_core(
-        &having,
-        &ends,
-        &rows,
-        &lengths,
-        code.count,
-        longest,
-        message,
-        first,
-        second,
-        &mut work[..used],
-    )
-}
+ghost use Rattle.reading.specs.Public.{Short};
 
 // Whether some symbol of the message is above 15.
 fn has_high(message: &[u8]) -> bool
@@ -108,18 +41,18 @@ fn is_short(n: usize, first: usize, second: usize, work: usize) -> bool
     work <= n
 }
 
-// Reads a message: the only reading or the first two, or the lowest refusal that holds.
+// Reads a message: the only reading or the first two, in the numbers of original words, or the lowest refusal that holds.
 pub fn read(
-    code: Code,
+    e: Enlarged,
     message: &[u8],
     first: &mut [u8],
     second: &mut [u8],
     work: &mut [u64],
 ) -> Reading
-    ensures { λ r. ⌜ ReadsMessage limits code (now (message .entry)) (now (first .entry)) (now (second .entry)) (now (work .entry))
+    ensures { λ r. ⌜ ReadsMessage limits e (now (message .entry)) (now (first .entry)) (now (second .entry)) (now (work .entry))
         (now (first .exit)) (now (second .exit)) (now (work .exit)) r ⌝ }
 {
-    if !table::well_formed(code) {
+    if !well_enlarged(e) {
         return Reading::Refused(Refusal::NotFromSheet);
     }
     if Message::SYMBOLS < message.len() {
@@ -131,5 +64,5 @@ pub fn read(
     if is_short(message.len(), first.len(), second.len(), work.len()) {
         return Reading::Refused(Refusal::ShortBuffer);
     }
-    find_readings(code, message, first, second, work)
+    find_named(e, message, first, second, work)
 }

@@ -16,7 +16,7 @@ ghost use Rattle.table.specs.WellFormed.{RowFits, WellFormed};
 ghost use Rattle.renumbering.specs.Reordering.{Known, rowFrom};
 
 // An array of numbers, of which the first n are put in the order of the list.
-fn reorder_entries(
+pub fn reorder_entries(
     entries: [u8; Code::WORDS],
     old: [u8; Code::WORDS],
     n: usize,

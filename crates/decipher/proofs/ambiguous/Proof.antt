@@ -9,7 +9,7 @@ use Rattle.decipher.proofs.ambiguous.Tie as tie
 returns : tie.Need-returns
 returns c =
     let at = c .before .before .before .before .before .before .before in
-    let two = finds-two (at .find-readings .ensures) (at .before .before .before .before .before .before .before .before .pre .1) in
+    let two = finds-two (at .find-named .ensures) (at .before .before .before .before .before .before .before .before .pre .1) in
     absurd (⊎-elim (λ h. omega arith) (λ h. omega arith) (rw (two .is) at (c .match .keys2)))
 
 returns-2 : tie.Need-returns-2

@@ -1,7 +1,7 @@
 -- `verdict` meets its contract: a lemma for each refusal, in their order, and for the verdict where none holds.
 use borrow.Author.Needs.{needs}
 use borrow.Author.Tests.{not-false}
-use Rattle.table.specs.Given.{well}
+use Rattle.enlargements.specs.Listed.{from-lists}
 use Rattle.decipher.specs.Buffers.{has-room}
 use Rattle.decipher.specs.Ways.{way-8, way-13, way-judged}
 use Rattle.decipher.proofs.verdict.Statement.{statement}
@@ -17,7 +17,7 @@ decide-requires : tie.Need-decide-requires
 decide-requires c κs =
     let tested = c .before .before .before .before in
     let at = tested .before in
-    (well (at .before .before .well-formed .ensures .yes (not-false _ (at .before .if1 .left))), has-room (at .is-short .ensures .no (tested .if2 .left)))
+    (from-lists (at .before .before .well-enlarged .ensures .yes (not-false _ (at .before .if1 .left))), has-room (at .is-short .ensures .no (tested .if2 .left)))
 
 returns-3 : tie.Need-returns-3
 returns-3 c = search way-judged
