@@ -11,6 +11,7 @@ use lib.ListN.{length}
 use borrow.Author.Tests.{ltb-false}
 use Rattle.code.specs.declared.Enlarged.{Enlarged}
 use Rattle.code.specs.declared.Enlargement.{Enlargement}
+use Rattle.code.specs.declared.Refusal.{Refusal}
 use Rattle.code.specs.declared.SheetAnswer.the-variants.{Accepted, Refused}
 use Rattle.code.specs.declared.Limits.{Limits}
 use Rattle.code.specs.declared.Code.{Code}
@@ -37,17 +38,22 @@ pub record RoomyLists (l : Limits) : Type 0 where
   pub digits : l .words ≤ 100
   pub bytes : (k : ℕ) → k ≤ l .words → 10 * ((l .words - k) * k) ≤ l .bytes
 
-never-true : (b : Bool) → (b ≡ true → ⊥) → b ≡ false
+pub never-true : (b : Bool) → (b ≡ true → ⊥) → b ≡ false
 never-true true n = absurd (n refl)
 never-true false n = refl
 
+-- A list that is accepted is not refused.
+pub accepted-never : {e d : Enlarged} {r : Refusal} → _≡_ {A = Enlargement} (record { answer = Accepted; enlarged = e }) (record { answer = Refused r; enlarged = d }) → ⊥
+accepted-never {r = r} x =
+    let a : Accepted ≡ Refused r = ap (λ (y : Enlargement). y .answer) x in
+    let y : _≡_ {A = ℕ} 0 1 = cc in
+    omega arith
+
 module _ {l : Limits} {e : Enlarged} where
-  given-by : (c : Code) (s : List ℕ) → WellFormed l c → Enlarges l (plainOf l c) s (record { answer = Accepted; enlarged = e }) → FromBans l e
+  -- the bans that an accepted list gives
+  unfoldable pub given-by : (c : Code) (s : List ℕ) → WellFormed l c → Enlarges l (plainOf l c) s (record { answer = Accepted; enlarged = e }) → FromBans l e
   unfolding plainOf
-  given-by c s w (refused {r} h x) =
-      let a : Accepted ≡ Refused r = ap (λ (y : Enlargement). y .answer) x in
-      let y : _≡_ {A = ℕ} 0 1 = cc in
-      absurd (omega arith)
+  given-by c s w (refused h x) = absurd (accepted-never x)
   given-by c s w (enlarged h x) =
       let listed = never-true (refused16 (c .count) s) (h .1 .1 .0) in
       record {

@@ -31,7 +31,7 @@ none-fair n c = record {
   base = λ x y h k f. rw (origin-word n [] y (omega arith)) f;
 }
 
-no-copies : (e : Enlarged) → e .originals ≡ e .code .count → copiesIn e ≡ []
+pub no-copies : (e : Enlarged) → e .originals ≡ e .code .count → copiesIn e ≡ []
 unfolding table
 no-copies e h = let none : e .code .count - e .originals ≡ 0 = omega arith in rw none
 

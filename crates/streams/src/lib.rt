@@ -1,10 +1,10 @@
-// An input taken whole. A read that fails is not the end of the input, and one that was interrupted is tried again.
+// An input taken whole, from a stream or from a file. A read that fails is not the end of the input, and one that was interrupted is tried again.
 
 use libc::EINTR;
 ghost use lib.ListN.{length};
 ghost use Rattle.streams.specs.Inputs.{Holds, Within};
 
-// The bytes at the start of a buffer, which are the whole input or fill the buffer; or a read failed, and errno says why.
+// The bytes at the start of a buffer, which are the whole input or fill the buffer; or an open or a read failed, and errno says why.
 pub enum Input {
     Bytes(usize),
     Failed,
@@ -59,4 +59,29 @@ pub fn read_input(fd: i32, bytes: &mut [u8]) -> Input
         }
     }
     Input::Bytes(done)
+}
+
+// The same for the file at this path.
+pub fn read_file(path: &[u8], bytes: &mut [u8]) -> Input
+    ensures { λ r. ⌜ Holds (now (bytes .exit)) r ⌝ }
+{
+    let file = os::open_read(path);
+    if file < 0 {
+        return Input::Failed;
+    }
+    let read = read_input(file, bytes);
+    libc::close(file);
+    read
+}
+
+// The same for the file that argument i names. A name that is longer than a path may be is not cut: `arg` says so by errno.
+pub fn read_argument(i: usize, bytes: &mut [u8]) -> Input
+    ensures { λ r. ⌜ Holds (now (bytes .exit)) r ⌝ }
+{
+    let mut path = io::buffer();
+    let n = os::arg(i, &mut path);
+    if os::errno() != 0 {
+        return Input::Failed;
+    }
+    read_file(&path[..n], bytes)
 }

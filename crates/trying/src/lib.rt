@@ -11,18 +11,11 @@ ghost use Rattle.trying.specs.All.{All};
 pub fn read_file(path: &[u8], bytes: &mut [u8]) -> usize
     ensures { λ r. ⌜ Counts r (now (bytes .exit)) ⌝ }
 {
-    let file = os::open_read(path);
-    if file < 0 {
-        os::fail(path);
-        return 0;
-    }
-    let read = streams::read_input(file, bytes);
+    let read = streams::read_file(path, bytes);
     let Input::Bytes(n) = read else {
         os::fail(path);
-        libc::close(file);
         return 0;
     };
-    libc::close(file);
     n
 }
 
