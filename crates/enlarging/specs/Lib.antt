@@ -5,4 +5,3 @@ pub mod Adding
 pub mod Coming
 pub mod Filling
 pub mod Answers
-pub mod Plain

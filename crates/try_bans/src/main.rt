@@ -8,10 +8,9 @@ use code::Enlarged;
 use code::Sheet;
 use code::SheetAnswer;
 use libc::STDOUT_FILENO;
+use trying::fields::find;
 use values::write_result;
 use values::write_value;
-ghost use Prim.Native.Nat.{_≤_};
-ghost use lib.ListN.{length};
 
 fn from_sheet(sheet: &[u8]) -> Enlarged {
     let taken = sheet::take_in(sheet);
@@ -44,20 +43,6 @@ fn try_list(value: Enlarged, list: &[u8]) {
     enlarge(enlarged, list);
 }
 
-// The blank between the names of two files, or the end of the argument.
-fn blank(names: &[u8]) -> usize
-    ensures { λ r. ⌜ r ≤ length (now (names .entry)) ⌝ }
-{
-    let mut i: usize = 0;
-    while i < names.len() {
-        if names[i] == b' ' {
-            return i;
-        }
-        i += 1;
-    }
-    i
-}
-
 fn try_files(sheet: &[u8], list: &[u8]) {
     let mut bytes = [0u8; Sheet::BYTES + 1];
     let n = trying::read_file(sheet, &mut bytes);
@@ -69,7 +54,7 @@ fn try_files(sheet: &[u8], list: &[u8]) {
 
 fn try_argument(names: &[u8]) {
     write_line(names);
-    let at = blank(names);
+    let at = find(names, 0, b' ');
     if at < names.len() {
         try_files(&names[..at], &names[at + 1..]);
     }

@@ -1,17 +1,17 @@
 // Each argument is a trial, in fields with a blank between:
 //     encode SHEET WORDS ROOM
 //     read SHEET MESSAGE ROOM ROOM ROOM
-// SHEET is a file, and a ROOM is the length of a lent buffer. After the rooms the table may be changed by one of
-//     count N    length X N    symbol X K N    entry X Y N
+// SHEET is a file, or two with a plus sign between, a sheet and a ban list; a ROOM is the length of a lent buffer. After the rooms the code may be changed by one of
+//     count N    length X N    symbol X K N    entry X Y N    originals N    origin X N    behind X N
 // The program writes the trial, its answer, and what the lent buffers then hold.
 
 mod buffers;
-mod fields;
 mod lists;
 mod tables;
 mod trials;
 
 use libc::STDOUT_FILENO;
+use trying::fields;
 
 fn try_line(line: &[u8]) {
     io::write_all(STDOUT_FILENO, line);

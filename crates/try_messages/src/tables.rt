@@ -1,10 +1,11 @@
-// The table that a trial goes by: what its sheet gives, or that with one number changed.
+// The code that a trial goes by: what its sheet and its ban list give, or that with one number changed.
 
-use crate::fields;
 use code::Code;
+use code::Enlarged;
 use code::Row;
 use code::Sheet;
 use code::Word;
+use trying::fields;
 ghost use Prim.Native.Nat.{_<_};
 
 fn from_sheet(sheet: &[u8]) -> Code {
@@ -17,6 +18,24 @@ fn from_file(path: &[u8]) -> Code {
     let mut bytes = [0u8; Sheet::BYTES + 1];
     let n = trying::read_file(path, &mut bytes);
     from_sheet(&bytes[..n])
+}
+
+// The code with the copies that the list in a file asks for.
+fn with_bans(value: Enlarged, path: &[u8]) -> Enlarged {
+    let mut bytes = [0u8; Sheet::BYTES + 1];
+    let n = trying::read_file(path, &mut bytes);
+    let enlargement = banning::enlarge(value, &bytes[..n]);
+    enlargement.enlarged
+}
+
+// The code of a sheet and, behind a plus sign, of a ban list.
+fn from_files(names: &[u8]) -> Enlarged {
+    let plus = fields::find(names, 0, b'+');
+    let value = enlargements::plain(from_file(&names[..plus]));
+    if plus < names.len() {
+        return with_bans(value, &names[plus + 1..]);
+    }
+    value
 }
 
 fn with_count(mut code: Code, count: usize) -> Code {
@@ -94,12 +113,45 @@ fn changed(code: Code, line: &[u8], k: usize) -> Code
     code
 }
 
-// The table of a trial: field 1 names its sheet, and a change may stand from field k on.
-pub fn of_trial(line: &[u8], k: usize) -> Code
+fn with_origin(mut value: Enlarged, x: usize, of: u8) -> Enlarged
+    requires { ⌜ x < 32 ⌝ }
+{
+    value.origins[x] = of;
+    value
+}
+
+fn with_behind(mut value: Enlarged, x: usize, after: u8) -> Enlarged
+    requires { ⌜ x < 32 ⌝ }
+{
+    value.behind[x] = after;
+    value
+}
+
+// The same for a code with copies.
+fn value_changed(mut value: Enlarged, line: &[u8], k: usize) -> Enlarged
+    requires { ⌜ k < 8 ⌝ }
+{
+    if fields::is(line, k, b"originals") {
+        value.originals = fields::number(line, k + 1);
+        return value;
+    }
+    let x = fields::number_within(line, k + 1, 31);
+    if fields::is(line, k, b"origin") {
+        return with_origin(value, x, fields::byte(line, k + 2));
+    }
+    if fields::is(line, k, b"behind") {
+        return with_behind(value, x, fields::byte(line, k + 2));
+    }
+    value.code = changed(value.code, line, k);
+    value
+}
+
+// The code of a trial: field 1 names its files, and a change may stand from field k on.
+pub fn of_trial(line: &[u8], k: usize) -> Enlarged
     requires { ⌜ k < 8 ⌝ }
 {
     let f = fields::field(line, 1);
     let a = f.from;
     let e = f.to;
-    changed(from_file(&line[a..e]), line, k)
+    value_changed(from_files(&line[a..e]), line, k)
 }

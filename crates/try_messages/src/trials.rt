@@ -1,7 +1,6 @@
 // A trial: lends the buffers, writes the answer, and what the buffers hold then.
 
 use crate::buffers;
-use crate::fields;
 use crate::lists;
 use crate::tables;
 use code::Encoding;
@@ -9,6 +8,7 @@ use code::Enlarged;
 use code::Reading;
 use code::Refusal;
 use libc::STDOUT_FILENO;
+use trying::fields;
 ghost use Prim.Native.Nat.{_≤_};
 ghost use lib.ListN.{length};
 
@@ -52,7 +52,7 @@ fn encode_in(value: Enlarged, words: &[u8], message: &mut [u8]) {
 }
 
 pub fn encode(line: &[u8]) {
-    let value = enlargements::plain(tables::of_trial(line, 4));
+    let value = tables::of_trial(line, 4);
     let mut words = [0u8; ENTRIES];
     let n = put_list(line, &mut words);
     let room = fields::number_within(line, 3, buffers::ROOM);
@@ -114,7 +114,7 @@ fn read_in(value: Enlarged, message: &[u8], first: &mut [u8], second: &mut [u8],
 }
 
 pub fn read(line: &[u8]) {
-    let value = enlargements::plain(tables::of_trial(line, 6));
+    let value = tables::of_trial(line, 6);
     let mut message = [0u8; ENTRIES];
     let n = put_list(line, &mut message);
     let a = fields::number_within(line, 3, buffers::ROOM);

@@ -2,8 +2,8 @@
 use borrow.Author.Needs.{needs}
 use Prim.Native.Nat.{_≤_, _-_}
 use lib.ListN.{length}
-use Rattle.try_messages.proofs.fields.find.Statement.{statement}
-use Rattle.try_messages.proofs.fields.find.Tie as tie
+use Rattle.trying.proofs.fields.find.Statement.{statement}
+use Rattle.trying.proofs.fields.find.Tie as tie
 
 abbrev Inv-loop : tie.InvT-loop
 Inv-loop text from byte i₀ i = (from ≤ i) × (i ≤ length text)

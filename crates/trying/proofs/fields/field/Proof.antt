@@ -2,8 +2,8 @@
 use borrow.Author.Needs.{needs}
 use Prim.Native.Nat.{_≤_, _-_}
 use lib.ListN.{length}
-use Rattle.try_messages.proofs.fields.field.Statement.{statement}
-use Rattle.try_messages.proofs.fields.field.Tie as tie
+use Rattle.trying.proofs.fields.field.Statement.{statement}
+use Rattle.trying.proofs.fields.field.Tie as tie
 
 abbrev Inv-loop : tie.InvT-loop
 Inv-loop line k from₀ i₀ from i = from ≤ length line

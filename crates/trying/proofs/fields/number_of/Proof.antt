@@ -2,8 +2,8 @@
 use borrow.Author.Needs.{needs}
 use Prim.Native.Nat.{_≤_, _-_}
 use lib.ListN.{length}
-use Rattle.try_messages.proofs.fields.number_of.Statement.{statement}
-use Rattle.try_messages.proofs.fields.number_of.Tie as tie
+use Rattle.trying.proofs.fields.number_of.Statement.{statement}
+use Rattle.trying.proofs.fields.number_of.Tie as tie
 
 abbrev Inv-loop : tie.InvT-loop
 Inv-loop text n₀ i₀ n i = i ≤ length text
