@@ -16,16 +16,16 @@ use std::fs;
 /// is left to codes of at most five symbols: code U alone has over 10^9.
 fn gives(code: &Code, expected: Verdict) {
     assert_eq!(verdict(code), expected);
-    assert_eq!(by_prefixes(code, 1_000).as_ref(), Some(&expected));
+    assert_eq!(by_prefixes(code, &[], 1_000).as_ref(), Some(&expected));
     if code.symbols() <= 5 {
-        assert_eq!(by_sequences(code), expected);
+        assert_eq!(by_sequences(code, &[]), expected);
     }
 }
 
 /// The message has this reading alone, also among all sequences.
 fn reads(code: &Code, message: &[u8], only: &[u8]) {
     assert_eq!(read(code, message), Ok(Readings::One(only.to_vec())));
-    assert_eq!(readings(code, message), [only]);
+    assert_eq!(readings(code, &[], message), [only]);
 }
 
 #[test]
@@ -62,7 +62,7 @@ fn case_6_equal_words() {
 fn case_7_code_t() {
     gives(&code_t(), ambiguous(&[0, 1, 0], &[0, 1], &[2, 0]));
     let sheet = b"0,1,1,1,1\r\n10,1,1,1,1\r\n01,1,1,1,1\r\n101,1,1,1,1\r\n";
-    assert_eq!(result(sheet), b"ambiguous,010\r\n0,1\r\n2,0\r\n");
+    assert_eq!(result(sheet, b""), b"ambiguous,010\r\n0,1\r\n2,0\r\n");
 }
 
 #[test]
@@ -121,7 +121,7 @@ fn openings_in_readings_and_sequences() {
     reads(&code, &[0, 1, 0], &[0, 1]);
     assert_eq!(read(&code_t(), &[0, 1]), Ok(Readings::One(vec![2])));
     assert_eq!(read(&code, &[0, 1]), Err(Refusal::NoReading));
-    assert!(readings(&code, &[0, 1]).is_empty());
+    assert!(readings(&code, &[], &[0, 1]).is_empty());
     assert_eq!(encode(&code, &[]), Ok(vec![]));
     assert_eq!(encode(&code, &[2, 0]), Err(Refusal::PairNotPermitted));
     assert_eq!(encode(&code, &[0, 2, 0]), Ok(vec![0, 0, 1, 0]));

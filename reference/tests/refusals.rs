@@ -107,9 +107,9 @@ fn the_lowest_is_returned() {
 
 #[test]
 fn refusals_are_printed() {
-    assert_eq!(result(b""), b"refused,1\r\n");
-    assert_eq!(result(b"0,2"), b"refused,7\r\n");
-    assert_eq!(result(b"0,2,1"), b"refused,15\r\n");
+    assert_eq!(result(b"", b""), b"refused,1\r\n");
+    assert_eq!(result(b"0,2", b""), b"refused,7\r\n");
+    assert_eq!(result(b"0,2,1", b""), b"refused,15\r\n");
 }
 
 #[test]

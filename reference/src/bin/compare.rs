@@ -19,7 +19,7 @@ fn main() -> io::Result<()> {
     let mut met: BTreeMap<String, usize> = BTreeMap::new();
     for round in 0..count {
         let sheet = if round % 2 == 0 { generate::sheet(&mut random) } else { generate::damaged_sheet(&mut random) };
-        let expected = print::result(&sheet);
+        let expected = print::result(&sheet, b"");
         let actual = printed(program, &sheet)?;
         if actual != expected {
             println!("sheet {round} differs: {:?}", String::from_utf8_lossy(&sheet));
