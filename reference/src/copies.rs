@@ -13,27 +13,28 @@ use crate::code::{Code, Copied, Refusal};
 /// order in which they first do; refusal 17 where the copies pass a limit. The
 /// code has no copies, and the bans are on its words.
 pub fn enlarge(code: &Code, bans: &[Ban]) -> Result<Code, Refusal> {
-    let mut enlarged = Code { copies: copies(bans), ..code.clone() };
-    for copy in &enlarged.copies {
-        enlarged.words.push(code.words[copy.word as usize].clone());
-        enlarged.starts.push(false);
-    }
-    let count = enlarged.words.len();
+    let copies = copies(bans);
+    let copied = copies.iter().map(|copy| &code.words[copy.word as usize]);
+    let words: Vec<Vec<u8>> = code.words.iter().chain(copied).cloned().collect();
+    let count = words.len();
+    let starts = code.starts.iter().copied().chain(copies.iter().map(|_| false)).collect();
+    let mut enlarged = Code { words, starts, rows: vec![vec![false; count]; count], copies };
     if count > Code::MAX_WORDS || enlarged.symbols() > Code::MAX_SYMBOLS {
         return Err(Refusal::TooManyCopies);
     }
-    let mut rows = vec![vec![false; count]; count];
     for last in 0..count {
         let y = enlarged.original(last);
         for x in 0..code.words.len() {
-            rows[enlarged.fitting(x, y)][last] = code.may_follow(x, y);
+            let next = enlarged.fitting(x, y);
+            enlarged.rows[next][last] = code.may_follow(x, y);
         }
     }
     for ban in bans {
         let [x, y, z] = [ban.x, ban.y, ban.z].map(usize::from);
-        rows[enlarged.fitting(x, z)][enlarged.fitting(z, y)] = false;
+        let (next, last) = (enlarged.fitting(x, z), enlarged.fitting(z, y));
+        enlarged.rows[next][last] = false;
     }
-    Ok(Code { rows, ..enlarged })
+    Ok(enlarged)
 }
 
 /// A copy for each two words Y, Z, in the order of the bans.
@@ -71,8 +72,11 @@ pub fn without_copies(code: &Code) -> (Code, Vec<Ban>) {
     (words, bans)
 }
 
-/// Do a code and bans give this code? Its copies are of its words, and after its words.
+/// Do a code and bans give this code? Its copies are of its words and stand after its words; without a ban it is the code itself.
 pub fn is_enlarged(code: &Code) -> bool {
+    if code.copies.is_empty() {
+        return true;
+    }
     if code.copies.iter().any(|copy| copy.word == copy.behind) {
         return false;
     }

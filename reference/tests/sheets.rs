@@ -27,7 +27,7 @@ fn stored_sheets() -> Vec<(String, Vec<u8>, Vec<u8>)> {
 fn stored_results() {
     let sheets = stored_sheets();
     for (name, sheet, stored) in &sheets {
-        assert_eq!(result(sheet), *stored, "{name}");
+        assert_eq!(result(sheet, b""), *stored, "{name}");
     }
     assert_eq!(sheets.len(), 48);
 }
@@ -37,7 +37,7 @@ fn stored_results() {
 fn stored_results_by_brute_force() {
     for (name, sheet, stored) in stored_sheets() {
         if let (Ok(code), false) = (take_in(&sheet), name.starts_with("largest-")) {
-            assert_eq!(by_prefixes(&code, 1_000).map(|verdict| printed(&verdict)), Some(stored), "{name}");
+            assert_eq!(by_prefixes(&code, &[], 1_000).map(|verdict| printed(&verdict)), Some(stored), "{name}");
         }
     }
 }

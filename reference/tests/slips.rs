@@ -131,7 +131,7 @@ fn taught(name: &str, slip: Slip, right: &str, wrong: &str) {
     let path = format!("{}/../sheets/{name}.csv", env!("CARGO_MANIFEST_DIR"));
     let sheet = fs::read(path).unwrap();
     let code = take_in(&sheet).unwrap();
-    let stored = String::from_utf8(result(&sheet)).unwrap();
+    let stored = String::from_utf8(result(&sheet, b"")).unwrap();
     let first_record = match stored.lines().next().unwrap().split_once(',').unwrap() {
         ("ambiguous", message) => format!("ambiguous after {}", message.len()),
         (kind, value) => format!("{kind},{value}"),
