@@ -265,7 +265,7 @@ fn without_equal_y_and_z(list: &[u8]) -> Vec<u8> {
     lines.join("\r\n").into_bytes()
 }
 
-/// A copy for every ban, also where bans name the same two words. The copies after the first are idle.
+/// A copy for every ban, also where bans name the same two words. What the further copies would hold is left out.
 fn enlarged_by_ban(table: &Table, list: &[u8]) -> (Option<Refusal>, Table) {
     let mut bans = bans::take_in(list, table.count).expect("an accepted list");
     bans.sort();
