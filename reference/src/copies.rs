@@ -72,7 +72,8 @@ pub fn without_copies(code: &Code) -> (Code, Vec<Ban>) {
     (words, bans)
 }
 
-/// Do a code and bans give this code? Its copies are of its words and stand after its words; without a ban it is the code itself.
+/// Do a code and bans give this code? A code without copies is given without
+/// bans. The copies are of original words, and stand after such.
 pub fn is_enlarged(code: &Code) -> bool {
     if code.copies.is_empty() {
         return true;

@@ -292,9 +292,10 @@ fn wrong_copies(slip: Slip, table: &Table, enlarged: &mut Table) {
             }
             Slip::CopyMayBegin => enlarged.starts[copy] = enlarged.starts[word],
             Slip::FollowerNotAsItsCopy => {
-                for other in words..count {
+                let copies = origins.iter().enumerate().take(count).skip(words);
+                for (other, &original) in copies {
                     let entry = std::mem::take(&mut enlarged.rows[other].entries[copy]);
-                    enlarged.rows[origins[other] as usize].entries[copy] |= entry;
+                    enlarged.rows[original as usize].entries[copy] |= entry;
                 }
             }
             // The banned word is kept from following the word and not the copy.

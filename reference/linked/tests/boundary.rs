@@ -143,7 +143,8 @@ fn short_images_of_enlarging() {
     assert_eq!(furlazon::take_in(&write(&Code::free(&["0"; 32])), &mut full), 0);
     let (short, number) = (Refusal::BufferTooShort, |refusal: Refusal| u64::from(refusal.number()));
     // The image, the list, the refusal with room for the enlarged image if there is one, and that without room.
-    let cases: [(&[u8], &[u8], Option<Refusal>, Refusal); 12] = [
+    type Case<'a> = (&'a [u8], &'a [u8], Option<Refusal>, Refusal);
+    let cases: [Case; 12] = [
         (&table, b"", None, short),
         (&table, b"0,0,1\r\n", None, short),
         (&table, &too_long, Some(Refusal::SheetSize), Refusal::SheetSize),

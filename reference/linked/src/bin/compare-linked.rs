@@ -35,7 +35,8 @@ fn main() {
     println!("damaged images: {}", told(&met));
     short_buffers(start, rounds).unwrap_or_else(|difference| fail(&difference));
     println!("short images and answers: refused, nothing changed");
-    // A round has a sheet, a ban list and three inputs for a table, a ban list and three inputs for a damaged image, and four for short buffers.
+    // A round has a sheet, a ban list and three inputs for a table, a ban list and three inputs for a damaged image,
+    // and four inputs with short buffers.
     println!("all the same: {} inputs in {} s, start {start}", 13 * rounds, clock.elapsed().as_secs());
 }
 
@@ -49,8 +50,8 @@ fn told(met: &Met) -> String {
     let Met { accepted, enlarged, encoded, one_reading, two_readings, ambiguous, delayed, unbounded, refused } = met;
     let refused: Vec<String> = (1..refused.len()).map(|number| format!("{number}: {}", refused[number])).collect();
     format!(
-        "{accepted} sheets and {enlarged} ban lists accepted, {encoded} encoded, {one_reading} with one reading, {two_readings} with more, \
-         {ambiguous} ambiguous, {delayed} with a delay, {unbounded} without bound; refused {}",
+        "{accepted} sheets and {enlarged} ban lists accepted, {encoded} encoded, {one_reading} with one reading, \
+         {two_readings} with more, {ambiguous} ambiguous, {delayed} with a delay, {unbounded} without bound; refused {}",
         refused.join(", ")
     )
 }
@@ -99,7 +100,8 @@ fn short_buffers(start: u64, rounds: usize) -> Result<(), String> {
     Ok(())
 }
 
-/// What enlarging is refused with where there is no room for the image that it would write. A short image cannot be tested.
+/// What enlarging is refused with where there is no room for the image that it
+/// would write. A short image cannot be tested.
 fn list_number(image: &[u8], list: &[u8]) -> u64 {
     let short = Refusal::BufferTooShort;
     let refused = image.try_into().ok().and_then(|image| Reference.enlarge(&image::unpack(image), list).0);
