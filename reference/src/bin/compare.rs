@@ -71,7 +71,7 @@ fn kind(printed: &[u8]) -> String {
     }
 }
 
-/// What the program prints for a sheet on its standard input, with the path of a ban list as its argument if there is one.
+/// What the program prints for a sheet on its standard input; the path of a ban list, if there is one, is its argument.
 fn printed(program: &str, sheet: &[u8], list: Option<impl AsRef<Path>>) -> io::Result<Vec<u8>> {
     let arguments = list.iter().map(|path| path.as_ref());
     let mut child = Command::new(program).args(arguments).stdin(Stdio::piped()).stdout(Stdio::piped()).spawn()?;

@@ -51,7 +51,8 @@ fn told(met: &Met) -> String {
     let refused: Vec<String> = (1..refused.len()).map(|number| format!("{number}: {}", refused[number])).collect();
     format!(
         "{accepted} sheets and {enlarged} ban lists accepted, {encoded} encoded, {one_reading} with one reading, \
-         {two_readings} with more, {ambiguous} ambiguous, {delayed} with a delay, {unbounded} without bound; refused {}",
+         {two_readings} with more, {ambiguous} ambiguous, {delayed} with a delay, {unbounded} without bound; \
+         refused {}",
         refused.join(", ")
     )
 }
