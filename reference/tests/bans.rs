@@ -199,10 +199,11 @@ fn what_is_permitted_is_encoded() {
     assert!(encoded > 3_000 && banned > 300);
 }
 
-/// What a value of these words may be, as the request says it entry by entry.
+/// Do the copies of a table fit, entry by entry? Its words and copies together are a code that a sheet gives.
 fn may_be_given(table: &Table) -> bool {
     let (count, originals) = (table.count, table.originals);
-    if !(1..=count).contains(&originals) || (0..originals).any(|x| table.origins[x] as usize != x) {
+    let is_word = |x: usize| table.origins[x] as usize == x && table.behind[x] == 0;
+    if !(1..=count).contains(&originals) || !(0..originals).all(is_word) {
         return false;
     }
     let entry = |x: usize, y: usize| table.rows[x].entries[y] == 1;
@@ -222,6 +223,37 @@ fn may_be_given(table: &Table) -> bool {
     };
     let entry_fits = |x: usize, y: usize| entry(x, origin(y)) && x == next(origin(y), origin(x));
     (originals..count).all(copy_fits) && (0..count).all(|x| (0..count).all(|y| !entry(x, y) || entry_fits(x, y)))
+}
+
+/// The table with its copies taken for words.
+fn plain(table: &Table) -> Table {
+    let mut plain = Table { originals: table.count, ..table.clone() };
+    for x in 0..table.count.min(Code::MAX_WORDS) {
+        plain.origins[x] = x as u8;
+        plain.behind[x] = 0;
+    }
+    plain
+}
+
+/// Of generated tables with a damage, those accepted are those that fit entry by entry.
+#[test]
+fn damaged_tables() {
+    let mut random = Random(7);
+    let (mut given, mut not_given) = (0, 0);
+    for _ in 0..10_000 {
+        let code = generate::enlarged_code(&mut random);
+        let table = generate::damaged_table(&mut random, &code);
+        if plain(&table).code().is_none() {
+            assert_eq!(table.code(), None, "{table:?}");
+            continue;
+        }
+        let fits = may_be_given(&table);
+        assert_eq!(table.code().is_some(), fits, "{table:?}");
+        given += usize::from(fits);
+        not_given += usize::from(!fits);
+    }
+    println!("{given} given, and {not_given} not, though a sheet gives their words and copies as words");
+    assert!(given > 1_000 && not_given > 1_000);
 }
 
 /// Every value of the words 0 and 1, which may both begin, with one copy or
