@@ -1,4 +1,4 @@
-/* Codes with forbidden successors: taking in a sheet, encoding, reading, and the verdict.
+/* Codes with forbidden successors: taking in a sheet, enlarging its code by a ban list, encoding, reading, and the verdict.
  *
  * The functions are proved for every input that this file allows: pointers to as many entries as the length beside them says,
  * no two of them overlapping where one is written, and 8-byte alignment for uint64_t. Nothing else is asked. Where a length is 0
@@ -11,6 +11,9 @@
  *
  * A refusal changes no buffer, except that FURLAZON_REFUSED_NO_READING leaves `work` all zero. A result leaves the whole of `work`
  * zero, and in every other buffer what stands past the written part as it was.
+ *
+ * A ban says that word X never follows word Y and then word Z. A code with such bans has copies of words; a table with copies is
+ * taken wherever one without is. Words are always named by their original numbers, never by the number of a copy.
  */
 #ifndef FURLAZON_H
 #define FURLAZON_H
@@ -28,30 +31,35 @@ extern "C" {
 #define FURLAZON_WORD_SYMBOLS 16       /* symbols of a word */
 #define FURLAZON_CODE_SYMBOLS 128      /* symbols of all words together */
 #define FURLAZON_SHEET_BYTES 4096      /* bytes of a sheet */
+#define FURLAZON_BANS_BYTES 4096       /* bytes of a ban list */
 #define FURLAZON_MESSAGE_SYMBOLS 16384 /* symbols of a message, for encoding and reading */
 
 /* Refusals. */
-#define FURLAZON_REFUSED_SHEET_LENGTH 1    /* a sheet of 0 bytes or over FURLAZON_SHEET_BYTES */
+#define FURLAZON_REFUSED_SHEET_LENGTH 1    /* a sheet of 0 bytes or over FURLAZON_SHEET_BYTES; a ban list over FURLAZON_BANS_BYTES */
 #define FURLAZON_REFUSED_SHEET_BYTES 2     /* a byte other than 0-9, A-F, comma, CR, LF; a CR without LF next; an LF without CR before */
 #define FURLAZON_REFUSED_RECORD_COUNT 3    /* more than FURLAZON_CODE_WORDS records */
 #define FURLAZON_REFUSED_WORD_LENGTH 4     /* a first field that is empty or has over FURLAZON_WORD_SYMBOLS digits */
 #define FURLAZON_REFUSED_CODE_LENGTH 5     /* over FURLAZON_CODE_SYMBOLS symbols in all */
 #define FURLAZON_REFUSED_FIELD_COUNT 6     /* n records of which not all have n + 1 fields, nor all n + 2 */
 #define FURLAZON_REFUSED_ROW_ENTRY 7       /* a row entry other than the single digit 0 or 1 */
-#define FURLAZON_REFUSED_NOT_FROM_SHEET 8  /* a table that no accepted sheet gives */
-#define FURLAZON_REFUSED_UNKNOWN_WORD 9    /* a word number that is not in the table */
-#define FURLAZON_REFUSED_FORBIDDEN_PAIR 10 /* a neighbouring pair that is not permitted; a first word that may not begin */
+#define FURLAZON_REFUSED_NOT_FROM_SHEET 8  /* a table that no accepted sheet gives, nor one with an accepted ban list */
+#define FURLAZON_REFUSED_UNKNOWN_WORD 9    /* a word number that is not in the table; the number of a copy is none */
+#define FURLAZON_REFUSED_FORBIDDEN_PAIR 10 /* a neighbouring pair that is not permitted; a first word that may not begin; a banned triple */
 #define FURLAZON_REFUSED_MESSAGE_LENGTH 11 /* a message of over FURLAZON_MESSAGE_SYMBOLS symbols */
 #define FURLAZON_REFUSED_MESSAGE_SYMBOL 12 /* a message symbol that is not below FURLAZON_ALPHABET */
 #define FURLAZON_REFUSED_SHORT_BUFFER 13   /* a buffer that is too short */
 #define FURLAZON_REFUSED_NO_READING 14     /* no permitted sequence has this message */
 #define FURLAZON_REFUSED_START_FIELD 15    /* a start field other than the single digit 0 or 1 */
+#define FURLAZON_REFUSED_BAN 16            /* a byte other than 0-9, comma, CR, LF; CR and LF not together; a record that is no ban */
+#define FURLAZON_REFUSED_COPIES 17         /* over FURLAZON_CODE_WORDS words or FURLAZON_CODE_SYMBOLS symbols with the copies */
 
 /* Bytes of a table's image. For each of the 32 words its 16 symbols and then its length; then row 0 to row 31, with 32 entries
  * each; then the start marks of the 32 words; then the number of words. Entry Y of row X is 1 if word X may come immediately after
- * word Y, else 0. The start mark of a word is 1 if it may begin a message, else 0. All that stands past a word's length or past the
- * number of words is zero. */
-#define FURLAZON_TABLE_BYTES 1601
+ * word Y, else 0. The start mark of a word is 1 if it may begin a message, else 0. Copies stand after the words and are counted
+ * among them. So there follow the number of words that are no copies; then for each of the 32 words the number of the word that it
+ * is a copy of, its own number where it is none; then for each the number of the word after which the copy stands, 0 where it is
+ * none. All that stands past a word's length or past the number of words is zero. */
+#define FURLAZON_TABLE_BYTES 1666
 
 /* Entries of an answer. */
 #define FURLAZON_ANSWER_ENTRIES 4
@@ -71,8 +79,16 @@ extern "C" {
 
 /* Takes in a code sheet of any bytes.
  * Needs: `table` of FURLAZON_TABLE_BYTES. Refusals: 1 to 7, 13, 15.
- * Result: the table's image stands at the start of `table`. */
+ * Result: the table's image, without copies, stands at the start of `table`. */
 uint64_t furlazon_take_in(const uint8_t *sheet, size_t sheet_length, uint8_t *table, size_t table_length);
+
+/* Enlarges a table without copies by a ban list of any bytes: records X,Y,Z of word numbers, Y and Z different.
+ * Needs: `table` and `enlarged` of FURLAZON_TABLE_BYTES each. Refusals: 1, 8, 13, 16, 17; a table that has copies gets 8.
+ * Result: the image of the enlarged table stands at the start of `enlarged`. It has the words, and then one copy of Z for each Y, Z,
+ * in the order in which the list first names them. A list of 0 bytes holds no ban and gives the table itself. */
+uint64_t furlazon_enlarge(const uint8_t *table, size_t table_length,
+                          const uint8_t *bans, size_t bans_length,
+                          uint8_t *enlarged, size_t enlarged_length);
 
 /* Encodes a sequence of word numbers.
  * Needs: `table` of FURLAZON_TABLE_BYTES; `message` as long as the message; `answer` of FURLAZON_ANSWER_ENTRIES.

@@ -1,7 +1,10 @@
 //! Codes, messages and sheets of the scope paper's cases, of codes with start
-//! marks, and of figures 2 and 3 of Gönenç, for the tests of both packages.
+//! marks, of codes with ban lists, and of figures 2 and 3 of Gönenç, for the
+//! tests of both packages.
 
+use crate::bans::{self, Ban};
 use crate::code::{Code, Refusal};
+use crate::sheet;
 use crate::verdict::Verdict;
 
 /// Code T: no bans.
@@ -119,6 +122,128 @@ pub fn openings() -> Vec<Opening> {
         opening("opening-forced", "10", &["0", "1"], &["01", "10"], Verdict::Delay(0)),
         opening("opening-told-apart", "100", &["0", "01", "11"], &["011", "100", "111"], Verdict::Delay(1)),
         opening("opening-equal-words", "10", &["0", "0"], &["11", "11"], ambiguous(&[0, 0], &[0, 0], &[0, 1])),
+    ]
+}
+
+/// A code with a ban list, the name of its stored sheet and list, and its verdict.
+pub struct Banned {
+    pub sheet: &'static str,
+    pub code: Code,
+    pub bans: Vec<Ban>,
+    pub verdict: Verdict,
+}
+
+/// Codes in which bans look two words back.
+pub fn banned() -> Vec<Banned> {
+    let banned = |sheet, code: Code, list: &str, verdict| Banned { sheet, code, bans: bans::of(list), verdict };
+    let three = || Code::free(&["0", "1", "010"]);
+    let slip_3 = || Code::of(&["0", "10", "01"], &["110", "111", "110"]);
+    vec![
+        banned("bans-none", code_t(), "", ambiguous(&[0, 1, 0], &[0, 1], &[2, 0])),
+        banned("bans-decipherable", three(), "0,0,1 2,0,1", Verdict::Delay(3)),
+        banned("bans-longer-message", three(), "0,0,1", ambiguous(&[0, 1, 0, 1, 0], &[0, 1, 2], &[2, 1, 0])),
+        banned("bans-delay", Code::free(&["0", "01", "11"]), "2,0,2", Verdict::Delay(4)),
+        banned(
+            "bans-chain",
+            Code::free(&["0", "1", "2", "012"]),
+            "0,0,1 0,1,2",
+            ambiguous(&[0, 1, 2], &[0, 1, 2], &[3]),
+        ),
+        banned(
+            "bans-chain-told-apart",
+            Code::of(&["0", "1", "2", "0120"], &["1111", "1111", "1111", "1101"]),
+            "0,0,1 0,1,2",
+            Verdict::Delay(4),
+        ),
+        banned("bans-forbidden-anyway", slip_3(), "0,1,2", Verdict::Delay(3)),
+        banned("bans-never-adjacent", slip_3(), "1,2,0", Verdict::Delay(3)),
+        banned(
+            "bans-equal-words",
+            Code::of(&["0", "0", "1"], &["111", "110", "111"]).with_starts("001"),
+            "1,2,0",
+            ambiguous(&[1, 0, 0, 0], &[2, 0, 0, 0], &[2, 0, 0, 1]),
+        ),
+        banned(
+            "bans-order",
+            Code::free(&["1", "0", "0", "0"]).with_starts("1000"),
+            "0,0,1",
+            ambiguous(&[1, 0], &[0, 1], &[0, 2]),
+        ),
+        banned("bans-shortening", shortening(), "0,1,0 1,1,0 2,1,0 3,1,0", Verdict::Delay(4)),
+        banned("bans-32-words", sixteen_symbols(), &round_of_bans(16), Verdict::Delay(1)),
+        banned("bans-128-symbols", runs(&[16; 4]), &round_of_bans(4), Verdict::Delay(1)),
+        banned(
+            "bans-4096-bytes",
+            turkish_twelve(),
+            &format!("10,0,1 {}", "0,0,1 ".repeat(584)),
+            ambiguous(&[0, 1, 1, 1, 0], &[2, 6], &[4, 1]),
+        ),
+    ]
+}
+
+/// CV and CVC with a short or a long vowel: 1 is a consonant, 0 a short vowel, 2 a long one.
+pub fn shortening() -> Code {
+    Code::free(&["10", "12", "101", "121"])
+}
+
+/// Sixteen words of one symbol.
+fn sixteen_symbols() -> Code {
+    let words: Vec<String> = (0..16).map(|symbol| format!("{symbol:X}")).collect();
+    Code::free(&words.iter().map(String::as_str).collect::<Vec<_>>())
+}
+
+/// Words that each repeat one symbol so often.
+fn runs(lengths: &[usize]) -> Code {
+    let words: Vec<String> =
+        lengths.iter().enumerate().map(|(symbol, &length)| symbol.to_string().repeat(length)).collect();
+    Code::free(&words.iter().map(String::as_str).collect::<Vec<_>>())
+}
+
+/// A ban on word 0 after each of the first words and the next of them: as many copies as words.
+fn round_of_bans(words: usize) -> String {
+    let bans: Vec<String> = (0..words).map(|y| format!("0,{y},{}", (y + 1) % words)).collect();
+    bans.join(" ")
+}
+
+/// A sheet with a ban list of which one is refused, the name under which both are stored, and the refusal.
+pub struct RefusedList {
+    pub name: &'static str,
+    pub sheet: Vec<u8>,
+    pub list: Vec<u8>,
+    pub refusal: Refusal,
+}
+
+/// Lists for code T and for codes that have no room for the copies.
+pub fn refused_lists() -> Vec<RefusedList> {
+    let refused = |name, code: Code, list: &str, refusal| RefusedList {
+        name,
+        sheet: sheet::write(&code),
+        list: list.as_bytes().to_vec(),
+        refusal,
+    };
+    let lines = |list: &str| list.split_whitespace().map(|ban| format!("{ban}\r\n")).collect::<String>();
+    let too_long = "10,0,1\r\n".repeat(2) + &"0,0,1\r\n".repeat(583);
+    let wrong = |name, list| refused(name, code_t(), list, Refusal::WrongBan);
+    let many_words = lines(&(round_of_bans(16) + " 0,0,2"));
+    let many_symbols = lines(&round_of_bans(4));
+    vec![
+        refused("bans-refusal-1-too-long", turkish_twelve(), &too_long, Refusal::SheetSize),
+        wrong("bans-refusal-16-byte", "0,0,1\r\n0,1;2\r\n"),
+        wrong("bans-refusal-16-line-ends", "0,0,1\n0,1,2\n"),
+        wrong("bans-refusal-16-blank-line", "0,0,1\r\n\r\n"),
+        wrong("bans-refusal-16-unknown-word", "0,0,1\r\n4,1,2\r\n"),
+        wrong("bans-refusal-16-leading-zero", "0,0,1\r\n0,01,2\r\n"),
+        wrong("bans-refusal-16-y-equals-z", "0,0,1\r\n0,2,2\r\n"),
+        wrong("bans-refusal-16-fields", "0,0,1\r\n1,2\r\n"),
+        refused("bans-refusal-17-words", sixteen_symbols(), &many_words, Refusal::TooManyCopies),
+        refused("bans-refusal-17-symbols", runs(&[16, 16, 16, 16, 1]), &many_symbols, Refusal::TooManyCopies),
+        refused("bans-refusal-several", sixteen_symbols(), &(many_words.clone() + "0,16,1\r\n"), Refusal::WrongBan),
+        RefusedList {
+            name: "bans-refusal-sheet-first",
+            sheet: b"0,1,1\r\n1,1,2\r\n".to_vec(),
+            list: too_long.clone().into_bytes(),
+            refusal: Refusal::RowEntry,
+        },
     ]
 }
 

@@ -1,15 +1,27 @@
-//! Words, start marks, bans and the numbered refusals.
+//! Words, copies of words, start marks, followers and the numbered refusals.
 
 /// A code: its words in sheet order, which of them may begin a message, and
-/// which word may come after which.
+/// which word may come after which. A code that [`crate::copies`] has enlarged
+/// has copies of words after the words; sequences and readings name them by
+/// the words that they are copies of, the originals.
 #[derive(Clone, PartialEq, Eq, Debug)]
 pub struct Code {
-    /// The symbols of each word, each 0 to 15.
+    /// The symbols of each word, each 0 to 15; the copies stand last.
     pub words: Vec<Vec<u8>>,
     /// `starts[x]`: word `x` may begin a message.
     pub starts: Vec<bool>,
     /// `rows[x][y]`: word `x` may come immediately after word `y`.
     pub rows: Vec<Vec<bool>>,
+    /// What each copy is.
+    pub copies: Vec<Copied>,
+}
+
+/// A copy of a word, which stands in its place after one other word.
+#[derive(Clone, Copy, PartialEq, Eq, Debug)]
+pub struct Copied {
+    pub word: u8,
+    /// The word after which the copy stands, and after whose copies.
+    pub behind: u8,
 }
 
 impl Code {
@@ -17,11 +29,12 @@ impl Code {
     pub const MAX_WORD_SYMBOLS: usize = 16;
     pub const MAX_SYMBOLS: usize = 128;
     pub const MAX_SHEET_BYTES: usize = 4_096;
+    pub const MAX_BANS_BYTES: usize = 4_096;
     pub const MAX_MESSAGE_SYMBOLS: usize = 16_384;
 
     /// A code in which every word may begin a message.
     pub fn new(words: Vec<Vec<u8>>, rows: Vec<Vec<bool>>) -> Code {
-        Code { starts: vec![true; words.len()], words, rows }
+        Code { starts: vec![true; words.len()], words, rows, copies: Vec::new() }
     }
 
     /// A code from words in hexadecimal digits and rows of the digits 0 and 1;
@@ -60,6 +73,22 @@ impl Code {
         (0..self.words.len()).filter(|&x| self.may_come(x, last)).fold(0, |mask, x| mask | 1 << x)
     }
 
+    /// The number of words that are no copies.
+    pub fn originals(&self) -> usize {
+        self.words.len() - self.copies.len()
+    }
+
+    /// The word that `x` is a copy of; `x` itself where it is none.
+    pub fn original(&self, x: usize) -> usize {
+        x.checked_sub(self.originals()).map_or(x, |copy| self.copies[copy].word as usize)
+    }
+
+    /// What stands for an original word right after another: the copy that fits there, or the word where there is none.
+    pub fn fitting(&self, word: usize, behind: usize) -> usize {
+        let fits = |copy: &Copied| (copy.word as usize, copy.behind as usize) == (word, behind);
+        self.copies.iter().position(fits).map_or(word, |copy| self.originals() + copy)
+    }
+
     /// All symbols of all words, counted.
     pub fn symbols(&self) -> usize {
         self.words.iter().map(Vec::len).sum()
@@ -90,6 +119,8 @@ pub enum Refusal {
     BufferTooShort = 13,
     NoReading = 14,
     StartField = 15,
+    WrongBan = 16,
+    TooManyCopies = 17,
 }
 
 impl Refusal {

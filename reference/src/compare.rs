@@ -12,6 +12,7 @@ use std::fmt::Debug;
 #[derive(Clone, Default, PartialEq, Eq, Debug)]
 pub struct Met {
     pub accepted: usize,
+    pub enlarged: usize,
     pub encoded: usize,
     pub one_reading: usize,
     pub two_readings: usize,
@@ -19,7 +20,7 @@ pub struct Met {
     pub delayed: usize,
     pub unbounded: usize,
     /// By refusal number.
-    pub refused: [usize; 16],
+    pub refused: [usize; 18],
 }
 
 /// Compares on `rounds` rounds of generated inputs: what was met, or the first difference in words.
@@ -39,8 +40,32 @@ fn one_round(subject: &mut impl Operations, random: &mut Random, met: &mut Met) 
     same("sheet", &String::from_utf8_lossy(&sheet), &(refusal, table.clone()), &subject.take_in(&sheet))?;
     count(met, refusal, |met| met.accepted += 1);
     let code = table.code().unwrap_or_else(|| generate::code(random));
+    let code = enlarging(subject, random, met, code)?;
     let table = if random.one_in(4) { generate::damaged_table(random, &code) } else { Table::of(&code) };
     on_table(subject, random, met, &code, &table)
+}
+
+/// Compares enlarging, now and then of a table that is damaged or has copies
+/// already. The enlarged code if there is one and else the code.
+fn enlarging(subject: &mut impl Operations, random: &mut Random, met: &mut Met, code: Code) -> Result<Code, String> {
+    let list = generate::list(random, &code);
+    let table = match random.below(16) {
+        0 => generate::damaged_table(random, &code),
+        1 => Table::of(&generate::enlarged_code(random)),
+        _ => Table::of(&code),
+    };
+    on_list(subject, met, &table, &list)?;
+    let enlarged = Reference.enlarge(&Table::of(&code), &list).1;
+    Ok(enlarged.code().unwrap_or(code))
+}
+
+/// Compares enlarging one table by one list.
+pub fn on_list(subject: &mut impl Operations, met: &mut Met, table: &Table, list: &[u8]) -> Result<(), String> {
+    let (refusal, enlarged) = Reference.enlarge(table, list);
+    let input = (table, String::from_utf8_lossy(list));
+    same("enlarging", &input, &(refusal, enlarged), &subject.enlarge(table, list))?;
+    count(met, refusal, |met| met.enlarged += 1);
+    Ok(())
 }
 
 /// Compares encoding, reading and the verdict on one table. The code, from

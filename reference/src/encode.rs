@@ -1,11 +1,18 @@
-//! The message of a sequence of word numbers.
+//! The message of a sequence of word numbers. They are original ones, also where the code has copies.
 
 use crate::code::{Code, Refusal};
 
-/// May the first word begin, and is every neighbouring pair permitted? The numbers are words of the code.
+/// May the first word begin, and may each other one follow, as the copy that
+/// fits where there is one? The numbers are original words of the code.
 pub fn permitted(code: &Code, sequence: &[u8]) -> bool {
-    let begins = sequence.first().is_none_or(|&word| code.starts[word as usize]);
-    begins && sequence.windows(2).all(|pair| code.may_follow(pair[1] as usize, pair[0] as usize))
+    let mut last = None;
+    sequence.iter().all(|&word| {
+        let behind = last.map(|last: u8| code.original(last as usize));
+        let next = behind.map_or(word as usize, |behind| code.fitting(word as usize, behind));
+        let comes = code.may_come(next, last);
+        last = Some(next as u8);
+        comes
+    })
 }
 
 /// The symbols of the words, joined in order.
@@ -15,7 +22,7 @@ pub fn joined(code: &Code, sequence: &[u8]) -> Vec<u8> {
 
 /// The message of a sequence, or refusal 9, 10 or 11, the lowest first.
 pub fn encode(code: &Code, sequence: &[u8]) -> Result<Vec<u8>, Refusal> {
-    if sequence.iter().any(|&word| word as usize >= code.words.len()) {
+    if sequence.iter().any(|&word| word as usize >= code.originals()) {
         return Err(Refusal::WordNumber);
     }
     if !permitted(code, sequence) {

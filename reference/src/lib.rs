@@ -6,16 +6,20 @@
 //! verdict is found in two ways that share nothing but the code itself:
 //! [`brute`] lists sequences and messages as the definitions name them and
 //! suits tiny codes; [`pairs`] walks pairs of places from [`rivals`] and suits
-//! every code.
+//! every code. [`bans`] that look two words back are looked up by the first
+//! way as they stand; for the second [`copies`] turns them into copies of
+//! words.
 //!
 //! [`generate`] makes random and damaged inputs, and [`compare`] holds another
 //! program's [`operations`] against the reference on them. [`cases`] has the
 //! codes that the papers give.
 
+pub mod bans;
 pub mod brute;
 pub mod cases;
 pub mod code;
 pub mod compare;
+pub mod copies;
 pub mod encode;
 pub mod generate;
 pub mod largest;

@@ -1,10 +1,11 @@
 //! The operations with their lent buffers: refusals 8 to 14, and what each
-//! buffer holds afterwards.
+//! buffer holds afterwards; and enlarging a table by a ban list.
 
 use crate::code::{Code, Refusal};
 use crate::read::{self, Readings};
 use crate::table::Table;
 use crate::verdict::{self, Verdict};
+use crate::{bans, copies};
 
 /// Entries of a verdict's message buffer and of each of its reading buffers.
 pub const VERDICT_ENTRIES: usize = 8_384;
@@ -35,11 +36,13 @@ pub struct Buffers {
     pub working: Vec<u64>,
 }
 
-/// A program that offers the four operations. The reference is one; a linked
+/// A program that offers the five operations. The reference is one; a linked
 /// library becomes another by wrapping its functions.
 pub trait Operations {
     /// The table of a sheet, the blank one with a refusal.
     fn take_in(&mut self, sheet: &[u8]) -> (Option<Refusal>, Table);
+    /// The table with the copies that a ban list needs, the blank one with a refusal.
+    fn enlarge(&mut self, table: &Table, list: &[u8]) -> (Option<Refusal>, Table);
     /// Writes the message of a sequence and gives its length.
     fn encode(&mut self, table: &Table, sequence: &[u8], message: &mut [u8]) -> Result<usize, Refusal>;
     /// Writes the readings of a message and gives their lengths.
@@ -53,6 +56,13 @@ pub struct Reference;
 impl Operations for Reference {
     fn take_in(&mut self, sheet: &[u8]) -> (Option<Refusal>, Table) {
         match crate::sheet::take_in(sheet) {
+            Ok(code) => (None, Table::of(&code)),
+            Err(refusal) => (Some(refusal), Table::BLANK),
+        }
+    }
+
+    fn enlarge(&mut self, table: &Table, list: &[u8]) -> (Option<Refusal>, Table) {
+        match enlarged(table, list) {
             Ok(code) => (None, Table::of(&code)),
             Err(refusal) => (Some(refusal), Table::BLANK),
         }
@@ -103,6 +113,15 @@ impl Operations for Reference {
             },
         })
     }
+}
+
+/// The code in a table, enlarged; or refusal 1, 8, 16 or 17, the lowest first.
+fn enlarged(table: &Table, list: &[u8]) -> Result<Code, Refusal> {
+    if list.len() > Code::MAX_BANS_BYTES {
+        return Err(Refusal::SheetSize);
+    }
+    let code = table.code().filter(|code| code.copies.is_empty()).ok_or(Refusal::NotFromSheet)?;
+    copies::enlarge(&code, &bans::take_in(list, code.words.len())?)
 }
 
 /// Writes a list at the start of a buffer and gives its length.

@@ -1,19 +1,26 @@
 //! The printed result: records ended by CR LF.
 
-use crate::sheet::take_in;
+use crate::code::{Code, Refusal};
 use crate::verdict::{verdict, Verdict};
+use crate::{bans, copies, sheet};
 
 /// The hexadecimal digit of a symbol.
 pub fn digit(symbol: u8) -> u8 {
     b"0123456789ABCDEF"[symbol as usize]
 }
 
-/// What the program prints for a sheet, whole.
-pub fn result(sheet: &[u8]) -> Vec<u8> {
-    match take_in(sheet) {
+/// What the program prints for a sheet and a ban list, whole. A list of 0 bytes is as good as none.
+pub fn result(sheet: &[u8], list: &[u8]) -> Vec<u8> {
+    match take_in(sheet, list) {
         Err(refusal) => format!("refused,{}\r\n", refusal.number()).into_bytes(),
         Ok(code) => printed(&verdict(&code)),
     }
+}
+
+/// The code of a sheet, enlarged by a ban list; the sheet's refusal comes first.
+pub fn take_in(sheet: &[u8], list: &[u8]) -> Result<Code, Refusal> {
+    let code = sheet::take_in(sheet)?;
+    copies::enlarge(&code, &bans::take_in(list, code.words.len())?)
 }
 
 /// The records of a verdict.

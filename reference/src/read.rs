@@ -24,15 +24,21 @@ pub fn first_two(code: &Code, message: &[u8]) -> Option<Readings> {
     let reader = Reader::new(code, message);
     let first = reader.lowest_from(Vec::new(), 0)?;
     Some(match reader.after(&first) {
-        None => Readings::One(first),
-        Some(second) => Readings::Two(first, second),
+        None => Readings::One(reader.named(first)),
+        Some(second) => Readings::Two(reader.named(first), reader.named(second)),
     })
 }
 
 /// For each number of symbols read, which words may come next so that the
 /// whole message still has a reading. A set of words is a mask of bits.
+///
+/// Inside the reader, words and copies are numbered in the order of their
+/// originals. Of a word and its copies only one may come next, so this is the
+/// word order of readings.
 struct Reader<'a> {
-    code: &'a Code,
+    words: Vec<&'a [u8]>,
+    /// The original of each.
+    originals: Vec<u8>,
     next: Vec<u32>,
     beginners: u32,
     followers: Vec<u32>,
@@ -41,10 +47,17 @@ struct Reader<'a> {
 
 impl<'a> Reader<'a> {
     fn new(code: &'a Code, message: &[u8]) -> Reader<'a> {
-        let followers: Vec<u32> = (0..code.words.len()).map(|y| code.choices(Some(y as u8))).collect();
+        let mut order: Vec<usize> = (0..code.words.len()).collect();
+        order.sort_by_key(|&word| code.original(word));
+        let choices = |last: Option<u8>| {
+            let comes = order.iter().map(|&word| u32::from(code.may_come(word, last)));
+            comes.enumerate().fold(0, |mask, (bit, comes)| mask | comes << bit)
+        };
+        let followers: Vec<u32> = order.iter().map(|&word| choices(Some(word as u8))).collect();
+        let words: Vec<&[u8]> = order.iter().map(|&word| &code.words[word][..]).collect();
         let mut next = vec![0u32; message.len()];
         for at in (0..message.len()).rev() {
-            for (number, word) in code.words.iter().enumerate() {
+            for (number, word) in words.iter().enumerate() {
                 if !message[at..].starts_with(word) {
                     continue;
                 }
@@ -54,7 +67,13 @@ impl<'a> Reader<'a> {
                 }
             }
         }
-        Reader { code, next, beginners: code.choices(None), followers, length: message.len() }
+        let originals = order.iter().map(|&word| code.original(word) as u8).collect();
+        Reader { words, originals, next, beginners: choices(None), followers, length: message.len() }
+    }
+
+    /// The reading in original numbers.
+    fn named(&self, reading: Vec<u8>) -> Vec<u8> {
+        reading.into_iter().map(|word| self.originals[word as usize]).collect()
     }
 
     /// The words that may come after this reading of the first `at` symbols.
@@ -72,7 +91,7 @@ impl<'a> Reader<'a> {
             }
             let word = choices.trailing_zeros() as usize;
             reading.push(word as u8);
-            at += self.code.words[word].len();
+            at += self.words[word].len();
         }
         Some(reading)
     }
@@ -83,13 +102,13 @@ impl<'a> Reader<'a> {
         let mut at = self.length;
         for step in (0..reading.len()).rev() {
             let word = reading[step] as usize;
-            at -= self.code.words[word].len();
+            at -= self.words[word].len();
             let higher = self.choices(&reading[..step], at) & (u32::MAX << word << 1);
             if higher != 0 {
                 let word = higher.trailing_zeros() as usize;
                 let mut start = reading[..step].to_vec();
                 start.push(word as u8);
-                return self.lowest_from(start, at + self.code.words[word].len());
+                return self.lowest_from(start, at + self.words[word].len());
             }
         }
         None

@@ -8,7 +8,7 @@ pub fn take_in(sheet: &[u8]) -> Result<Code, Refusal> {
     if sheet.is_empty() || sheet.len() > Code::MAX_SHEET_BYTES {
         return Err(Refusal::SheetSize);
     }
-    if !bytes_fit(sheet) {
+    if !bytes_fit(sheet, |byte| byte.is_ascii_digit() || (b'A'..=b'F').contains(&byte)) {
         return Err(Refusal::SheetByte);
     }
     let records = records(sheet);
@@ -40,21 +40,22 @@ pub fn take_in(sheet: &[u8]) -> Result<Code, Refusal> {
         words: records.iter().map(|record| record[0].iter().map(|&b| symbol(b)).collect()).collect(),
         starts: records.iter().map(|record| !marked || record[1] == b"1").collect(),
         rows: records.iter().map(|record| record[entries..].iter().map(|entry| *entry == b"1").collect()).collect(),
+        copies: Vec::new(),
     })
 }
 
 /// Only digits, commas and line ends, and every CR and LF part of a CR LF?
-fn bytes_fit(sheet: &[u8]) -> bool {
+pub(crate) fn bytes_fit(sheet: &[u8], is_digit: impl Fn(u8) -> bool) -> bool {
     (0..sheet.len()).all(|i| match sheet[i] {
-        b'0'..=b'9' | b'A'..=b'F' | b',' => true,
+        b',' => true,
         b'\r' => sheet.get(i + 1) == Some(&b'\n'),
         b'\n' => i > 0 && sheet[i - 1] == b'\r',
-        _ => false,
+        byte => is_digit(byte),
     })
 }
 
 /// The records as fields. CR LF parts records; one after the last is optional.
-fn records(sheet: &[u8]) -> Vec<Vec<&[u8]>> {
+pub(crate) fn records(sheet: &[u8]) -> Vec<Vec<&[u8]>> {
     let body = sheet.strip_suffix(b"\r\n").unwrap_or(sheet);
     body.split(|&b| b == b'\n')
         .map(|line| line.strip_suffix(b"\r").unwrap_or(line))

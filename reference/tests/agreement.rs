@@ -55,11 +55,11 @@ fn with_all_starts(code: Code) -> impl Iterator<Item = Code> {
 }
 
 fn agrees_with_prefixes(code: &Code) {
-    assert_eq!(Some(verdict(code)), by_prefixes(code, MOST), "{code:?}");
+    assert_eq!(Some(verdict(code)), by_prefixes(code, &[], MOST), "{code:?}");
 }
 
 fn agrees_with_sequences(code: &Code) {
-    assert_eq!(verdict(code), by_sequences(code), "{code:?}");
+    assert_eq!(verdict(code), by_sequences(code, &[]), "{code:?}");
 }
 
 #[test]
@@ -100,7 +100,7 @@ fn small_code(random: &mut Random, symbols: usize) -> Code {
         2 => word == only,
         _ => random.one_in(2),
     });
-    Code { starts: starts.collect(), words, rows }
+    Code { starts: starts.collect(), ..Code::new(words, rows) }
 }
 
 #[test]
@@ -110,7 +110,7 @@ fn random_codes_of_ten_symbols() {
     for _ in 0..30_000 {
         let code = small_code(&mut random, 10);
         let answer = verdict(&code);
-        match by_prefixes(&code, MOST) {
+        match by_prefixes(&code, &[], MOST) {
             None => given_up += 1,
             Some(brute) => assert_eq!(answer, brute, "{code:?}"),
         }
@@ -136,7 +136,7 @@ fn generated_codes_of_sixty_symbols() {
         if code.symbols() > if answer == Verdict::Unbounded { 12 } else { 60 } {
             continue;
         }
-        match by_prefixes(&code, 300) {
+        match by_prefixes(&code, &[], 300) {
             None => given_up += 1,
             Some(brute) => {
                 assert_eq!(answer, brute, "{code:?}");
@@ -171,7 +171,7 @@ fn readings_are_all_readings() {
         let length = random.below(9);
         let kinds = random.between(1, 2);
         let message: Vec<u8> = (0..length).map(|_| random.below(kinds) as u8).collect();
-        let all = readings(&code, &message);
+        let all = readings(&code, &[], &message);
         let expected = match &all[..] {
             [] => Err(Refusal::NoReading),
             [first] => Ok(Readings::One(first.clone())),

@@ -1,7 +1,9 @@
 //! The comparison covers every answer and catches programs with a slip.
 
+use reference::bans;
 use reference::code::{Code, Refusal};
 use reference::compare::compare;
+use reference::copies::{enlarge, without_copies};
 use reference::encode::joined;
 use reference::operations::{Buffers, Operations, ReadingLengths, Reference, VerdictLengths};
 use reference::pairs::walk;
@@ -13,7 +15,7 @@ fn every_answer_is_met() {
     let met = compare(&mut Reference, 1, 10_000).unwrap();
     println!("{met:?}");
     assert!(met.refused[1..].iter().all(|&times| times >= 20), "{met:?}");
-    let answers = [met.accepted, met.encoded, met.one_reading, met.two_readings];
+    let answers = [met.accepted, met.enlarged, met.encoded, met.one_reading, met.two_readings];
     let verdicts = [met.ambiguous, met.delayed, met.unbounded];
     assert!(answers.iter().chain(&verdicts).all(|&times| times >= 20), "{met:?}");
 }
@@ -29,6 +31,24 @@ enum Slip {
     MixedFieldsAccepted,
     StartFieldBeforeRowEntry,
     MarkFromRowEntry,
+    TableOfRefusedList,
+    LeadingZeroAccepted,
+    LastBlankLineAccepted,
+    EqualYAndZAccepted,
+    ListOneByteLonger,
+    LimitBeforeBans,
+    CodeWithCopiesEnlarged,
+    WordStaysAfterY,
+    CopyAfterYOnly,
+    CopyPerBan,
+    CopyMayBegin,
+    CopiesByNumber,
+    FollowerNotAsItsCopy,
+    BanOnlyAfterWord,
+    CopyWithoutBanAccepted,
+    CopyOfAnotherWordAccepted,
+    CopyNumbersEncoded,
+    BannedThreeEncoded,
     TableNotChecked,
     MarksNotChecked,
     MessageOneLonger,
@@ -37,9 +57,14 @@ enum Slip {
     SecondReadingWritten,
     ReadingsExchanged,
     MarksIgnoredByReading,
+    ReadingsNameCopies,
+    OrderByCopies,
+    BansIgnoredByReading,
     DelayOneLess,
     WorkingBufferLeftByVerdict,
     MarksIgnoredByVerdict,
+    BansIgnoredByVerdict,
+    VerdictNamesCopies,
     UnreachedWordsGivePairs,
     OnlyBeginningWordsGivePairs,
     OpeningLeftOut,
@@ -67,11 +92,52 @@ impl Operations for Wrong {
         (refusal, table)
     }
 
+    fn enlarge(&mut self, table: &Table, list: &[u8]) -> (Option<Refusal>, Table) {
+        let (refusal, mut enlarged) = Reference.enlarge(table, list);
+        match (self.0, refusal) {
+            (Slip::TableOfRefusedList, Some(_)) => enlarged = table.clone(),
+            (Slip::LeadingZeroAccepted, Some(Refusal::WrongBan)) => {
+                return Reference.enlarge(table, &without_leading_zeros(list))
+            }
+            (Slip::LastBlankLineAccepted, Some(Refusal::WrongBan)) if list.ends_with(b"\r\n\r\n") => {
+                return Reference.enlarge(table, &list[..list.len() - 2])
+            }
+            (Slip::EqualYAndZAccepted, Some(Refusal::WrongBan)) => {
+                return Reference.enlarge(table, &without_equal_y_and_z(list))
+            }
+            (Slip::ListOneByteLonger, Some(Refusal::SheetSize)) if list.len() == 4_097 && list.ends_with(b"\r\n") => {
+                return Reference.enlarge(table, &list[..list.len() - 2])
+            }
+            (Slip::LimitBeforeBans, Some(Refusal::WrongBan)) => {
+                let sound: Vec<&[u8]> = list.split(|&byte| byte == b'\n').collect();
+                return (Reference.enlarge(table, sound[0]).0.or(refusal), enlarged);
+            }
+            (Slip::CodeWithCopiesEnlarged, Some(Refusal::NotFromSheet)) if table.code().is_some() => {
+                let plain = Code { copies: Vec::new(), ..table.code().unwrap() };
+                return Reference.enlarge(&Table::of(&plain), list);
+            }
+            (Slip::CopyPerBan, None) => return enlarged_by_ban(table, list),
+            (_, None) => wrong_copies(self.0, table, &mut enlarged),
+            _ => {}
+        }
+        (refusal, enlarged)
+    }
+
     fn encode(&mut self, table: &Table, sequence: &[u8], message: &mut [u8]) -> Result<usize, Refusal> {
         if self.0 == Slip::MarksIgnoredByEncoding {
             return Reference.encode(&without_marks(table), sequence, message);
         }
         let answer = Reference.encode(table, sequence, message);
+        let mended = match (self.0, answer) {
+            (Slip::CopyWithoutBanAccepted, Err(Refusal::NotFromSheet)) => without_idle_copies(table),
+            (Slip::CopyOfAnotherWordAccepted, Err(Refusal::NotFromSheet)) => with_the_words_copied(table),
+            (Slip::CopyNumbersEncoded, Err(Refusal::WordNumber)) => named_as_words(table),
+            (Slip::BannedThreeEncoded, Err(Refusal::PairNotPermitted)) => without_bans(table),
+            _ => None,
+        };
+        if let Some(mended) = mended {
+            return Reference.encode(&mended, sequence, message);
+        }
         if self.0 == Slip::TableNotChecked && answer == Err(Refusal::NotFromSheet) {
             return Ok(0);
         }
@@ -90,6 +156,19 @@ impl Operations for Wrong {
         }
         let before = buffers.clone();
         let answer = Reference.read(table, message, buffers);
+        if let (Slip::BansIgnoredByReading, Some(words)) = (self.0, without_bans(table)) {
+            *buffers = before;
+            return Reference.read(&words, message, buffers);
+        }
+        if let (Slip::OrderByCopies, Ok(_), Some(plain)) = (self.0, answer, named_as_words(table)) {
+            *buffers = before;
+            let answer = Reference.read(&plain, message, buffers);
+            rename(buffers, lengths(answer), |word, _| table.origins[word as usize]);
+            return answer;
+        }
+        if self.0 == Slip::ReadingsNameCopies {
+            rename(buffers, lengths(answer), |word, last| standing(table, word, last));
+        }
         match (self.0, answer) {
             (Slip::WorkingBufferLeft, Err(Refusal::NoReading)) => buffers.working = before.working,
             (Slip::SecondReadingWritten, Ok(ReadingLengths::One(length))) => {
@@ -107,8 +186,14 @@ impl Operations for Wrong {
         if self.0 == Slip::MarksIgnoredByVerdict {
             return Reference.verdict(&without_marks(table), buffers);
         }
+        if let (Slip::BansIgnoredByVerdict, Some(words)) = (self.0, without_bans(table)) {
+            return Reference.verdict(&words, buffers);
+        }
         let before = buffers.clone();
         let answer = Reference.verdict(table, buffers)?;
+        if let (Slip::VerdictNamesCopies, VerdictLengths::Ambiguous { first, second, .. }) = (self.0, answer) {
+            rename(buffers, [first, second], |word, last| standing(table, word, last));
+        }
         let code = table.code().expect("the table has a verdict");
         let rivals = Rivals::of(&code);
         let both_begin = |x: usize, y: usize| code.starts[x] && code.starts[y];
@@ -165,9 +250,135 @@ fn start_field_is_wrong(sheet: &[u8]) -> bool {
     records.iter().any(|record| record.len() == records.len() + 2 && !["0", "1"].contains(&record[1].as_str()))
 }
 
-/// The table with every word allowed to begin, if it is one that a sheet gives.
+/// The list with no zero at the start of a longer number.
+fn without_leading_zeros(list: &[u8]) -> Vec<u8> {
+    let ends_field = |at: usize| list.get(at).is_none_or(|byte| b",\r\n".contains(byte));
+    let starts_field = |at: usize| at == 0 || b",\n".contains(&list[at - 1]);
+    let leads = |at: usize| list[at] == b'0' && starts_field(at) && !ends_field(at + 1);
+    (0..list.len()).filter(|&at| !leads(at)).map(|at| list[at]).collect()
+}
+
+/// The list without the bans that have Y equal to Z.
+fn without_equal_y_and_z(list: &[u8]) -> Vec<u8> {
+    let sound = |fields: &&Vec<String>| fields.len() != 3 || fields[1] != fields[2];
+    let lines: Vec<String> = fields(list).iter().filter(sound).map(|fields| fields.join(",")).collect();
+    lines.join("\r\n").into_bytes()
+}
+
+/// A copy for every ban, also where bans name the same two words. What the further copies would hold is left out.
+fn enlarged_by_ban(table: &Table, list: &[u8]) -> (Option<Refusal>, Table) {
+    let mut bans = bans::take_in(list, table.count).expect("an accepted list");
+    bans.sort();
+    bans.dedup();
+    let (refusal, mut enlarged) = Reference.enlarge(table, list);
+    if table.count + bans.len() > Code::MAX_WORDS {
+        return (Some(Refusal::TooManyCopies), Table::BLANK);
+    }
+    enlarged.count = table.count + bans.len();
+    (refusal, enlarged)
+}
+
+/// An enlarged table with a slip in its copies.
+fn wrong_copies(slip: Slip, table: &Table, enlarged: &mut Table) {
+    let (words, count) = (table.count, enlarged.count);
+    let origins = enlarged.origins;
+    for copy in words..count {
+        let (word, behind) = (enlarged.origins[copy] as usize, enlarged.behind[copy] as usize);
+        match slip {
+            Slip::WordStaysAfterY => enlarged.rows[word].entries[behind] = table.rows[word].entries[behind],
+            Slip::CopyAfterYOnly => {
+                let copies = (words..count).filter(|&other| origins[other] as usize == behind);
+                copies.for_each(|other| enlarged.rows[copy].entries[other] = 0);
+            }
+            Slip::CopyMayBegin => enlarged.starts[copy] = enlarged.starts[word],
+            Slip::FollowerNotAsItsCopy => {
+                let copies = origins.iter().enumerate().take(count).skip(words);
+                for (other, &original) in copies {
+                    let entry = std::mem::take(&mut enlarged.rows[other].entries[copy]);
+                    enlarged.rows[original as usize].entries[copy] |= entry;
+                }
+            }
+            // The banned word is kept from following the word and not the copy.
+            Slip::BanOnlyAfterWord => {
+                for row in &mut enlarged.rows {
+                    let (after_word, after_copy) = (row.entries[word], row.entries[copy]);
+                    row.entries[word] = after_copy;
+                    row.entries[copy] = after_word;
+                }
+            }
+            _ => {}
+        }
+    }
+    if slip == Slip::CopiesByNumber && count > words + 1 {
+        let (code, mut bans) = without_copies(&enlarged.code().expect("an enlarged code"));
+        bans.sort_by_key(|ban| (ban.z, ban.y));
+        *enlarged = Table::of(&enlarge(&code, &bans).expect("as many copies as before"));
+    }
+}
+
+/// The table of the originals without bans, if it has copies.
+fn without_bans(table: &Table) -> Option<Table> {
+    table.code().filter(|code| !code.copies.is_empty()).map(|code| Table::of(&without_copies(&code).0))
+}
+
+/// The table with its copies taken for words, if it has copies.
+fn named_as_words(table: &Table) -> Option<Table> {
+    let code = table.code().filter(|code| !code.copies.is_empty())?;
+    Some(Table::of(&Code { copies: Vec::new(), ..code }))
+}
+
+/// The table with a ban after each copy that has none, if a list gives it then.
+fn without_idle_copies(table: &Table) -> Option<Table> {
+    let mut mended = table.clone();
+    for copy in mended.originals..mended.count.min(Code::MAX_WORDS) {
+        let mut entries = mended.rows.iter_mut().map(|row| &mut row.entries[copy]).filter(|entry| **entry == 1);
+        entries.next().into_iter().for_each(|entry| *entry = 0);
+        if mended.code().is_some() {
+            return Some(mended);
+        }
+        mended = table.clone();
+    }
+    None
+}
+
+/// The table with each copy given the symbols of its word, if a list gives it then.
+fn with_the_words_copied(table: &Table) -> Option<Table> {
+    let mut mended = table.clone();
+    for copy in mended.originals..mended.count.min(Code::MAX_WORDS) {
+        mended.words[copy] = *mended.words.get(mended.origins[copy] as usize)?;
+    }
+    mended.code().map(|code| Table::of(&code))
+}
+
+/// What stands for a word after the word before it.
+fn standing(table: &Table, word: u8, last: Option<u8>) -> u8 {
+    let copies = table.originals..table.count;
+    let fits = |&copy: &usize| table.origins[copy] == word && Some(table.behind[copy]) == last;
+    copies.into_iter().find(fits).map_or(word, |copy| copy as u8)
+}
+
+/// The lengths of the readings.
+fn lengths(answer: Result<ReadingLengths, Refusal>) -> [usize; 2] {
+    match answer {
+        Ok(ReadingLengths::One(only)) => [only, 0],
+        Ok(ReadingLengths::Two(first, second)) => [first, second],
+        Err(_) => [0, 0],
+    }
+}
+
+/// Writes the readings with other numbers, which are told from each word and the word before it.
+fn rename(buffers: &mut Buffers, lengths: [usize; 2], name: impl Fn(u8, Option<u8>) -> u8) {
+    for (buffer, length) in [&mut buffers.first, &mut buffers.second].into_iter().zip(lengths) {
+        let words = buffer[..length].to_vec();
+        let named = (0..length).map(|at| name(words[at], at.checked_sub(1).map(|before| words[before])));
+        buffer[..length].copy_from_slice(&named.collect::<Vec<_>>());
+    }
+}
+
+/// The table with every original word allowed to begin, if it is one that a sheet gives, alone or with a list.
 fn without_marks(table: &Table) -> Table {
-    let every_word = |code: Code| Table::of(&Code::new(code.words, code.rows));
+    let originals = |code: &Code| (0..code.words.len()).map(|word| word < code.originals()).collect();
+    let every_word = |code: Code| Table::of(&Code { starts: originals(&code), ..code });
     table.code().map_or_else(|| table.clone(), every_word)
 }
 
@@ -222,6 +433,24 @@ fn slips_are_caught() {
         ("sheet", Slip::MixedFieldsAccepted),
         ("sheet", Slip::StartFieldBeforeRowEntry),
         ("sheet", Slip::MarkFromRowEntry),
+        ("enlarging", Slip::TableOfRefusedList),
+        ("enlarging", Slip::LeadingZeroAccepted),
+        ("enlarging", Slip::LastBlankLineAccepted),
+        ("enlarging", Slip::EqualYAndZAccepted),
+        ("enlarging", Slip::ListOneByteLonger),
+        ("enlarging", Slip::LimitBeforeBans),
+        ("enlarging", Slip::CodeWithCopiesEnlarged),
+        ("enlarging", Slip::WordStaysAfterY),
+        ("enlarging", Slip::CopyAfterYOnly),
+        ("enlarging", Slip::CopyPerBan),
+        ("enlarging", Slip::CopyMayBegin),
+        ("enlarging", Slip::CopiesByNumber),
+        ("enlarging", Slip::FollowerNotAsItsCopy),
+        ("enlarging", Slip::BanOnlyAfterWord),
+        ("encoding", Slip::CopyWithoutBanAccepted),
+        ("encoding", Slip::CopyOfAnotherWordAccepted),
+        ("encoding", Slip::CopyNumbersEncoded),
+        ("encoding", Slip::BannedThreeEncoded),
         ("encoding", Slip::TableNotChecked),
         ("encoding", Slip::MarksNotChecked),
         ("encoding", Slip::MessageOneLonger),
@@ -230,9 +459,14 @@ fn slips_are_caught() {
         ("reading", Slip::SecondReadingWritten),
         ("reading", Slip::ReadingsExchanged),
         ("reading", Slip::MarksIgnoredByReading),
+        ("reading", Slip::ReadingsNameCopies),
+        ("reading", Slip::OrderByCopies),
+        ("reading", Slip::BansIgnoredByReading),
         ("verdict", Slip::DelayOneLess),
         ("verdict", Slip::WorkingBufferLeftByVerdict),
         ("verdict", Slip::MarksIgnoredByVerdict),
+        ("verdict", Slip::BansIgnoredByVerdict),
+        ("verdict", Slip::VerdictNamesCopies),
         ("verdict", Slip::UnreachedWordsGivePairs),
         ("verdict", Slip::OnlyBeginningWordsGivePairs),
         ("verdict", Slip::OpeningLeftOut),

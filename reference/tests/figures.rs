@@ -14,7 +14,7 @@ fn figure_2_ambiguous_messages_of_code_t() {
     let code = code_t();
     for (message, first, second) in figure_2() {
         assert_eq!(read(&code, message), Ok(Readings::Two(first.to_vec(), second.to_vec())));
-        assert_eq!(readings(&code, message), [first, second]);
+        assert_eq!(readings(&code, &[], message), [first, second]);
         assert_eq!(encode(&code, &first).as_deref(), Ok(message));
         assert_eq!(encode(&code, &second).as_deref(), Ok(message));
     }
@@ -55,5 +55,5 @@ fn figure_3_testing_table_of_code_u() {
     table.sort();
     assert_eq!(table, ["B1 D1 -0- QB D2", "QA C1 -1- QC B1", "QA C1 -1- QC D1", "QB D2 -1- QD B1", "QB D2 -1- QD D1"]);
     assert_eq!(graph.longest_path(), Some(FIGURE_3_LONGEST_PATH));
-    assert_eq!(by_prefixes(&code, 1_000), Some(Verdict::Delay(FIGURE_3_LONGEST_PATH + 1)));
+    assert_eq!(by_prefixes(&code, &[], 1_000), Some(Verdict::Delay(FIGURE_3_LONGEST_PATH + 1)));
 }

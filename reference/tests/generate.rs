@@ -1,10 +1,15 @@
 //! The generated inputs: within the limits where that is promised, and the same at every run.
 
+use reference::bans;
+use reference::code::{Code, Refusal};
+use reference::copies::{enlarge, without_copies};
 use reference::generate;
 use reference::random::Random;
 use reference::rivals::Rivals;
 use reference::sheet::{take_in, write};
 use reference::table::Table;
+use reference::verdict::verdict;
+use std::collections::BTreeSet;
 
 #[test]
 fn generated_codes_are_within_the_limits() {
@@ -46,7 +51,9 @@ fn some_damages_leave_a_table_that_a_sheet_gives() {
         let code = generate::code(&mut random);
         let table = generate::damaged_table(&mut random, &code);
         if let Some(code) = table.code() {
-            assert_eq!(take_in(&write(&code)).as_ref(), Ok(&code));
+            let (words, bans) = without_copies(&code);
+            assert_eq!(take_in(&write(&words)).as_ref(), Ok(&words));
+            assert_eq!(enlarge(&words, &bans), Ok(code));
             given += 1;
         }
     }
@@ -64,4 +71,62 @@ fn the_same_start_gives_the_same_inputs() {
     };
     assert_eq!(inputs(3), inputs(3));
     assert_ne!(inputs(3), inputs(4));
+}
+
+/// Lists whose copies come up to 32 words, or to 128 symbols, and lists of one more.
+#[test]
+fn lists_at_the_limits() {
+    let mut random = Random(5);
+    let (mut words, mut symbols, mut too_many_words, mut too_many_symbols) = (0, 0, 0, 0);
+    for _ in 0..3_000 {
+        let code = generate::code(&mut random);
+        let bans = generate::bans(&mut random, &code);
+        let pairs: BTreeSet<(u8, u8)> = bans.iter().map(|ban| (ban.y, ban.z)).collect();
+        let count = code.words.len() + pairs.len();
+        let length = code.symbols() + pairs.iter().map(|&(_, z)| code.words[z as usize].len()).sum::<usize>();
+        let fits = count <= Code::MAX_WORDS && length <= Code::MAX_SYMBOLS;
+        assert_eq!(enlarge(&code, &bans).is_ok(), fits);
+        words += usize::from(!pairs.is_empty() && fits && count == Code::MAX_WORDS);
+        symbols += usize::from(!pairs.is_empty() && fits && length == Code::MAX_SYMBOLS);
+        too_many_words += usize::from(count == Code::MAX_WORDS + 1 && length <= Code::MAX_SYMBOLS);
+        too_many_symbols += usize::from(length == Code::MAX_SYMBOLS + 1 && count <= Code::MAX_WORDS);
+    }
+    println!("32 words {words}, 33 words {too_many_words}, 128 symbols {symbols}, 129 symbols {too_many_symbols}");
+    assert!([words, symbols, too_many_words, too_many_symbols].iter().all(|&times| times >= 20));
+}
+
+/// Lists of 4,096 bytes are among those generated, accepted and not; and so are longer ones.
+#[test]
+fn lists_as_long_as_may_be() {
+    let mut random = Random(6);
+    let (mut longest, mut longest_accepted, mut too_long) = (0, 0, 0);
+    for _ in 0..10_000 {
+        let code = generate::code(&mut random);
+        let list = generate::list(&mut random, &code);
+        let taken = bans::take_in(&list, code.words.len());
+        longest += usize::from(list.len() == 4_096);
+        longest_accepted += usize::from(list.len() == 4_096 && taken.is_ok());
+        too_long += usize::from(list.len() == 4_097);
+        assert_eq!(taken == Err(Refusal::SheetSize), list.len() > 4_096);
+    }
+    println!("4,096 bytes {longest}, of these accepted {longest_accepted}, 4,097 bytes {too_long}");
+    assert!([longest, longest_accepted, too_long].iter().all(|&times| times >= 20));
+}
+
+/// In codes with copies, some damages leave a table that another sheet and list give.
+#[test]
+fn some_damages_leave_a_code_with_copies() {
+    let mut random = Random(7);
+    let (mut given, mut differ, mut chains) = (0, 0, 0);
+    for _ in 0..3_000 {
+        let code = generate::enlarged_code(&mut random);
+        assert_eq!(Table::of(&code).code().as_ref(), Some(&code));
+        let words = code.originals();
+        let is_chain = |x: usize| (words..code.words.len()).any(|y| code.may_follow(x, y));
+        chains += usize::from((words..code.words.len()).any(is_chain));
+        differ += usize::from(verdict(&code) != verdict(&without_copies(&code).0));
+        given += usize::from(generate::damaged_table(&mut random, &code).code().is_some());
+    }
+    println!("{given} damaged and given, in {chains} a copy follows a copy, in {differ} the bans change the verdict");
+    assert!((300..2_700).contains(&given) && chains > 500 && differ > 200);
 }

@@ -1,5 +1,6 @@
-//! Every stored sheet gives its stored result.
+//! Every stored sheet gives its stored result, with the ban list beside it if there is one.
 
+use reference::bans;
 use reference::brute::by_prefixes;
 use reference::code::Refusal;
 use reference::encode::encode;
@@ -14,31 +15,46 @@ fn folder() -> PathBuf {
     PathBuf::from(env!("CARGO_MANIFEST_DIR")).join("../sheets")
 }
 
-/// Every stored sheet: its name, its bytes, and the stored result.
-fn stored_sheets() -> Vec<(String, Vec<u8>, Vec<u8>)> {
+/// A stored sheet with its ban list, empty where there is none, and the stored result.
+struct Stored {
+    name: String,
+    sheet: Vec<u8>,
+    list: Vec<u8>,
+    result: Vec<u8>,
+}
+
+fn stored_sheets() -> Vec<Stored> {
     let mut paths: Vec<PathBuf> = fs::read_dir(folder()).unwrap().map(|file| file.unwrap().path()).collect();
     paths.retain(|path| path.extension().is_some_and(|extension| extension == "csv"));
-    let name = |path: &PathBuf| path.file_stem().unwrap().to_string_lossy().into_owned();
-    let bytes = |path: PathBuf| fs::read(path).unwrap();
-    paths.into_iter().map(|path| (name(&path), bytes(path.clone()), bytes(path.with_extension("out")))).collect()
+    let stored = |path: PathBuf| Stored {
+        name: path.file_stem().unwrap().to_string_lossy().into_owned(),
+        sheet: fs::read(&path).unwrap(),
+        list: fs::read(path.with_extension("bans")).unwrap_or_default(),
+        result: fs::read(path.with_extension("out")).unwrap(),
+    };
+    paths.into_iter().map(stored).collect()
 }
 
 #[test]
 fn stored_results() {
     let sheets = stored_sheets();
-    for (name, sheet, stored) in &sheets {
-        assert_eq!(result(sheet), *stored, "{name}");
+    for stored in &sheets {
+        assert_eq!(result(&stored.sheet, &stored.list), stored.result, "{}", stored.name);
     }
-    assert_eq!(sheets.len(), 48);
+    assert_eq!(sheets.len(), 74);
+    assert_eq!(sheets.iter().filter(|stored| !stored.list.is_empty()).count(), 25);
 }
 
 /// The largest codes are too large for brute force.
 #[test]
 fn stored_results_by_brute_force() {
-    for (name, sheet, stored) in stored_sheets() {
-        if let (Ok(code), false) = (take_in(&sheet), name.starts_with("largest-")) {
-            assert_eq!(by_prefixes(&code, 1_000).map(|verdict| printed(&verdict)), Some(stored), "{name}");
-        }
+    for Stored { name, sheet, list, result } in stored_sheets() {
+        let Ok(code) = take_in(&sheet) else { continue };
+        let bans = match bans::take_in(&list, code.words.len()) {
+            Ok(bans) if !name.starts_with("largest-") && !name.starts_with("bans-refusal-") => bans,
+            _ => continue,
+        };
+        assert_eq!(by_prefixes(&code, &bans, 1_000).map(|verdict| printed(&verdict)), Some(result), "{name}");
     }
 }
 
@@ -63,13 +79,14 @@ fn a_type_that_occurs_only_inside() {
 #[test]
 fn each_refusal_has_a_sheet() {
     let sheets = stored_sheets();
-    for number in (1..=7).chain([15]) {
-        let start = format!("refusal-{number}-");
-        let printed = format!("refused,{number}\r\n").into_bytes();
-        let mut named = sheets.iter().filter(|(name, ..)| name.starts_with(&start)).peekable();
-        assert!(named.peek().is_some());
-        for (name, _, stored) in named {
-            assert_eq!(*stored, printed, "{name}");
+    for (kind, numbers) in [("refusal", &[1, 2, 3, 4, 5, 6, 7, 15][..]), ("bans-refusal", &[1, 16, 17])] {
+        for number in numbers {
+            let start = format!("{kind}-{number}-");
+            let mut named = sheets.iter().filter(|stored| stored.name.starts_with(&start)).peekable();
+            assert!(named.peek().is_some(), "{start}");
+            for stored in named {
+                assert_eq!(stored.result, format!("refused,{number}\r\n").into_bytes(), "{}", stored.name);
+            }
         }
     }
 }

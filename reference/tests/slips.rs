@@ -1,9 +1,12 @@
 //! The slips that the sheets teach: what a program with the slip would print.
 //! The wrong programs are the pair procedure with one thing changed.
 
+use reference::bans;
 use reference::code::Code;
-use reference::print::result;
+use reference::copies::enlarge;
+use reference::print::{self, result};
 use reference::sheet::take_in;
+use reference::verdict::verdict;
 use std::cmp::Reverse;
 use std::collections::{BTreeSet, BinaryHeap};
 use std::fs;
@@ -131,7 +134,7 @@ fn taught(name: &str, slip: Slip, right: &str, wrong: &str) {
     let path = format!("{}/../sheets/{name}.csv", env!("CARGO_MANIFEST_DIR"));
     let sheet = fs::read(path).unwrap();
     let code = take_in(&sheet).unwrap();
-    let stored = String::from_utf8(result(&sheet)).unwrap();
+    let stored = String::from_utf8(result(&sheet, b"")).unwrap();
     let first_record = match stored.lines().next().unwrap().split_once(',').unwrap() {
         ("ambiguous", message) => format!("ambiguous after {}", message.len()),
         (kind, value) => format!("{kind},{value}"),
@@ -211,4 +214,84 @@ fn a_delay_where_no_words_compete() {
     for name in ["one-word", "opening-forced", "opening-none-begins", "opening-not-reached"] {
         taught(name, Slip::DelayWithoutRivals, "decipherable,0", "decipherable,1");
     }
+}
+
+/// A program that makes something else of the code and its bans; it is given the code and the right copies.
+type WrongCopies = fn(&Code, Code) -> Code;
+
+fn bans_ignored(code: &Code, _: Code) -> Code {
+    code.clone()
+}
+
+fn word_stays_after_y(code: &Code, mut enlarged: Code) -> Code {
+    for copy in &enlarged.copies {
+        let (word, behind) = (copy.word as usize, copy.behind as usize);
+        enlarged.rows[word][behind] = code.rows[word][behind];
+    }
+    enlarged
+}
+
+fn copy_after_y_only(code: &Code, mut enlarged: Code) -> Code {
+    for copy in code.words.len()..enlarged.words.len() {
+        enlarged.rows[copy][code.words.len()..].fill(false);
+    }
+    enlarged
+}
+
+fn word_after_copies_of_y(code: &Code, enlarged: Code) -> Code {
+    let mut wrong = copy_after_y_only(code, enlarged.clone());
+    for copy in code.words.len()..enlarged.words.len() {
+        for last in code.words.len()..enlarged.words.len() {
+            wrong.rows[enlarged.original(copy)][last] |= enlarged.rows[copy][last];
+        }
+    }
+    wrong
+}
+
+fn copy_may_begin(_: &Code, mut enlarged: Code) -> Code {
+    enlarged.starts = (0..enlarged.words.len()).map(|word| enlarged.starts[enlarged.original(word)]).collect();
+    enlarged
+}
+
+fn copies_are_words(_: &Code, enlarged: Code) -> Code {
+    Code { copies: Vec::new(), ..enlarged }
+}
+
+/// Holds what is stored for a sheet and its ban list against what the wrong program prints.
+fn taught_by_bans(name: &str, slip: WrongCopies, right: &str, wrong: &str) {
+    let read = |kind: &str| fs::read(format!("{}/../sheets/{name}.{kind}", env!("CARGO_MANIFEST_DIR"))).unwrap();
+    let code = take_in(&read("csv")).unwrap();
+    let bans = bans::take_in(&read("bans"), code.words.len()).unwrap();
+    let text = |printed: Vec<u8>| String::from_utf8(printed).unwrap().replace("\r\n", " ").trim_end().to_string();
+    assert_eq!(text(read("out")), right);
+    assert_eq!(text(print::printed(&verdict(&slip(&code, enlarge(&code, &bans).unwrap())))), wrong, "{name}");
+}
+
+#[test]
+fn bans_that_are_ignored() {
+    taught_by_bans("bans-decipherable", bans_ignored, "decipherable,3", "ambiguous,010 0,1,0 2");
+    taught_by_bans("bans-longer-message", bans_ignored, "ambiguous,01010 0,1,2 2,1,0", "ambiguous,010 0,1,0 2");
+    taught_by_bans("bans-delay", bans_ignored, "decipherable,4", "decipherable,unbounded");
+    taught_by_bans("bans-chain-told-apart", bans_ignored, "decipherable,4", "ambiguous,0120 0,1,2,0 3");
+}
+
+#[test]
+fn copies_at_wrong_places() {
+    taught_by_bans("bans-chain", copy_after_y_only, "ambiguous,012 0,1,2 3", "decipherable,3");
+    taught_by_bans("bans-chain-told-apart", word_after_copies_of_y, "decipherable,4", "ambiguous,0120 0,1,2,0 3");
+    taught_by_bans("bans-delay", word_stays_after_y, "decipherable,4", "ambiguous,011 0,2 0,2");
+    taught_by_bans("bans-forbidden-anyway", word_stays_after_y, "decipherable,3", "ambiguous,1001 1,2 1,2");
+    taught_by_bans("bans-never-adjacent", copy_may_begin, "decipherable,3", "ambiguous,0 0 0");
+}
+
+#[test]
+fn readings_by_the_numbers_of_copies() {
+    taught_by_bans("bans-order", copies_are_words, "ambiguous,10 0,1 0,2", "ambiguous,10 0,2 0,3");
+    taught_by_bans("bans-chain", copies_are_words, "ambiguous,012 0,1,2 3", "ambiguous,012 0,4,5 3");
+    taught_by_bans(
+        "bans-equal-words",
+        copies_are_words,
+        "ambiguous,1000 2,0,0,0 2,0,0,1",
+        "ambiguous,1000 2,3,0,0 2,3,0,1",
+    );
 }

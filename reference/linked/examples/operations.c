@@ -1,12 +1,15 @@
 /* Code U from a sheet in memory: its verdict, the only reading of a message, the message again from the reading, a sequence that is
- * refused, and the empty message. Prints what examples/operations.rs prints. */
+ * refused, and the empty message. Then the same code with a ban on 0 after 01 and 10: its verdict, and what the ban forbids. Prints
+ * what examples/operations.rs prints. */
 #include "furlazon.h"
 
 #include <inttypes.h>
 #include <stdio.h>
 
 static const char sheet[] = "0,1,1,0,0\r\n10,1,1,1,1\r\n01,1,1,0,0\r\n101,1,1,1,1\r\n";
+static const char bans[] = "0,2,1\r\n";
 static uint8_t table[FURLAZON_TABLE_BYTES];
+static uint8_t enlarged[FURLAZON_TABLE_BYTES];
 static uint8_t message[FURLAZON_VERDICT_ENTRIES];
 static uint8_t first[FURLAZON_VERDICT_ENTRIES];
 static uint8_t second[FURLAZON_VERDICT_ENTRIES];
@@ -53,5 +56,24 @@ int main(void) {
     refused = furlazon_read(table, sizeof table, NULL, 0, NULL, 0, NULL, 0, work, 1, answer, FURLAZON_ANSWER_ENTRIES);
     print_answer("reading of the empty message", refused);
     printf("\n");
+
+    if (furlazon_enlarge(table, sizeof table, (const uint8_t *)bans, sizeof bans - 1, enlarged, sizeof enlarged) != 0) {
+        return 1;
+    }
+    refused = furlazon_verdict(enlarged, sizeof enlarged, message, sizeof message, first, sizeof first, second, sizeof second, work,
+                               FURLAZON_VERDICT_WORK, answer, FURLAZON_ANSWER_ENTRIES);
+    print_answer("verdict with the ban", refused);
+    printf("\n");
+
+    const uint8_t words[] = {2, 1, 0};
+    refused = furlazon_encode(table, sizeof table, words, sizeof words, message, sizeof message, answer, FURLAZON_ANSWER_ENTRIES);
+    printf("words 2, 1, 0: refusal %" PRIu64, refused);
+    print_entries("symbols", message, answer[0]);
+    const uint64_t length = answer[0];
+    refused = furlazon_encode(enlarged, sizeof enlarged, words, sizeof words, message, sizeof message, answer, FURLAZON_ANSWER_ENTRIES);
+    printf("words 2, 1, 0 with the ban: %s\n", refused == FURLAZON_REFUSED_FORBIDDEN_PAIR ? "forbidden" : "not forbidden");
+    refused = furlazon_read(enlarged, sizeof enlarged, message, length, first, sizeof first, second, sizeof second, work,
+                            FURLAZON_VERDICT_WORK, answer, FURLAZON_ANSWER_ENTRIES);
+    printf("reading of that message with the ban: %s\n", refused == FURLAZON_REFUSED_NO_READING ? "none" : "some");
     return 0;
 }

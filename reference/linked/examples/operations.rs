@@ -1,6 +1,7 @@
 //! Code U from a sheet in memory: its verdict, the only reading of a message,
 //! the message again from the reading, a sequence that is refused, and the
-//! empty message. Prints what `operations.c` prints.
+//! empty message. Then the same code with a ban on 0 after 01 and 10: its
+//! verdict, and what the ban forbids. Prints what `operations.c` prints.
 
 use furlazon::{ANSWER_ENTRIES, TABLE_BYTES};
 use reference::code::Refusal;
@@ -30,4 +31,19 @@ fn main() {
 
     let refused = furlazon::read(&table, &[], &mut [], &mut [], &mut work[..1], &mut answer);
     println!("reading of the empty message: refusal {refused}, answer {answer:?}");
+
+    let mut enlarged = [0; TABLE_BYTES];
+    assert_eq!(furlazon::enlarge(&table, b"0,2,1\r\n", &mut enlarged), 0);
+    let refused = furlazon::verdict(&enlarged, &mut message, &mut first, &mut second, &mut work, &mut answer);
+    println!("verdict with the ban: refusal {refused}, answer {answer:?}");
+
+    let refused = furlazon::encode(&table, &[2, 1, 0], &mut message, &mut answer);
+    let symbols = message[..answer[0] as usize].to_vec();
+    println!("words 2, 1, 0: refusal {refused}, symbols {symbols:?}");
+    let refused = furlazon::encode(&enlarged, &[2, 1, 0], &mut message, &mut answer);
+    let forbidden = refused == u64::from(Refusal::PairNotPermitted.number());
+    println!("words 2, 1, 0 with the ban: {}", if forbidden { "forbidden" } else { "not forbidden" });
+    let refused = furlazon::read(&enlarged, &symbols, &mut first, &mut second, &mut work, &mut answer);
+    let none = refused == u64::from(Refusal::NoReading.number());
+    println!("reading of that message with the ban: {}", if none { "none" } else { "some" });
 }

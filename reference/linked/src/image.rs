@@ -1,6 +1,8 @@
 //! The image of a table: for each of the 32 words its 16 symbols and its
 //! length, then the 32 rows of 32 entries, then the 32 start marks, then the
-//! count.
+//! count. Of the copies: the number of words that are none, then for each of
+//! the 32 words the one that it is a copy of, then the one after which it
+//! stands.
 
 use crate::TABLE_BYTES;
 use reference::code::Code;
@@ -9,7 +11,10 @@ use reference::table::Table;
 const WORD: usize = Code::MAX_WORD_SYMBOLS + 1;
 const ROWS: usize = Code::MAX_WORDS * WORD;
 const STARTS: usize = ROWS + Code::MAX_WORDS * Code::MAX_WORDS;
-const COUNT: usize = TABLE_BYTES - 1;
+const COUNT: usize = STARTS + Code::MAX_WORDS;
+const ORIGINALS: usize = COUNT + 1;
+const ORIGINS: usize = ORIGINALS + 1;
+const BEHIND: usize = ORIGINS + Code::MAX_WORDS;
 
 /// A number as a byte. Every number past 255 is too long for a word and too
 /// many for a code, and so is 255.
@@ -28,6 +33,9 @@ pub fn pack(table: &Table) -> [u8; TABLE_BYTES] {
     }
     image[STARTS..COUNT].copy_from_slice(&table.starts);
     image[COUNT] = byte(table.count);
+    image[ORIGINALS] = byte(table.originals);
+    image[ORIGINS..BEHIND].copy_from_slice(&table.origins);
+    image[BEHIND..].copy_from_slice(&table.behind);
     image
 }
 
@@ -42,5 +50,8 @@ pub fn unpack(image: &[u8; TABLE_BYTES]) -> Table {
     }
     table.starts.copy_from_slice(&image[STARTS..COUNT]);
     table.count = image[COUNT] as usize;
+    table.originals = image[ORIGINALS] as usize;
+    table.origins.copy_from_slice(&image[ORIGINS..BEHIND]);
+    table.behind.copy_from_slice(&image[BEHIND..]);
     table
 }

@@ -10,12 +10,20 @@ pub mod linked;
 pub mod plain;
 
 /// Bytes of a table's image.
-pub const TABLE_BYTES: usize = 1_601;
+pub const TABLE_BYTES: usize = 1_666;
 /// Entries of an answer.
 pub const ANSWER_ENTRIES: usize = 4;
 
 extern "C" {
     fn furlazon_take_in(sheet: *const u8, sheet_length: usize, table: *mut u8, table_length: usize) -> u64;
+    fn furlazon_enlarge(
+        table: *const u8,
+        table_length: usize,
+        bans: *const u8,
+        bans_length: usize,
+        enlarged: *mut u8,
+        enlarged_length: usize,
+    ) -> u64;
     fn furlazon_encode(
         table: *const u8,
         table_length: usize,
@@ -60,6 +68,14 @@ extern "C" {
 pub fn take_in(sheet: &[u8], table: &mut [u8]) -> u64 {
     // SAFETY: each pointer comes from a slice with its length, and no two slices overlap.
     unsafe { furlazon_take_in(sheet.as_ptr(), sheet.len(), table.as_mut_ptr(), table.len()) }
+}
+
+/// Enlarges a table by a ban list and writes the enlarged table's image. 0, or the refusal's number.
+pub fn enlarge(table: &[u8], bans: &[u8], enlarged: &mut [u8]) -> u64 {
+    // SAFETY: as above.
+    unsafe {
+        furlazon_enlarge(table.as_ptr(), table.len(), bans.as_ptr(), bans.len(), enlarged.as_mut_ptr(), enlarged.len())
+    }
 }
 
 /// Encodes a sequence of word numbers. 0, or the refusal's number.

@@ -8,7 +8,7 @@ use reference::table::Table;
 
 pub struct Linked;
 
-const REFUSALS: [Refusal; 15] = [
+const REFUSALS: [Refusal; 17] = [
     Refusal::SheetSize,
     Refusal::SheetByte,
     Refusal::TooManyRecords,
@@ -24,6 +24,8 @@ const REFUSALS: [Refusal; 15] = [
     Refusal::BufferTooShort,
     Refusal::NoReading,
     Refusal::StartField,
+    Refusal::WrongBan,
+    Refusal::TooManyCopies,
 ];
 
 /// The refusal with this number; none for 0.
@@ -50,15 +52,25 @@ fn answer(call: impl FnOnce(&mut [u64]) -> u64) -> Result<[usize; ANSWER_ENTRIES
     }
 }
 
+/// Runs a call that writes an image. A refusal leaves the buffer as it was;
+/// the table of the trait is then the blank one.
+fn table(call: impl FnOnce(&mut [u8]) -> u64) -> (Option<Refusal>, Table) {
+    let mut image = [MARK as u8; TABLE_BYTES];
+    let refused = refusal(call(&mut image));
+    if refused.is_some() && image == [MARK as u8; TABLE_BYTES] {
+        return (refused, Table::BLANK);
+    }
+    (refused, image::unpack(&image))
+}
+
 impl Operations for Linked {
     fn take_in(&mut self, sheet: &[u8]) -> (Option<Refusal>, Table) {
-        let mut table = [MARK as u8; TABLE_BYTES];
-        let refused = refusal(crate::take_in(sheet, &mut table));
-        // A refusal leaves the buffer as it was; the table of the trait is then the blank one.
-        if refused.is_some() && table == [MARK as u8; TABLE_BYTES] {
-            return (refused, Table::BLANK);
-        }
-        (refused, image::unpack(&table))
+        table(|image| crate::take_in(sheet, image))
+    }
+
+    fn enlarge(&mut self, words: &Table, list: &[u8]) -> (Option<Refusal>, Table) {
+        let words = image::pack(words);
+        table(|image| crate::enlarge(&words, list, image))
     }
 
     fn encode(&mut self, table: &Table, sequence: &[u8], message: &mut [u8]) -> Result<usize, Refusal> {

@@ -1,10 +1,12 @@
 //! What belongs to the boundary alone: the numbers of the header, the image of
-//! a table, a table too short to be read, and an answer too short to be told.
+//! a table, a table too short to be read, an enlarged one too short to be
+//! written, and an answer too short to be told.
 
 use furlazon::linked::refusal;
 use furlazon::{ANSWER_ENTRIES, TABLE_BYTES};
 use reference::code::{Code, Refusal};
 use reference::operations::{VERDICT_ENTRIES, VERDICT_WORKING};
+use reference::sheet::write;
 
 const MARK: u8 = 0x5A;
 const WORD_MARK: u64 = 0x5A5A;
@@ -28,6 +30,7 @@ fn limits_of_the_header() {
         ("WORD_SYMBOLS", Code::MAX_WORD_SYMBOLS),
         ("CODE_SYMBOLS", Code::MAX_SYMBOLS),
         ("SHEET_BYTES", Code::MAX_SHEET_BYTES),
+        ("BANS_BYTES", Code::MAX_BANS_BYTES),
         ("MESSAGE_SYMBOLS", Code::MAX_MESSAGE_SYMBOLS),
         ("TABLE_BYTES", TABLE_BYTES),
         ("ANSWER_ENTRIES", ANSWER_ENTRIES),
@@ -56,6 +59,8 @@ fn refusals_of_the_header() {
         ("SHORT_BUFFER", Refusal::BufferTooShort),
         ("NO_READING", Refusal::NoReading),
         ("START_FIELD", Refusal::StartField),
+        ("BAN", Refusal::WrongBan),
+        ("COPIES", Refusal::TooManyCopies),
     ];
     for (name, refusal) in names {
         assert_eq!(defined(&format!("REFUSED_{name}")), u64::from(refusal.number()), "{name}");
@@ -64,7 +69,7 @@ fn refusals_of_the_header() {
     assert_eq!(header.matches("#define FURLAZON_REFUSED_").count(), names.len());
 }
 
-/// Where a word, its length, a row entry, a start mark and the count stand in the image.
+/// Where a word, its length, a row entry, a start mark and the counts stand in the image.
 #[test]
 fn places_of_the_image() {
     let mut table = [MARK; TABLE_BYTES];
@@ -81,14 +86,95 @@ fn places_of_the_image() {
         expected[1_568 + word] = 1;
     }
     expected[1_600] = 3;
+    expected[1_601] = 3;
+    expected[1_602..1_605].copy_from_slice(&[0, 1, 2]);
     assert_eq!(table, expected);
+}
+
+/// Three words, a copy of 2 behind 1 and a copy of 1 behind 0.
+const BANS: &[u8] = b"0,1,2\r\n1,0,1";
+
+/// Where what belongs to copies stands in the image; what follows the image is as it was.
+#[test]
+fn places_of_copies_in_the_image() {
+    let mut table = [0; TABLE_BYTES];
+    assert_eq!(furlazon::take_in(b"0,1,1,1\r\n1,1,1,1\r\nAB,1,1,1\r\n", &mut table), 0);
+    let mut enlarged = [MARK; TABLE_BYTES + 3];
+    assert_eq!(furlazon::enlarge(&table, BANS, &mut enlarged), 0);
+    let mut expected = [0; TABLE_BYTES + 3];
+    for (word, symbols) in [&[0][..], &[1], &[0xA, 0xB], &[0xA, 0xB], &[1]].into_iter().enumerate() {
+        expected[17 * word..17 * word + symbols.len()].copy_from_slice(symbols);
+        expected[17 * word + 16] = symbols.len() as u8;
+    }
+    let rows = [[1, 1, 1, 0, 1], [0, 1, 1, 1, 0], [1, 0, 1, 1, 0], [0, 1, 0, 0, 1], [1, 0, 0, 0, 0]];
+    for (x, row) in rows.iter().enumerate() {
+        expected[544 + 32 * x..544 + 32 * x + 5].copy_from_slice(row);
+    }
+    expected[1_568..1_573].copy_from_slice(&[1, 1, 1, 0, 0]);
+    expected[1_600] = 5;
+    expected[1_601] = 3;
+    expected[1_602..1_607].copy_from_slice(&[0, 1, 2, 2, 1]);
+    expected[1_634..1_639].copy_from_slice(&[0, 0, 0, 1, 0]);
+    expected[TABLE_BYTES..].fill(MARK);
+    assert_eq!(enlarged, expected);
+    assert_eq!(TABLE_BYTES, 1_634 + 32);
+}
+
+/// Without a ban the enlarged image is the table's.
+#[test]
+fn an_image_without_copies_stays() {
+    let (table, _) = tables();
+    for list in [&b""[..], b"0,0,1"] {
+        let mut enlarged = vec![MARK; TABLE_BYTES];
+        assert_eq!(furlazon::enlarge(&table, list, &mut enlarged), 0);
+        assert_eq!(enlarged == table, list.is_empty());
+    }
+}
+
+/// Refusals of enlarging with images of every kind, and room for the enlarged
+/// one or not; nothing may change.
+#[test]
+fn short_images_of_enlarging() {
+    let (table, none) = tables();
+    let mut with_copies = vec![0; TABLE_BYTES];
+    assert_eq!(furlazon::enlarge(&table, b"0,0,1", &mut with_copies), 0);
+    let too_long = [b'0'; 4_097];
+    let mut full = vec![0; TABLE_BYTES];
+    assert_eq!(furlazon::take_in(&write(&Code::free(&["0"; 32])), &mut full), 0);
+    let (short, number) = (Refusal::BufferTooShort, |refusal: Refusal| u64::from(refusal.number()));
+    // The image, the list, the refusal with room for the enlarged image if there is one, and that without room.
+    type Case<'a> = (&'a [u8], &'a [u8], Option<Refusal>, Refusal);
+    let cases: [Case; 12] = [
+        (&table, b"", None, short),
+        (&table, b"0,0,1\r\n", None, short),
+        (&table, &too_long, Some(Refusal::SheetSize), Refusal::SheetSize),
+        (&none, b"0,0,1", Some(Refusal::NotFromSheet), Refusal::NotFromSheet),
+        (&none, &too_long, Some(Refusal::SheetSize), Refusal::SheetSize),
+        (&with_copies, b"", Some(Refusal::NotFromSheet), Refusal::NotFromSheet),
+        (&with_copies, b"0,0,1", Some(Refusal::NotFromSheet), Refusal::NotFromSheet),
+        (&table, b"0,0,0", Some(Refusal::WrongBan), short),
+        (&full, b"0,0,1", Some(Refusal::TooManyCopies), short),
+        (&table[..TABLE_BYTES - 1], b"", Some(short), short),
+        (&table[..TABLE_BYTES - 1], &too_long, Some(short), short),
+        (&[], &too_long, Some(short), short),
+    ];
+    for (image, list, with_room, without_room) in cases {
+        for room in [0, 1, TABLE_BYTES - 1, TABLE_BYTES, TABLE_BYTES + 3] {
+            let mut enlarged = vec![MARK; room];
+            let expected = if room < TABLE_BYTES { Some(without_room) } else { with_room };
+            let refused = furlazon::enlarge(image, list, &mut enlarged);
+            assert_eq!(refused, expected.map_or(0, number), "room of {room}, list {list:?}");
+            let unchanged = if expected.is_some() { 0 } else { TABLE_BYTES };
+            assert!(enlarged[unchanged..].iter().all(|&entry| entry == MARK));
+        }
+    }
 }
 
 fn tables() -> (Vec<u8>, Vec<u8>) {
     let mut table = vec![0; TABLE_BYTES];
     assert_eq!(furlazon::take_in(SHEET, &mut table), 0);
     let mut none = table.clone();
-    none[TABLE_BYTES - 1] = 0;
+    none[1_600] = 0;
     (table, none)
 }
 

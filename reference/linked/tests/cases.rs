@@ -1,14 +1,17 @@
-//! Cases 11 to 14 of the scope paper, codes with start marks, and figures 2
-//! and 3 of Gönenç, run by the proved library and by the reference: both give
-//! the same, lent buffers included, and it is what the papers say.
+//! Cases 11 to 14 of the scope paper, codes with start marks, codes with ban
+//! lists, and figures 2 and 3 of Gönenç, run by the proved library and by the
+//! reference: both give the same, lent buffers included, and it is what the
+//! papers say.
 
 use furlazon::linked::Linked;
 use furlazon::{image, TABLE_BYTES};
+use reference::bans;
 use reference::cases::{
-    code_t, code_u, codes_for_the_empty_message, figure_2, limit_sheets, openings, turkish_six, turkish_twelve,
-    FIGURE_3_LONGEST_PATH,
+    banned, code_t, code_u, codes_for_the_empty_message, figure_2, limit_sheets, openings, refused_lists, shortening,
+    turkish_six, turkish_twelve, FIGURE_3_LONGEST_PATH,
 };
 use reference::code::{Code, Refusal};
+use reference::copies::enlarge;
 use reference::operations::{
     Buffers, Operations, ReadingLengths, Reference, VerdictLengths, VERDICT_ENTRIES, VERDICT_WORKING,
 };
@@ -57,6 +60,37 @@ fn taken_in(sheet: &[u8], refusal: Option<Refusal>) -> Table {
     assert_eq!(furlazon::take_in(sheet, &mut buffer), refusal.map_or(0, |refusal| u64::from(refusal.number())));
     assert_eq!(buffer, expected);
     table
+}
+
+/// Both enlarge the table by the list with this refusal or none; the enlarged
+/// table. A refusal leaves the buffer of the library's image as it was.
+fn enlarged_by(table: &Table, list: &[u8], refusal: Option<Refusal>) -> Table {
+    let enlarged = Linked.enlarge(table, list);
+    assert_eq!(enlarged, Reference.enlarge(table, list));
+    let (refused, enlarged) = enlarged;
+    assert_eq!(refused, refusal);
+    let mut buffer = [MARK; TABLE_BYTES + 3];
+    let mut expected = buffer;
+    if refusal.is_none() {
+        expected[..TABLE_BYTES].copy_from_slice(&image::pack(&enlarged));
+    }
+    let number = refusal.map_or(0, |refusal| u64::from(refusal.number()));
+    assert_eq!(furlazon::enlarge(&image::pack(table), list, &mut buffer), number);
+    assert_eq!(buffer, expected);
+    enlarged
+}
+
+/// Both give this verdict.
+fn gives_verdict(table: &Table, verdict: Verdict) {
+    match verdict {
+        Verdict::Ambiguous { message, first, second } => {
+            let [symbols, words, others] = [&message, &first, &second].map(Vec::len);
+            let lengths = VerdictLengths::Ambiguous { message: symbols, first: words, second: others };
+            gives(table, lengths, &message, &first, &second);
+        }
+        Verdict::Delay(delay) => gives(table, VerdictLengths::Delay(delay), &[], &[], &[]),
+        Verdict::Unbounded => gives(table, VerdictLengths::Unbounded, &[], &[], &[]),
+    }
 }
 
 /// Both give this verdict and leave these lists in the buffers.
@@ -151,15 +185,7 @@ fn openings_in_the_verdict() {
         let path = format!("{}/../../sheets/{}.csv", env!("CARGO_MANIFEST_DIR"), opening.sheet);
         let table = taken_in(&fs::read(path).unwrap(), None);
         assert_eq!(table, Table::of(&opening.code), "{}", opening.sheet);
-        match opening.verdict {
-            Verdict::Ambiguous { message, first, second } => {
-                let [symbols, words, others] = [&message, &first, &second].map(Vec::len);
-                let lengths = VerdictLengths::Ambiguous { message: symbols, first: words, second: others };
-                gives(&table, lengths, &message, &first, &second);
-            }
-            Verdict::Delay(delay) => gives(&table, VerdictLengths::Delay(delay), &[], &[], &[]),
-            Verdict::Unbounded => gives(&table, VerdictLengths::Unbounded, &[], &[], &[]),
-        }
+        gives_verdict(&table, opening.verdict);
     }
 }
 
@@ -187,6 +213,77 @@ fn start_fields_refused() {
     taken_in(include_bytes!("../../../sheets/refusal-15-empty-start-field.csv"), Some(Refusal::StartField));
     taken_in(include_bytes!("../../../sheets/refusal-several-start-field.csv"), Some(Refusal::RowEntry));
     taken_in(include_bytes!("../../../sheets/refusal-6-mixed-fields.csv"), Some(Refusal::FieldCount));
+}
+
+/// A stored sheet or ban list.
+fn stored(name: &str, kind: &str) -> Vec<u8> {
+    fs::read(format!("{}/../../sheets/{name}.{kind}", env!("CARGO_MANIFEST_DIR"))).unwrap()
+}
+
+#[test]
+fn ban_lists_in_the_verdict() {
+    for case in banned() {
+        let table = taken_in(&stored(case.sheet, "csv"), None);
+        assert_eq!(table, Table::of(&case.code), "{}", case.sheet);
+        let enlarged = enlarged_by(&table, &stored(case.sheet, "bans"), None);
+        assert_eq!(enlarged, Table::of(&enlarge(&case.code, &case.bans).unwrap()), "{}", case.sheet);
+        gives_verdict(&enlarged, case.verdict);
+    }
+}
+
+#[test]
+fn refused_ban_lists() {
+    for case in refused_lists() {
+        let (sheet, list) = (stored(case.name, "csv"), stored(case.name, "bans"));
+        match case.refusal {
+            Refusal::RowEntry => drop(taken_in(&sheet, Some(case.refusal))),
+            _ => drop(enlarged_by(&taken_in(&sheet, None), &list, Some(case.refusal))),
+        }
+    }
+}
+
+/// A table that has copies is not enlarged again, nor one that no sheet gives.
+#[test]
+fn tables_that_are_not_enlarged() {
+    let table = Table::of(&code_t());
+    let enlarged = enlarged_by(&table, b"0,0,1", None);
+    enlarged_by(&enlarged, b"", Some(Refusal::NotFromSheet));
+    enlarged_by(&enlarged, b"0,0,1", Some(Refusal::NotFromSheet));
+    enlarged_by(&Table { count: 33, ..table.clone() }, b"x", Some(Refusal::NotFromSheet));
+    enlarged_by(&Table { originals: 3, ..table.clone() }, b"0,0,1", Some(Refusal::NotFromSheet));
+    assert_eq!(enlarged_by(&table, b"", None), table);
+}
+
+/// 0, 1, 010 with bans on 0 and 010 after 0 and 1: of 010 one reading is left. Numbers of copies are nowhere met.
+#[test]
+fn ban_lists_in_readings_and_sequences() {
+    let table = enlarged_by(&Table::of(&Code::free(&["0", "1", "010"])), b"0,0,1\r\n2,0,1\r\n", None);
+    reads(&table, &[0, 1, 0], ReadingLengths::One(1), &[2], &[]);
+    reads(&table, &[0, 1, 1, 0], ReadingLengths::One(4), &[0, 1, 1, 0], &[]);
+    encodes(&table, &[0, 1, 1, 0], &[0, 1, 1, 0]);
+    encodes(&table, &[1, 1, 2], &[1, 1, 0, 1, 0]);
+    does_not_encode(&table, &[0, 1, 0]);
+    does_not_encode(&table, &[0, 0, 1, 2]);
+    let mut message = [MARK; 8];
+    assert_eq!(Linked.encode(&table, &[0, 3], &mut message), Err(Refusal::WordNumber));
+    assert_eq!(message, [MARK; 8]);
+}
+
+#[test]
+fn readings_in_the_order_of_the_originals() {
+    let code = Code::free(&["1", "0", "0", "0"]).with_starts("1000");
+    let table = enlarged_by(&Table::of(&code), b"0,0,1", None);
+    reads(&table, &[1, 0], ReadingLengths::Two(2, 2), &[0, 1], &[0, 2]);
+    reads(&table, &[1, 0, 1], ReadingLengths::Two(3, 3), &[0, 2, 0], &[0, 3, 0]);
+}
+
+#[test]
+fn a_long_vowel_is_shortened() {
+    let list = bans::write(&bans::of("0,1,0 1,1,0 2,1,0 3,1,0"));
+    let table = enlarged_by(&Table::of(&shortening()), &list, None);
+    reads(&table, &[1, 2, 1, 0], ReadingLengths::One(2), &[1, 0], &[]);
+    reads(&table, &[1, 0, 1, 0, 1, 0], ReadingLengths::One(3), &[0, 0, 0], &[]);
+    does_not_read(&table, &[1, 2, 1, 0, 1, 0]);
 }
 
 #[test]

@@ -9,7 +9,7 @@ use reference::{generate, verdict};
 fn verdicts_agree() {
     let mut random = Random(1);
     for _ in 0..5_000 {
-        let code = generate::code(&mut random);
+        let code = if random.one_in(2) { generate::code(&mut random) } else { generate::enlarged_code(&mut random) };
         assert_eq!(plain::verdict(&code), verdict::verdict(&code), "{code:?}");
     }
 }

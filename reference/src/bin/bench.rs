@@ -1,6 +1,9 @@
-//! Times the verdict on every sheet of a folder that is accepted: `bench FOLDER [SECONDS]`.
+//! Times the verdict on every sheet of a folder that is accepted, with the ban
+//! list beside it if there is one: `bench FOLDER [SECONDS]`.
 
 use reference::operations::{Buffers, Operations, Reference, VERDICT_ENTRIES, VERDICT_WORKING};
+use reference::print::take_in;
+use reference::table::Table;
 use std::hint::black_box;
 use std::time::{Duration, Instant};
 use std::{env, fs, io};
@@ -14,9 +17,10 @@ fn main() -> io::Result<()> {
     paths.sort();
     for path in paths {
         let sheet = fs::read(&path)?;
-        if Reference.take_in(&sheet).0.is_none() {
+        let list = fs::read(path.with_extension("bans")).unwrap_or_default();
+        if let Ok(code) = take_in(&sheet, &list) {
             let name = path.file_stem().unwrap_or_default().to_string_lossy();
-            let time = per_verdict(&mut Reference, &sheet, Duration::from_secs_f64(seconds));
+            let time = per_verdict(&mut Reference, &Table::of(&code), Duration::from_secs_f64(seconds));
             println!("{name:30} {:>12.2} µs", time.as_secs_f64() * 1e6);
         }
     }
@@ -24,8 +28,7 @@ fn main() -> io::Result<()> {
 }
 
 /// The shortest time of a verdict, buffers included, in as many trials as the span allows.
-fn per_verdict(program: &mut impl Operations, sheet: &[u8], span: Duration) -> Duration {
-    let (_, table) = program.take_in(sheet);
+fn per_verdict(program: &mut impl Operations, table: &Table, span: Duration) -> Duration {
     let mut buffers = Buffers {
         message: vec![0; VERDICT_ENTRIES],
         first: vec![0; VERDICT_ENTRIES],
@@ -36,7 +39,7 @@ fn per_verdict(program: &mut impl Operations, sheet: &[u8], span: Duration) -> D
     let start = Instant::now();
     while start.elapsed() < span {
         let trial = Instant::now();
-        black_box(program.verdict(black_box(&table), &mut buffers)).expect("the table is from a sheet");
+        black_box(program.verdict(black_box(table), &mut buffers)).expect("the table is from a sheet");
         best = best.min(trial.elapsed());
     }
     best

@@ -1,12 +1,13 @@
 //! Prints one generated sheet: one of the largest codes by name, or a random
-//! or damaged sheet by the start of the generator.
+//! or damaged sheet by the start of the generator; or a ban list for the
+//! random sheet with that start.
 
 use reference::random::Random;
 use reference::{generate, largest, sheet};
 use std::io::{self, Write};
 
 const USAGE: &str = "usage: generate ambiguous|delay|unbounded
-       generate sheet|damaged START";
+       generate sheet|damaged|bans START";
 
 fn main() -> io::Result<()> {
     let arguments: Vec<String> = std::env::args().skip(1).collect();
@@ -26,6 +27,11 @@ fn generated(arguments: &[&str]) -> Option<Vec<u8>> {
         ["delay"] => Some(sheet::write(&largest::delay())),
         ["unbounded"] => Some(sheet::write(&largest::unbounded())),
         ["sheet", start] => Some(generate::sheet(&mut Random(start.parse().ok()?))),
+        ["bans", start] => {
+            let mut random = Random(start.parse().ok()?);
+            let code = sheet::take_in(&generate::sheet(&mut random)).expect("a sound sheet");
+            Some(generate::list(&mut random, &code))
+        }
         ["damaged", start] => Some(generate::damaged_sheet(&mut Random(start.parse().ok()?))),
         _ => None,
     }

@@ -5,7 +5,7 @@
 use furlazon::linked::Linked;
 use furlazon::{image, ANSWER_ENTRIES, TABLE_BYTES};
 use reference::code::{Code, Refusal};
-use reference::compare::{compare, on_table, Met};
+use reference::compare::{compare, on_list, on_table, Met};
 use reference::operations::{Operations, Reference, VERDICT_ENTRIES, VERDICT_WORKING};
 use reference::random::Random;
 use reference::table::Table;
@@ -13,11 +13,14 @@ use reference::{encode, generate};
 use std::process::exit;
 use std::time::Instant;
 
+/// Rounds of a run where nothing else is said.
+const ROUNDS: usize = 40_000;
+
 fn main() {
     let numbers: Vec<Option<u64>> = std::env::args().skip(1).map(|text| text.parse().ok()).collect();
     let (start, rounds) = match numbers[..] {
-        [] => (1, 50_000),
-        [Some(start)] => (start, 50_000),
+        [] => (1, ROUNDS),
+        [Some(start)] => (start, ROUNDS),
         [Some(start), Some(rounds)] => (start, rounds as usize),
         _ => {
             eprintln!("usage: compare-linked [START [ROUNDS]]");
@@ -27,13 +30,14 @@ fn main() {
     println!("start {start}, {rounds} rounds");
     let clock = Instant::now();
     let met = compare(&mut Linked, start, rounds).unwrap_or_else(|difference| fail(&difference));
-    println!("sheets, sequences, messages and tables: {}", told(&met));
+    println!("sheets, ban lists, sequences, messages and tables: {}", told(&met));
     let met = images(start, rounds).unwrap_or_else(|difference| fail(&difference));
     println!("damaged images: {}", told(&met));
     short_buffers(start, rounds).unwrap_or_else(|difference| fail(&difference));
     println!("short images and answers: refused, nothing changed");
-    // A round has a sheet and three inputs for its table, three for a damaged image, and three for a short buffer.
-    println!("all the same: {} inputs in {} s, start {start}", 10 * rounds, clock.elapsed().as_secs());
+    // A round has a sheet, a ban list and three inputs for a table, a ban list and three inputs for a damaged image,
+    // and four inputs with short buffers.
+    println!("all the same: {} inputs in {} s, start {start}", 13 * rounds, clock.elapsed().as_secs());
 }
 
 fn fail<T>(difference: &str) -> T {
@@ -43,39 +47,49 @@ fn fail<T>(difference: &str) -> T {
 
 /// What was met, in words.
 fn told(met: &Met) -> String {
-    let Met { accepted, encoded, one_reading, two_readings, ambiguous, delayed, unbounded, refused } = met;
+    let Met { accepted, enlarged, encoded, one_reading, two_readings, ambiguous, delayed, unbounded, refused } = met;
     let refused: Vec<String> = (1..refused.len()).map(|number| format!("{number}: {}", refused[number])).collect();
     format!(
-        "{accepted} sheets accepted, {encoded} encoded, {one_reading} with one reading, {two_readings} with more, \
-         {ambiguous} ambiguous, {delayed} with a delay, {unbounded} without bound; refused {}",
+        "{accepted} sheets and {enlarged} ban lists accepted, {encoded} encoded, {one_reading} with one reading, \
+         {two_readings} with more, {ambiguous} ambiguous, {delayed} with a delay, {unbounded} without bound; \
+         refused {}",
         refused.join(", ")
     )
 }
 
-/// Images with some bytes changed at random: mostly tables that no sheet gives.
+/// Images with some bytes changed at random, half of them of codes with
+/// copies: mostly tables that no sheet gives, nor a sheet and a ban list.
 fn images(start: u64, rounds: usize) -> Result<Met, String> {
     let mut random = Random(start);
     let mut met = Met::default();
     for round in 0..rounds {
-        let code = generate::code(&mut random);
+        let code = if random.one_in(2) { generate::code(&mut random) } else { generate::enlarged_code(&mut random) };
         let mut image = image::pack(&Table::of(&code));
         for _ in 0..random.between(1, 3) {
-            let at = random.below(TABLE_BYTES);
+            // Often among the last bytes, where the numbers of the copies stand.
+            let last = if random.one_in(4) { COPIES_BYTES } else { TABLE_BYTES };
+            let at = TABLE_BYTES - 1 - random.below(last);
             image[at] = *random.pick(&[0, 1, 1, 2, 15, 16, 17, 32, 255]);
         }
-        on_table(&mut Linked, &mut random, &mut met, &code, &image::unpack(&image))
+        let table = image::unpack(&image);
+        let list = generate::list(&mut random, &code);
+        on_list(&mut Linked, &mut met, &table, &list)
+            .and_then(|()| on_table(&mut Linked, &mut random, &mut met, &code, &table))
             .map_err(|difference| format!("start {start}, image {round}: {difference}"))?;
     }
     Ok(met)
 }
 
-/// An image or an answer that is too short is refused with 13, unless the sheet
-/// for the image is refused with a lower number, and nothing changes.
+/// Bytes of an image that belong to the copies: their count, what each is a copy of, and after which word.
+const COPIES_BYTES: usize = 1 + 2 * Code::MAX_WORDS;
+
+/// An image or an answer that is too short is refused with 13, unless what the
+/// image is made from is refused with a lower number, and nothing changes.
 fn short_buffers(start: u64, rounds: usize) -> Result<(), String> {
     let mut random = Random(start);
     let mut work = Lent::new();
     for round in 0..rounds {
-        let code = generate::code(&mut random);
+        let code = if random.one_in(2) { generate::code(&mut random) } else { generate::enlarged_code(&mut random) };
         let short_image = random.one_in(2);
         let image_length = if short_image { random.below(TABLE_BYTES) } else { TABLE_BYTES };
         let answer_length = if short_image { random.below(6) } else { random.below(ANSWER_ENTRIES) };
@@ -85,6 +99,14 @@ fn short_buffers(start: u64, rounds: usize) -> Result<(), String> {
         }
     }
     Ok(())
+}
+
+/// What enlarging is refused with where there is no room for the image that it
+/// would write. A short image cannot be tested.
+fn list_number(image: &[u8], list: &[u8]) -> u64 {
+    let short = Refusal::BufferTooShort;
+    let refused = image.try_into().ok().and_then(|image| Reference.enlarge(&image::unpack(image), list).0);
+    u64::from(refused.map_or(short, |refused| refused.min(short)).number())
 }
 
 /// Lent buffers that are long enough, all filled with a mark.
@@ -110,6 +132,7 @@ impl Lent {
         let sequence = generate::permitted_sequence(random, code, 10);
         let joined = encode::joined(code, &sequence);
         let sheet = if random.one_in(2) { generate::sheet(random) } else { generate::damaged_sheet(random) };
+        let list = generate::list(random, code);
         let [message, first, second] = &mut self.bytes;
         let (work, answer) = (&mut self.work, &mut self.answer[..answer]);
         let short = u64::from(Refusal::BufferTooShort.number());
@@ -122,7 +145,9 @@ impl Lent {
         let sheet_number = Reference.take_in(&sheet).0.map_or(short, |refusal| u64::from(refusal.number()).min(short));
         let taken =
             image.len() == TABLE_BYTES || furlazon::take_in(&sheet, &mut message[..image.len()]) == sheet_number;
-        numbers == [short; 3] && taken && self.unchanged()
+        let room = random.below(TABLE_BYTES);
+        let enlarged = furlazon::enlarge(image, &list, &mut message[..room]) == list_number(image, &list);
+        numbers == [short; 3] && taken && enlarged && self.unchanged()
     }
 
     fn unchanged(&self) -> bool {

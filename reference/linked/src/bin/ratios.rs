@@ -26,7 +26,10 @@ fn main() {
     println!("| Operation | Input | Plain Rust | Proved, µs | Plain, µs | Ratio |");
     println!("|---|---|---|---|---|---|");
     for name in ["turkish-six", "largest-unbounded"] {
-        bench.take_in(name, &read_sheet(&sheets, name));
+        bench.take_in(name, &read_file(&sheets, name, "csv"));
+    }
+    for name in ["bans-delay", "bans-32-words"] {
+        bench.enlarge(name, &read_code(&sheets, name), &read_file(&sheets, name, "bans"));
     }
     for name in ["turkish-six", "largest-unbounded"] {
         let code = read_code(&sheets, name);
@@ -55,13 +58,13 @@ fn main() {
     }
 }
 
-fn read_sheet(sheets: &Path, name: &str) -> Vec<u8> {
-    let path = sheets.join(name).with_extension("csv");
+fn read_file(sheets: &Path, name: &str, kind: &str) -> Vec<u8> {
+    let path = sheets.join(name).with_extension(kind);
     fs::read(&path).unwrap_or_else(|error| panic!("{}: {error}", path.display()))
 }
 
 fn read_code(sheets: &Path, name: &str) -> Code {
-    sheet::take_in(&read_sheet(sheets, name)).expect("an accepted sheet")
+    sheet::take_in(&read_file(sheets, name, "csv")).expect("an accepted sheet")
 }
 
 /// A permitted sequence whose message has this many symbols.
@@ -116,6 +119,18 @@ impl Bench {
         };
         let plain = |timer: &mut Timer| timer.time(|| Reference.take_in(black_box(sheet)));
         self.row("take in", &format!("`{name}`, {} bytes", sheet.len()), "reference", proved, plain);
+    }
+
+    fn enlarge(&self, name: &str, code: &Code, list: &[u8]) {
+        let table = Table::of(code);
+        let packed = image::pack(&table);
+        let mut enlarged = [0; TABLE_BYTES];
+        let proved = |timer: &mut Timer| {
+            enlarged.fill(0);
+            timer.time(|| furlazon::enlarge(black_box(&packed), black_box(list), &mut enlarged));
+        };
+        let plain = |timer: &mut Timer| timer.time(|| Reference.enlarge(black_box(&table), black_box(list)));
+        self.row("enlarge", &format!("`{name}`, {} bytes", list.len()), "reference", proved, plain);
     }
 
     fn encode(&self, name: &str, code: &Code, symbols: usize) {
