@@ -1,5 +1,5 @@
 -- 01's example, from its sheet to its output: code T.
-use mathlib.Core.Path.{_≡_, refl}
+use mathlib.Core.Path.{_≡_, refl, ap}
 use mathlib.Core.Bool.{true}
 use mathlib.Core.List.{List, [], _∷_, _++_}
 use Prim.Native.Nat.{ℕ, _-_}
@@ -8,10 +8,12 @@ use Rattle.code.specs.declared.Word.{Word}
 use Rattle.code.specs.declared.Row.{Row}
 use Rattle.code.specs.declared.Code.{Code}
 use Rattle.code.specs.declared.SheetAnswer.the-variants.{Accepted}
+use Rattle.code.specs.declared.Taken.{Taken}
 use Rattle.code.specs.declared.Verdict.the-variants.{Ambiguous as Two-ways}
 use Rattle.code.specs.declared.Judgement.{Judgement}
 use Rattle.code.specs.declared.Judgement.the-variants.{Judged}
 use Rattle.code.specs.Definitions.Lists.{any, every, table, sum}
+use Rattle.code.specs.Definitions.Enlarged.{plainOf}
 use Rattle.code.specs.Definitions.Operations.{written}
 use Rattle.code.specs.Definitions.Sheets.{limits, body, records, fields, grid, badBytes, codeOf, takenGrid, taken, FromSheet}
 use Rattle.code.specs.Definitions.Tables.{tableOf}
@@ -23,8 +25,10 @@ use Rattle.places.specs.Codes.{code-fits}
 use Rattle.cases.specs.Enumeration.{readings}
 use Rattle.cases.specs.Messages.{leastIs, ambiguous-means}
 use Rattle.cases.specs.Readings.{firstTwoOf, first-two-means}
+use Rattle.meaning.specs.Empty.{empty-list}
+use Rattle.meaning.specs.Given.{plain-original}
 use Rattle.printing.specs.Printed.{places}
-use Rattle.verdict.specs.Answers.{RightFor, Answers}
+use Rattle.verdict.specs.Answers.{sheet-accepted, RightFor, Answers}
 use Rattle.verdict.specs.Unique.{answer-right}
 
 -- the four records `0,1,1,1,1`, `10,1,1,1,1`, `01,1,1,1,1` and `101,1,1,1,1`, each ended by CR LF
@@ -71,11 +75,17 @@ first-two = refl
 abbrev pub judgementT : Judgement
 judgementT = Judged (Two-ways (record { 0 = 3 }) (record { 0 = 2 }) (record { 0 = 2 }))
 
--- 01: "Code T of 000 (0, 10, 01, 101; all 1): ambiguous, message 010, readings 0,1 and 2,0"
-pub right-t : RightFor sheetT (0 ∷ 1 ∷ 0 ∷ []) (0 ∷ 1 ∷ []) (2 ∷ 0 ∷ []) judgementT
-right-t =
-    rw taken-t
-    (refl, (ambiguous-means (tableOf codeT) plain least (first-two-means plain (0 ∷ 1 ∷ 0 ∷ []) (0 ∷ 1 ∷ []) (2 ∷ 0 ∷ []) first-two), refl, refl, refl))
+-- 01: "Code T of 000 (0, 10, 01, 101; all 1): ambiguous, message 010, readings 0,1 and 2,0". Without a ban list the list has 0 bytes.
+pub right-t : RightFor sheetT [] (0 ∷ 1 ∷ 0 ∷ []) (0 ∷ 1 ∷ []) (2 ∷ 0 ∷ []) judgementT
+right-t = record {
+  given = record { answer = Accepted; enlarged = plainOf limits codeT };
+  gives = sheet-accepted (ap (λ (t : Taken). t .answer) taken-t) (rw taken-t (empty-list from-sheet-t));
+  right = (
+    refl,
+    rw (plain-original limits codeT)
+        (ambiguous-means (tableOf codeT) plain least (first-two-means plain (0 ∷ 1 ∷ 0 ∷ []) (0 ∷ 1 ∷ []) (2 ∷ 0 ∷ []) first-two), refl, refl, refl),
+  );
+}
 
 -- "From them it prints, whole": `ambiguous,010`, `0,1` and `2,0`
 abbrev pub outputT : List ℕ
@@ -86,6 +96,6 @@ outputT =
     ∷ []
 
 -- Whatever the output buffer held, it starts with these 25 bytes after the answer to code T.
-pub prints-t : {o o′ : List ℕ} {r : ℕ} → Answers sheetT o o′ r → (r ≡ 25) × (o′ ≡ written outputT o)
+pub prints-t : {o o′ : List ℕ} {r : ℕ} → Answers sheetT [] o o′ r → (r ≡ 25) × (o′ ≡ written outputT o)
 unfolding join digitOf places
 prints-t a = answer-right a (0 ∷ 1 ∷ 0 ∷ []) (0 ∷ 1 ∷ []) (2 ∷ 0 ∷ []) judgementT right-t
