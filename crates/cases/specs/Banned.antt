@@ -102,22 +102,25 @@ module _ (t : Table) (bs : List Ban) where
     named-over (onlyReading m s) e o = subst (OnlyReading (withBans t (bannedBy bs)) m) (named s e) (named-only covers o)
 
 -- The bans are on known words, and the enlarged code passes the check for what is expected, in its numbers.
-unfoldable pub checkBanned : BannedCase → Bool
+unfoldable pub checkWith : Table → List Ban → Expected → Bool
 unfolding any every isKnown isNonEmpty isMeant isNamed copiesFrom mayCome bannedBy
-checkBanned c =
-    let t = caseTable (c .code) in
-    let x = c .code .expected in
-    every (isKnown (size t)) (c .bans) && (isNonEmpty (enlargedBy t (c .bans)) && (isMeant (enlargedBy t (c .bans)) (inNumbers t (c .bans) x) && isNamed t (c .bans) x))
+checkWith t bs x = every (isKnown (size t)) bs && (isNonEmpty (enlargedBy t bs) && (isMeant (enlargedBy t bs) (inNumbers t bs x) && isNamed t bs x))
+
+-- What passes the check holds of the table with its bans.
+pub sound-with : (t : Table) (bs : List Ban) (x : Expected) → checkWith t bs x ≡ true → Means (withBans t (bannedBy bs)) x
+unfolding checkWith
+sound-with t bs x e =
+    let d = enlargedBy t bs in
+    let h = and-eq-true-iff (every (isKnown (size t)) bs) (isNonEmpty d && (isMeant d (inNumbers t bs x) && isNamed t bs x)) .0 e in
+    let i = and-eq-true-iff (isNonEmpty d) (isMeant d (inNumbers t bs x) && isNamed t bs x) .0 (h .1) in
+    let j = and-eq-true-iff (isMeant d (inNumbers t bs x)) (isNamed t bs x) .0 (i .1) in
+    named-over t bs (all-known (size t) bs (h .0)) x (j .1) (meant d (record { some = non-empty d (i .0); free = λ x y z. refl }) (inNumbers t bs x) (j .0))
+
+unfoldable pub checkBanned : BannedCase → Bool
+unfolding checkWith
+checkBanned c = checkWith (caseTable (c .code)) (c .bans) (c .code .expected)
 
 -- A case with bans that passes the check holds.
 pub sound-banned : (c : BannedCase) → checkBanned c ≡ true → BannedHolds c
 unfolding checkBanned
-sound-banned c e =
-    let t = caseTable (c .code) in
-    let d = enlargedBy t (c .bans) in
-    let x = c .code .expected in
-    let h = and-eq-true-iff (every (isKnown (size t)) (c .bans)) (isNonEmpty d && (isMeant d (inNumbers t (c .bans) x) && isNamed t (c .bans) x)) .0 e in
-    let i = and-eq-true-iff (isNonEmpty d) (isMeant d (inNumbers t (c .bans) x) && isNamed t (c .bans) x) .0 (h .1) in
-    let j = and-eq-true-iff (isMeant d (inNumbers t (c .bans) x)) (isNamed t (c .bans) x) .0 (i .1) in
-    named-over t (c .bans) (all-known (size t) (c .bans) (h .0)) x (j .1)
-    (meant d (record { some = non-empty d (i .0); free = λ x y z. refl }) (inNumbers t (c .bans) x) (j .0))
+sound-banned c e = sound-with (caseTable (c .code)) (c .bans) (c .code .expected) e

@@ -32,14 +32,16 @@ fn give(sheet: &[u8], list: &[u8]) -> Enlargement
     ensures { λ r. ⌜ Gives (now (sheet .entry)) (now (list .entry)) r ⌝ }
 {
     let taken = sheet::take_in(sheet);
-    let value = enlargements::plain(taken.code);
     let answer = taken.answer;
+    let value = enlargements::plain(taken.code);
+    let alone = Enlargement {
+        answer: answer,
+        enlarged: value,
+    };
+    let enlarged = banning::enlarge(value, list);
     match answer {
-        SheetAnswer::Refused(_) => Enlargement {
-            answer: answer,
-            enlarged: value,
-        },
-        SheetAnswer::Accepted => banning::enlarge(value, list),
+        SheetAnswer::Refused(_) => alone,
+        SheetAnswer::Accepted => enlarged,
     }
 }
 
