@@ -65,11 +65,12 @@ unfoldable pub check : Case → Bool
 unfolding isNonEmpty isMeant
 check c = isNonEmpty (caseTable c) && isMeant (caseTable c) (c .expected)
 
-non-empty : (t : Table) → isNonEmpty t ≡ true → NonEmpty t
+pub non-empty : (t : Table) → isNonEmpty t ≡ true → NonEmpty t
 unfolding isNonEmpty
 non-empty t e x h = leb-true 1 (length (word t x)) (every-below (λ z. leb 1 (length (word t z))) (size t) e x h)
 
-meant : (t : Table) → Plain t → (x : Expected) → isMeant t x ≡ true → Means t x
+-- What the check computes is so.
+pub meant : (t : Table) → Plain t → (x : Expected) → isMeant t x ≡ true → Means t x
 unfolding isMeant
 meant t plain (delay N) e = delay-means t plain N e
 meant t plain withoutBound e = without-bound-means t plain e

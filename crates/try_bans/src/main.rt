@@ -8,7 +8,7 @@ use code::Enlarged;
 use code::Sheet;
 use code::SheetAnswer;
 use libc::STDOUT_FILENO;
-use trying::fields::find;
+use trying::fields::field;
 use values::write_result;
 use values::write_value;
 
@@ -54,10 +54,13 @@ fn try_files(sheet: &[u8], list: &[u8]) {
 
 fn try_argument(names: &[u8]) {
     write_line(names);
-    let at = find(names, 0, b' ');
-    if at < names.len() {
-        try_files(&names[..at], &names[at + 1..]);
-    }
+    let sheet = field(names, 0);
+    let a = sheet.from;
+    let b = sheet.to;
+    let list = field(names, 1);
+    let c = list.from;
+    let d = list.to;
+    try_files(&names[a..b], &names[c..d]);
 }
 
 // Tables that no accepted sheet gives are refused before what is wrong with the list, but for its length.

@@ -10,7 +10,11 @@ use trying::tables::write_table;
 // Bytes that the longest result may take.
 const BYTES: usize = Lengths::FRAME + Pairs::ROOM + Lengths::NUMBER * (Pairs::ROOM + Pairs::ROOM);
 
-// The copies from `from` on: the word, and after which.
+fn write_number(word: u8) {
+    io::print_decimal(STDOUT_FILENO, word as u64);
+}
+
+// Of each copy the word, and after which it stands.
 fn write_copies(e: Enlarged) {
     let code = e.code;
     let mut x: usize = 0;
@@ -18,9 +22,9 @@ fn write_copies(e: Enlarged) {
         if e.originals <= x {
             if x < code.count {
                 io::write_all(STDOUT_FILENO, b", ");
-                io::print_decimal(STDOUT_FILENO, e.origins[x] as u64);
+                write_number(e.origins[x]);
                 io::write_all(STDOUT_FILENO, b" after ");
-                io::print_decimal(STDOUT_FILENO, e.behind[x] as u64);
+                write_number(e.behind[x]);
             }
         }
         x += 1;

@@ -1,6 +1,6 @@
 pub mod Answers
 pub mod Symbols
-pub mod Showing
 pub mod Unique
+pub mod Showing
 pub mod Inputs
 pub mod Examples

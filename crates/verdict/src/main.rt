@@ -1,5 +1,6 @@
-// Takes a sheet on standard input and writes its printed result on standard output.
+// Takes a sheet on standard input, and a ban list from the file that its argument names, if it has one. Writes the printed result on standard output.
 
+use code::Enlargement;
 use code::Judgement;
 use code::Sheet;
 use code::SheetAnswer;
@@ -15,7 +16,7 @@ ghost use lib.ListN.{length};
 ghost use Rattle.code.specs.Definitions.Operations.{verdictRoom};
 ghost use Rattle.code.specs.Definitions.Sheets.{limits};
 ghost use Rattle.io.specs.Counts.{Counts};
-ghost use Rattle.verdict.specs.Answers.{outputRoom, Shows, Answers, AnswersInput};
+ghost use Rattle.verdict.specs.Answers.{outputRoom, Gives, Shows, Answers, AnswersInput, Listed};
 
 pub struct Output {}
 
@@ -26,52 +27,93 @@ impl Output {
         + Lengths::NUMBER * (Pairs::ROOM + Pairs::ROOM);
 }
 
-// The refusal of a sheet, or the verdict on its table. An ambiguous message and its readings stand at the start of their buffers.
-fn judge(sheet: &[u8], message: &mut [u8], first: &mut [u8], second: &mut [u8]) -> Judgement
-    requires { ⌜ (length (now message) ≡ verdictRoom limits) × (length (now first) ≡ verdictRoom limits) × (length (now second) ≡ verdictRoom limits) ⌝ }
-    ensures { λ r. ⌜ Shows (now (sheet .entry)) (now (message .exit)) (now (first .exit)) (now (second .exit)) r ⌝ }
+// What a sheet and a ban list give: the refusal of the sheet; else that of the list, or the sheet's table with the copies that the list needs.
+fn give(sheet: &[u8], list: &[u8]) -> Enlargement
+    ensures { λ r. ⌜ Gives (now (sheet .entry)) (now (list .entry)) r ⌝ }
 {
     let taken = sheet::take_in(sheet);
     let answer = taken.answer;
+    let value = enlargements::plain(taken.code);
+    let alone = Enlargement {
+        answer: answer,
+        enlarged: value,
+    };
+    let enlarged = banning::enlarge(value, list);
+    match answer {
+        SheetAnswer::Refused(_) => alone,
+        SheetAnswer::Accepted => enlarged,
+    }
+}
+
+// The refusal of a sheet or a ban list, or the verdict on what they give. An ambiguous message and its readings stand at the start of their buffers.
+fn judge(
+    sheet: &[u8],
+    list: &[u8],
+    message: &mut [u8],
+    first: &mut [u8],
+    second: &mut [u8],
+) -> Judgement
+    requires { ⌜ (length (now message) ≡ verdictRoom limits) × (length (now first) ≡ verdictRoom limits) × (length (now second) ≡ verdictRoom limits) ⌝ }
+    ensures { λ r. ⌜ Shows (now (sheet .entry)) (now (list .entry)) (now (message .exit)) (now (first .exit)) (now (second .exit)) r ⌝ }
+{
+    let given = give(sheet, list);
+    let answer = given.answer;
     match answer {
         SheetAnswer::Refused(refusal) => Judgement::Refused(refusal),
         SheetAnswer::Accepted => {
             let mut work = [0u64; Pairs::MARKS];
-            decipher::verdict(taken.code, message, first, second, &mut work)
+            decipher::verdict(given.enlarged, message, first, second, &mut work)
         }
     }
 }
 
-// Puts the printed result of a sheet at the start of `out`, and gives its length.
-fn answer(sheet: &[u8], out: &mut [u8]) -> usize
+// Puts the printed result of a sheet and a ban list at the start of `out`, and gives its length.
+fn answer(sheet: &[u8], list: &[u8], out: &mut [u8]) -> usize
     requires { ⌜ length (now out) ≡ outputRoom ⌝ }
-    ensures { λ r. ⌜ Answers (now (sheet .entry)) (now (out .entry)) (now (out .exit)) r ⌝ }
+    ensures { λ r. ⌜ Answers (now (sheet .entry)) (now (list .entry)) (now (out .entry)) (now (out .exit)) r ⌝ }
 {
     let mut message = [0u8; Pairs::ROOM];
     let mut first = [0u8; Pairs::ROOM];
     let mut second = [0u8; Pairs::ROOM];
-    let judgement = judge(sheet, &mut message, &mut first, &mut second);
+    let judgement = judge(sheet, list, &mut message, &mut first, &mut second);
     printing::print_result(judgement, &message, &first, &second, out)
 }
 
-// The answer to the first n bytes of an input. The buffer is longer than a sheet may be, so an input that fills it is refused.
-fn answer_input(input: &[u8], n: usize, out: &mut [u8]) -> usize
-    requires { ⌜ Counts n (now input) × (4096 < length (now input)) × (length (now out) ≡ outputRoom) ⌝ }
-    ensures { λ r. ⌜ AnswersInput (now (input .entry)) n (now (out .entry)) (now (out .exit)) r ⌝ }
+// The answer to the first n bytes of an input and the first k of a file. Each buffer is longer than a sheet or a list may be, so what fills it is refused.
+fn answer_input(input: &[u8], n: usize, file: &[u8], k: usize, out: &mut [u8]) -> usize
+    requires { ⌜ Counts n (now input) × Counts k (now file) × (4096 < length (now input)) × (4096 < length (now file)) × (length (now out) ≡ outputRoom) ⌝ }
+    ensures { λ r. ⌜ AnswersInput (now (input .entry)) n (now (file .entry)) k (now (out .entry)) (now (out .exit)) r ⌝ }
 {
-    answer(&input[..n], out)
+    answer(&input[..n], &file[..k], out)
 }
 
-// The answer to standard input on standard output. What cannot be read or written is told on standard error, and a sheet that was not read whole gets no
-// answer.
+// The ban list of a program with so many arguments, its own name among them. Without a name of a list it has 0 bytes.
+fn read_list(arguments: usize, bytes: &mut [u8]) -> Input
+    ensures { λ r. ⌜ Listed arguments (now (bytes .exit)) r ⌝ }
+{
+    if arguments < 2 {
+        return Input::Bytes(0);
+    }
+    streams::read_argument(1, bytes)
+}
+
+// The answer to standard input, and to the file that the argument names, on standard output. What cannot be read or written is told on standard error, and a
+// sheet or a list that was not read whole gets no answer.
 fn main() {
-    if 1 < os::arg_count() {
+    let arguments = os::arg_count();
+    if 2 < arguments {
         io::write_all(
             STDERR_FILENO,
-            b"verdict takes no argument; usage: verdict < SHEET.csv\n",
+            b"verdict takes at most one argument; usage: verdict [BANS.csv] < SHEET.csv\n",
         );
         return;
     }
+    let mut file = [0u8; Sheet::BYTES + 1];
+    let listed = read_list(arguments, &mut file);
+    let Input::Bytes(k) = listed else {
+        os::fail(b"verdict: cannot read the ban list");
+        return;
+    };
     let mut input = [0u8; Sheet::BYTES + 1];
     let read = streams::read_input(STDIN_FILENO, &mut input);
     let Input::Bytes(n) = read else {
@@ -79,8 +121,8 @@ fn main() {
         return;
     };
     let mut out = [0u8; Output::BYTES];
-    let k = answer_input(&input, n, &mut out);
-    if !io::write_all(STDOUT_FILENO, &out[..k]) {
+    let length = answer_input(&input, n, &file, k, &mut out);
+    if !io::write_all(STDOUT_FILENO, &out[..length]) {
         os::fail(b"verdict: cannot write standard output");
     }
 }

@@ -1,4 +1,4 @@
--- A part of the input is answered, and a full buffer is refused.
+-- Parts of the input and of the file are answered, and a full buffer is refused.
 use Rattle.verdict.specs.Inputs.{input-answered}
 use borrow.Author.Needs.{needs}
 use Rattle.verdict.proofs.answer_input.Statement.{statement}
@@ -8,4 +8,4 @@ returns : tie.Need-returns
 returns c = search input-answered
 
 pub answer-input-spec : {M : Type 1} → statement M
-answer-input-spec = tie.close (tie.spec (λ c. search needs) (λ c κs. search needs) (λ c. search needs) returns)
+answer-input-spec = tie.close (tie.spec (λ c. search needs) (λ c. search needs) (λ c κs. search needs) (λ c. search needs) returns)

@@ -1,4 +1,4 @@
--- The sheet is refused, or the verdict on its table is shown.
+-- The sheet or the list is refused, or the verdict on what they give is shown.
 use mathlib.Core.Path.{refl}
 use native.Mathlib.Omega.{arith}
 use Rattle.verdict.specs.Showing.{shows-refused, shows-judged}
@@ -13,9 +13,9 @@ returns-2 : tie.Need-returns-2
 returns-2 c =
     let after-verdict = c .before .before .before .before .before .before .before in
     let accepted = after-verdict .before .before .before .before .before in
-    let after-take-in = accepted .before .before in
-    let start = after-take-in .before .before .before .before .before in
-    shows-judged (after-take-in .take-in .ensures) (accepted .enum-told .given .1) (start .pre .0) (start .pre .1) (start .pre .2)
+    let after-give = accepted .before .before in
+    let start = after-give .before .before .before .before .before .before in
+    shows-judged (after-give .give .ensures) (accepted .enum-told .given .1) (start .pre .0) (start .pre .1) (start .pre .2)
     refl (omega arith) (omega arith) (omega arith) (after-verdict .verdict .ensures)
 
 pub judge-spec : {M : Type 1} → statement M

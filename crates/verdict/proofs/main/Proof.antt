@@ -1,4 +1,4 @@
--- What was read lies within the input buffer, and the bytes answered within the output buffer.
+-- What was read lies within its buffer, and the bytes answered within the output buffer.
 use Rattle.streams.specs.Inputs.{holds-bytes}
 use Rattle.verdict.specs.Showing.{answer-counts}
 use borrow.Author.Needs.{needs}
@@ -7,9 +7,11 @@ use Rattle.verdict.proofs.main.Tie as tie
 
 answer-input-requires : tie.Need-answer-input-requires
 answer-input-requires c κs =
-    let told = c .before .before .before in
+    let told = c .before .before .before .before in
     let counts = holds-bytes _ (told .read .given .1) (told .before .before .before .read-input .ensures) in
-    search (needs, counts)
+    let list-told = told .before .before .before .before .before .before in
+    let list-counts = holds-bytes _ (list-told .listed .given .1) (list-told .before .before .before .read-list .ensures .holds) in
+    search (needs, counts, list-counts)
 
 array-share-prefix-out : tie.Need-array-share-prefix-out
 array-share-prefix-out c = answer-counts (c .before .answer-input .ensures .answers) .0
@@ -31,6 +33,14 @@ main-spec =
     (λ c. search needs)
     (λ c. search needs)
     (λ c κs. search needs)
+    (λ c. search needs)
+    (λ c. search needs)
+    (λ c κs. search needs)
+    (λ c. search needs)
+    (λ c. search needs)
+    (λ c. search needs)
+    (λ c κs. search needs)
+    (λ c. search needs)
     (λ c. search needs)
     (λ c. search needs)
     (λ c. search needs)
