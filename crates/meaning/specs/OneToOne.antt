@@ -1,8 +1,9 @@
 -- The sequences of an enlarged code match one to one those that obey all bans, by the origins of their words, and behind any of them at most one of a word and
 -- its copies may come.
 use mathlib.Core.Path.{_≡_, sym, ap, _∙_}
-use mathlib.Core.List.{List, map}
+use mathlib.Core.List.{List, [], _∷_, _++_, map}
 use Prim.Native.Nat.{ℕ, _<_}
+use native.Mathlib.Decide.{ℕ-discrete}
 use lib.ListN.{getD}
 use borrow.Author.Tests.{eq-eqb}
 use Rattle.code.specs.declared.Enlarged.{Enlarged}
@@ -11,6 +12,7 @@ use Rattle.code.specs.Definitions.Tables.{Table, size, Permitted, message, entr
 use Rattle.code.specs.Definitions.Bans.{nextWord}
 use Rattle.code.specs.Definitions.Enlarged.{copiesIn, originalTable}
 use Rattle.copies.specs.Covers.{lift, named-permitted, named-lift, named-message, lifted-permitted, lifted-named}
+use Rattle.copies.specs.Matches.{names-apart}
 use Rattle.enlargements.specs.WellEnlarged.{WellEnlarged}
 use Rattle.enlargements.specs.Meaning.{Covers, value-covers}
 use Rattle.table.specs.Words.{size-count}
@@ -65,3 +67,13 @@ module _ {l : Limits} {e : Enlarged} (w : WellEnlarged l e) where
       c .begin-start x (within x x<) (eq-eqb (getD (e .code .begins) x 0) 1 f)
       ∙ same
       ∙ sym (c .begin-start z (within z z<) (eq-eqb (getD (e .code .begins) z 0) 1 g))
+
+  next-case : (o : List ℕ) (x z : ℕ) → Permitted (tableOf (e .code)) (o ++ (x ∷ [])) → Permitted (tableOf (e .code)) (o ++ (z ∷ [])) → getD (e .origins) x 0 ≡ getD (e .origins) z 0
+      → Dec (x ≡ z) → x ≡ z
+  next-case o x z p q same (yes h) = h
+  next-case o x z p q same (no h) = absurd (names-apart (value-covers w) o x z [] [] p q h same)
+
+  -- So after any sequence at most one of a word and its copies may come.
+  pub one-next : (o : List ℕ) (x z : ℕ) → Permitted (tableOf (e .code)) (o ++ (x ∷ [])) → Permitted (tableOf (e .code)) (o ++ (z ∷ []))
+      → getD (e .origins) x 0 ≡ getD (e .origins) z 0 → x ≡ z
+  one-next o x z p q same = next-case o x z p q same (ℕ-discrete x z)
