@@ -31,9 +31,11 @@ fn with_bans(value: Enlarged, path: &[u8]) -> Enlarged {
 // The code of a sheet and, behind a plus sign, of a ban list.
 fn from_files(names: &[u8]) -> Enlarged {
     let plus = fields::find(names, 0, b'+');
-    let value = enlargements::plain(from_file(&names[..plus]));
-    if plus < names.len() {
-        return with_bans(value, &names[plus + 1..]);
+    let value = enlargements::plain(from_file(&names[0..plus]));
+    let end = names.len();
+    if plus < end {
+        let from = plus + 1;
+        return with_bans(value, &names[from..end]);
     }
     value
 }
