@@ -1,0 +1,3 @@
+pub mod Contracts
+pub mod Leaves
+pub mod Widths
