@@ -1,31 +1,17 @@
 -- What the functions on one group promise: how a search stands after a part of it.
 use mathlib.Core.Path.{_≡_}
 use mathlib.Core.List.{List, _∷_, reverse}
-use Prim.Native.Nat.{ℕ, _+_, _≤_, _<_}
-use lib.ListN.{length, getD, set}
+use Prim.Native.Nat.{ℕ, _≤_, _<_}
+use lib.ListN.{length}
 use Rattle.graph.specs.Goals.{LeastGoal}
-use Rattle.places.specs.Entries.{entryOf, nodeAt}
+use Rattle.places.specs.Entries.{nodeAt}
 use Rattle.places.specs.Flat.{Laid}
 use Rattle.places.specs.Opens.{toward, openGraph}
 use Rattle.places.specs.Roots.{Numbered}
-use Rattle.slots.specs.Contracts.{IsFresh, IsGoal}
-use Rattle.groups.specs.declared.Progress.{Progress}
-use Rattle.groups.specs.declared.Progress.the-variants.{Goal, Tail}
+use Rattle.slots.specs.declared.Progress.{Progress}
+use Rattle.slots.specs.declared.Progress.the-variants.{Goal, Tail}
 use Rattle.groups.specs.Labels.{Label, Labelled}
 use Rattle.groups.specs.Slots.{SlotStage}
-
--- The lengths and numbers with which a pair is queued behind the group that begins at a.
-pub record Space (ms q : List ℕ) (tail a : ℕ) : Type 0 where
-  pub marks : length ms ≡ 16384
-  pub wide : 16384 ≤ length q
-  pub few : tail ≤ 8257
-  pub start : a < tail
-
--- After number v was met by symbol t, from the group that begins at a: nothing is new, it is a goal, or it is marked and queued.
-pub data Arrived (f ms q ms′ q′ : List ℕ) (a t tail v : ℕ) : Progress → Type 0 where
-  known : (v < 16384 → openGraph f .symbol v ≡ t → 1 ≤ getD ms v 0) → ms′ ≡ ms → q′ ≡ q → Arrived f ms q ms′ q′ a t tail v (Tail tail)
-  final : IsGoal f v t → ms′ ≡ ms → q′ ≡ q → Arrived f ms q ms′ q′ a t tail v (Goal t)
-  queued : IsFresh f ms v t → ms′ ≡ set ms v 1 → q′ ≡ set q tail (entryOf (a + 1) v) → Arrived f ms q ms′ q′ a t tail v (Tail (tail + 1))
 
 -- The search over the pairs of f stands at the slot c of member k, by symbol t, in the group a to b - 1.
 abbrev pub Stands : (f ms q : List ℕ) (tail a b t k c : ℕ) → Type 0

@@ -11,9 +11,9 @@ use native.Mathlib.Omega.{arith}
 use Rattle.code.specs.Definitions.Orders.{Shortlex}
 use Rattle.graph.specs.Goals.{NoGoal, LeastGoal}
 use Rattle.graph.specs.Graph.{Graph}
+use Rattle.places.specs.Entries.{nodeAt}
 use Rattle.groups.specs.Backward.{NoLater, ahead, no-later-trans, sooner-no-later, sooner-longer, more-no-later, sooner-shortlex}
 use Rattle.groups.specs.Links.{Link, Walk, none, more, link-node, reach-node, reach-walk, walk-reach}
-use Rattle.places.specs.Entries.{nodeAt}
 use Rattle.groups.specs.Queue.{Met, Queue, Stage, Between, after-source}
 use Rattle.groups.specs.Labels.{Label, source, grown, label-of, same-label, sooner-label, no-later-label, label-walk}
 

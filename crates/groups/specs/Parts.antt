@@ -6,9 +6,10 @@ use native.Mathlib.Omega.{arith}
 use lib.ListN.{length}
 use Rattle.places.specs.Flat.{Laid}
 use Rattle.places.specs.Roots.{Numbered}
-use Rattle.groups.specs.declared.Progress.{Progress}
-use Rattle.groups.specs.declared.Progress.the-variants.{Goal, Tail}
-use Rattle.groups.specs.Contracts.{Stands, Ready, Space, Expanding, GoalNext, Progressed, met, went}
+use Rattle.slots.specs.declared.Progress.{Progress}
+use Rattle.slots.specs.declared.Progress.the-variants.{Goal, Tail}
+use Rattle.slots.specs.Contracts.{Space}
+use Rattle.groups.specs.Contracts.{Stands, Ready, Expanding, GoalNext, Progressed, met, went}
 use Rattle.groups.specs.Queue.{entry-most}
 use Rattle.groups.specs.Room.{tail-most}
 use Rattle.groups.specs.Slots.{slots-begin}

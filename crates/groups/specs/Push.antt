@@ -9,8 +9,8 @@ use lib.ListN.{length, getD, set, length-set}
 use lib.Seq.{getD-set-same, getD-set-other}
 use Rattle.graph.specs.Graph.{Graph}
 use Rattle.graph.specs.Cells.{on-set, on-push, total, total-set}
-use Rattle.groups.specs.Links.{Link, link-node}
 use Rattle.places.specs.Entries.{nodeIn, aboveIn, nodeAt, aboveAt}
+use Rattle.groups.specs.Links.{Link, link-node}
 use Rattle.groups.specs.Queue.{mark, key, Queued, Met, Origin, Queue, IsGroup, Stage, from-early}
 
 -- A store at the queue's tail leaves the entries before it.

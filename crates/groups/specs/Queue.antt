@@ -9,8 +9,8 @@ use native.Mathlib.Omega.{arith}
 use lib.ListN.{length, getD}
 use Rattle.graph.specs.Graph.{Graph}
 use Rattle.graph.specs.Cells.{total}
-use Rattle.groups.specs.Links.{Link, link-node}
 use Rattle.places.specs.Entries.{nodeAt, aboveAt}
+use Rattle.groups.specs.Links.{Link, link-node}
 
 -- 1 for a mark, 0 for a clear cell
 unfoldable pub mark : ℕ → ℕ

@@ -9,12 +9,12 @@ use Rattle.places.specs.Entries.{nodeAt}
 use Rattle.places.specs.Flat.{arcFrom}
 use Rattle.places.specs.Opens.{toward, toward-other}
 use Rattle.places.specs.Steps.{Arrives}
-use Rattle.groups.specs.declared.Progress.{Progress}
-use Rattle.groups.specs.declared.Progress.the-variants.{Goal, Tail}
-use Rattle.slots.specs.Contracts.{Straight}
-use Rattle.groups.specs.Contracts.{Expanding, Arrived, Progressed, went}
+use Rattle.slots.specs.declared.Progress.{Progress}
+use Rattle.slots.specs.declared.Progress.the-variants.{Goal, Tail}
+use Rattle.slots.specs.Contracts.{Straight, Arrived}
 use Rattle.slots.specs.Leaves.{low-of, high-of}
 use Rattle.slots.specs.Widths.{width}
+use Rattle.groups.specs.Contracts.{Expanding, Progressed, went}
 use Rattle.groups.specs.Pairs.{pair-slots}
 use Rattle.groups.specs.Parts.{goal-again, expanding-next}
 use Rattle.groups.specs.Slots.{slots-begin, next-member}

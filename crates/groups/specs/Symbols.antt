@@ -11,13 +11,13 @@ use Rattle.places.specs.declared.Pair.{Pair}
 use Rattle.places.specs.Flat.{Laid}
 use Rattle.places.specs.Opens.{turning}
 use Rattle.places.specs.Roots.{Numbered}
-use Rattle.groups.specs.declared.Progress.{Progress}
-use Rattle.groups.specs.declared.Progress.the-variants.{Tail}
-use Rattle.groups.specs.Contracts.{Stands, Progressed}
 use Rattle.places.specs.Entries.{PlacesOf, nodeIn, nodeAt}
+use Rattle.slots.specs.declared.Progress.{Progress}
+use Rattle.slots.specs.declared.Progress.the-variants.{Tail}
 use Rattle.slots.specs.Leaves.{goes-straight, width-none}
-use Rattle.groups.specs.Links.{Link}
 use Rattle.slots.specs.Widths.{innerOf, width}
+use Rattle.groups.specs.Contracts.{Stands, Progressed}
+use Rattle.groups.specs.Links.{Link}
 use Rattle.groups.specs.Pairs.{pair-slots}
 use Rattle.groups.specs.Parts.{was-tail}
 use Rattle.groups.specs.Queue.{Met, Stage}

@@ -1,64 +1,35 @@
 -- The slots of a member that turns, word by word: those of a word that cannot come by the symbol are passed over, the others lead to the pairs of that word
 -- and each word in order behind it.
 use mathlib.Core.Path.{_≡_, refl, sym, ap, _∙_}
-use mathlib.Core.Bool.{Bool, true, false, not, _&&_, true≢false, and-eq-true-iff}
+use mathlib.Core.Bool.{Bool, true, false, not, true≢false, and-eq-true-iff}
 use mathlib.Core.List.{List}
 use Prim.Native.Nat.{ℕ, _+_, _*_, _/_, _%_, _≤_, _<_}
 use native.Mathlib.Decide.{decLt, decLe}
 use native.Mathlib.Omega.{arith}
 use lib.Dec.{eqb}
 use lib.ListN.{length}
-use borrow.Author.Tests.{eq-eqb, ne-eqb, not-true, not-false}
+use borrow.Author.Tests.{eq-eqb, not-true, not-false}
 use Rattle.code.specs.Definitions.Lists.{if_then_else_}
-use Rattle.places.specs.declared.Pair.{Pair}
 use Rattle.places.specs.Entries.{nodeAt}
-use Rattle.places.specs.Flat.{Laid, symbolAt, firstAt, mayCome, opensAt, wordCount}
+use Rattle.places.specs.Flat.{symbolAt, firstAt, mayCome, opensAt, wordCount}
 use Rattle.places.specs.Nodes.{node-of}
-use Rattle.places.specs.Opens.{inOrder, pairBehind, toward, openGraph, Behind, behind-tests, behind-both, behind-words, in-order, in-order-le, in-order-least, toward-turning}
-use Rattle.places.specs.Steps.{Arrives, startNode}
-use Rattle.groups.specs.declared.Progress.{Progress}
-use Rattle.groups.specs.declared.Progress.the-variants.{Goal, Tail}
-use Rattle.slots.specs.Contracts.{Turned}
-use Rattle.groups.specs.Contracts.{Stands, Expanding, Arrived, known as old, Progressed, went}
-use Rattle.groups.specs.Pairs.{arrival-symbol, pair-slots}
+use Rattle.places.specs.Opens.{inOrder, pairBehind, toward, openGraph, behind-tests, behind-words, in-order, in-order-least, toward-turning}
+use Rattle.slots.specs.declared.Progress.{Progress}
+use Rattle.slots.specs.declared.Progress.the-variants.{Goal, Tail}
+use Rattle.slots.specs.Contracts.{Turned, Arrived}
 use Rattle.slots.specs.Widths.{width-turning}
+use Rattle.slots.specs.Words.{leadsBehind, leastBehind}
+use Rattle.groups.specs.Contracts.{Stands, Expanding, Progressed, went}
+use Rattle.groups.specs.Pairs.{arrival-symbol, pair-slots}
 use Rattle.groups.specs.Parts.{goal-again, expanding-next}
 use Rattle.groups.specs.Queue.{Met}
 use Rattle.groups.specs.Slots.{slots-begin, next-member}
 use Rattle.groups.specs.Steps.{slot-done}
 
 module _ (f : List ℕ) where
-  -- Word x begins with the symbol t and may come behind y.
-  abbrev pub leadsBehind : ℕ → ℕ → ℕ → Bool
-  leadsBehind t y x = eqb (symbolAt f (firstAt f x)) t && mayCome f x y
-
-  -- The least word in order behind x: x itself where openings matter, else the next one.
-  abbrev pub leastBehind : ℕ → ℕ
-  leastBehind x = if opensAt f then x else x + 1
-
-  -- What `leads` returns.
-  pub leads-by : (t y x : ℕ) {s : ℕ} {b : Bool} → s ≡ symbolAt f (firstAt f x) → s ≡ t → b ≡ mayCome f x y → b ≡ leadsBehind t y x
-  leads-by t y x d e h = rw (eq-eqb _ _ (sym d ∙ e)) h
-
-  pub leads-other : (t y x : ℕ) {s : ℕ} → s ≡ symbolAt f (firstAt f x) → (s ≡ t → ⊥) → false ≡ leadsBehind t y x
-  leads-other t y x d e = rw (ne-eqb _ _ (λ z. e (d ∙ z)))
-
-  -- What `least_in_order` returns.
-  pub least-same : (x : ℕ) {b : Bool} → b ≡ opensAt f → b ≡ true → x ≡ leastBehind x
-  least-same x d e = rw (sym d ∙ e)
-
-  pub least-next : (x : ℕ) {b : Bool} → b ≡ opensAt f → b ≡ false → x + 1 ≡ leastBehind x
-  least-next x d e = rw (sym d ∙ e)
-
-  -- What is known of a word that leads, and of a word in order behind it.
-  pub leads-comes : (t y x : ℕ) {r : Bool} → r ≡ leadsBehind t y x → not r ≡ false → mayCome f x y ≡ true
+  -- What is known of a word that leads.
+  pub leads-comes : (t y x : ℕ) {r : Bool} → r ≡ leadsBehind f t y x → not r ≡ false → mayCome f x y ≡ true
   leads-comes t y x {r} d e = and-eq-true-iff (eqb (symbolAt f (firstAt f x)) t) (mayCome f x y) .0 (sym d ∙ not-false r e) .1
-
-  pub left-known : Laid f → (x : ℕ) {z : ℕ} → inOrder f x z ≡ true → z < wordCount f → x < 32
-  left-known laid x {z} o l = let n = laid .words in let h = in-order-le f x z o in omega arith
-
-  pub right-known : Laid f → {z : ℕ} → z < wordCount f → z < 32
-  right-known laid l = let n = laid .words in omega arith
 
   -- A slot of a word leads to pairs of its first symbol.
   word-symbol : (y j : ℕ) → pairBehind f y j < 16384 → symbolAt f (firstAt f (j / 32)) ≡ symbolAt f (pairBehind f y j % 128)
@@ -66,11 +37,11 @@ module _ (f : List ℕ) where
       let c = behind-words f y j h in
       arrival-symbol (node-of {f = f} (firstAt f (j / 32)) (firstAt f (j % 32)) c h) (decLe (firstAt f (j / 32)) (firstAt f (j % 32))) .0
 
-  word-leads : (t y j : ℕ) → pairBehind f y j < 16384 → symbolAt f (pairBehind f y j % 128) ≡ t → leadsBehind t y (j / 32) ≡ true
+  word-leads : (t y j : ℕ) → pairBehind f y j < 16384 → symbolAt f (pairBehind f y j % 128) ≡ t → leadsBehind f t y (j / 32) ≡ true
   word-leads t y j h e = rw (eq-eqb _ _ (word-symbol y j h ∙ e)) (behind-tests f y j h .left)
 
   -- Words in order from the least one on.
-  pub words-ordered : (x : ℕ) {z : ℕ} → leastBehind x ≤ z → inOrder f x z ≡ true
+  pub words-ordered : (x : ℕ) {z : ℕ} → leastBehind f x ≤ z → inOrder f x z ≡ true
   words-ordered x {z} l = by (opensAt f) refl l
     where
       by : (o : Bool) → opensAt f ≡ o → (if o then x else x + 1) ≤ z → inOrder f x z ≡ true
@@ -133,18 +104,3 @@ module _ {f ms q : List ℕ} {tail a b t k : ℕ} (y : ℕ) (u : Turned f (nodeA
   words-ended x s e l =
       let w = width-turning f (nodeAt q k) t (let g = u .turns in let h = u .behind in omega arith) in
       went (slots-begin (next-member (s .stands) (pair-slots (s .laid) (s .numbered)) (omega arith) (s .ready .member)))
-
--- What `meet_words` returns.
-at-words : {f : List ℕ} → Laid f → (x z : ℕ) → z < wordCount f → ((x * 32 + z) / 32 ≡ x) × ((x * 32 + z) % 32 ≡ z)
-at-words laid x z k = let n = laid .words in (omega arith, omega arith)
-
-module _ {f ms q : List ℕ} {a t tail : ℕ} (laid : Laid f) (y x z : ℕ) (known : z < wordCount f) where
-  pub meets-pair : {b : Bool} {r : Pair} {ms′ q′ : List ℕ} {p : Progress} → mayCome f x y ≡ true → inOrder f x z ≡ true → b ≡ mayCome f z y → b ≡ true
-      → Arrives (startNode f x z) r → Arrived f ms q ms′ q′ a t tail (r .low * 128 + r .high) p → Arrived f ms q ms′ q′ a t tail (pairBehind f y (x * 32 + z)) p
-  meets-pair left order d e arrives h =
-      let w = at-words laid x z known in
-      let both : Behind f y (x * 32 + z) = record { order = rw (w .0, w .1) order; known = rw (w .1) known; left = rw (w .0) left; right = rw (w .1) (sym d ∙ e) } in
-      rw (behind-both f y (x * 32 + z) both, w .0, w .1, ← arrives .node) h
-
-  pub meets-none : {b : Bool} → b ≡ mayCome f z y → b ≡ false → Arrived f ms q ms q a t tail (pairBehind f y (x * 32 + z)) (Tail tail)
-  meets-none d e = old (λ l i. absurd (true≢false (sym (behind-tests f y (x * 32 + z) l .right) ∙ rw (at-words laid x z known .1) (sym d ∙ e)))) refl refl

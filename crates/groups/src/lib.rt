@@ -5,6 +5,7 @@ mod members;
 use code::Word;
 use members::expand_member;
 use places::Pair;
+use slots::Progress;
 use slots::Turns;
 use slots::entries::key;
 use slots::entries::pair_of;
@@ -23,12 +24,6 @@ ghost use Rattle.groups.specs.Symbols.{NotLed, NoneLed};
 pub struct Group {
     pub start: usize,
     pub end: usize,
-}
-
-// After a part of a group: a goal comes next by a symbol; or how many entries the queue has.
-pub enum Progress {
-    Goal(usize),
-    Tail(usize),
 }
 
 // Deals with all members of a group for one symbol.

@@ -3,13 +3,15 @@ use mathlib.Core.Path.{_≡_}
 use mathlib.Core.Bool.{true, false}
 use mathlib.Core.List.{List}
 use Prim.Native.Nat.{ℕ, _+_, _*_, _%_, _≤_, _<_}
-use lib.ListN.{getD}
+use lib.ListN.{length, getD, set}
 use Rattle.places.specs.declared.Pair.{Pair}
-use Rattle.places.specs.Entries.{nodeIn, aboveIn}
+use Rattle.places.specs.Entries.{entryOf, nodeIn, aboveIn}
 use Rattle.places.specs.Flat.{symbolAt}
 use Rattle.places.specs.Opens.{turning, openGraph}
 use Rattle.slots.specs.declared.Arrival.{Arrival}
 use Rattle.slots.specs.declared.Arrival.the-variants.{Passed, Fresh, Goal as Final}
+use Rattle.slots.specs.declared.Progress.{Progress}
+use Rattle.slots.specs.declared.Progress.the-variants.{Goal, Tail}
 
 -- The key of an entry.
 abbrev pub keyOf : List ℕ → ℕ → ℕ
@@ -44,3 +46,16 @@ pub data Seen (f ms : List ℕ) (v t : ℕ) : Arrival → Type 0 where
   passed : (v < 16384 → openGraph f .symbol v ≡ t → 1 ≤ getD ms v 0) → Seen f ms v t Passed
   fresh : IsFresh f ms v t → Seen f ms v t Fresh
   goal : IsGoal f v t → Seen f ms v t Final
+
+-- The lengths and numbers with which a pair is queued behind the group that begins at a.
+pub record Space (ms q : List ℕ) (tail a : ℕ) : Type 0 where
+  pub marks : length ms ≡ 16384
+  pub wide : 16384 ≤ length q
+  pub few : tail ≤ 8257
+  pub start : a < tail
+
+-- After number v was met by symbol t, from the group that begins at a: nothing is new, it is a goal, or it is marked and queued.
+pub data Arrived (f ms q ms′ q′ : List ℕ) (a t tail v : ℕ) : Progress → Type 0 where
+  known : (v < 16384 → openGraph f .symbol v ≡ t → 1 ≤ getD ms v 0) → ms′ ≡ ms → q′ ≡ q → Arrived f ms q ms′ q′ a t tail v (Tail tail)
+  final : IsGoal f v t → ms′ ≡ ms → q′ ≡ q → Arrived f ms q ms′ q′ a t tail v (Goal t)
+  queued : IsFresh f ms v t → ms′ ≡ set ms v 1 → q′ ≡ set q tail (entryOf (a + 1) v) → Arrived f ms q ms′ q′ a t tail v (Tail (tail + 1))

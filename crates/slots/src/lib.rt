@@ -1,7 +1,8 @@
 // One pair of the search for the shortest message, or the source of all walks: whether it turns, how many of its slots may lead on by a symbol, what stands
-// where one leads, and its entry of the queue.
+// where one leads, its entry of the queue, and how a pair is met.
 
 pub mod entries;
+pub mod meeting;
 
 use code::Code;
 use places::Layout;
@@ -27,6 +28,12 @@ pub enum Arrival {
     Passed,
     Fresh,
     Goal,
+}
+
+// After a part of a group: a goal comes next by a symbol; or how many entries the queue has.
+pub enum Progress {
+    Goal(usize),
+    Tail(usize),
 }
 
 // Behind what a pair goes on with any two words: the start, `Code::WORDS`, for the source, a word for its end with itself, if openings matter. `Turns::NOT` for

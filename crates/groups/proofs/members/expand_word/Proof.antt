@@ -6,10 +6,11 @@ use Prim.Native.Nat.{_+_, _*_, _-_, _≤_}
 use lib.ListN.{length}
 use Rattle.places.specs.Entries.{nodeAt}
 use Rattle.slots.specs.Contracts.{Turned}
+use Rattle.slots.specs.Words.{leastBehind}
 use Rattle.groups.specs.Contracts.{Expanding}
 use Rattle.groups.specs.Parts.{space}
 use Rattle.groups.specs.Steps.{still-turned}
-use Rattle.groups.specs.Words.{leastBehind, leads-comes, word-over, word-begun, words-ordered, word-next, word-goal, word-ended}
+use Rattle.groups.specs.Words.{leads-comes, word-over, word-begun, words-ordered, word-next, word-goal, word-ended}
 use Rattle.groups.proofs.members.expand_word.Statement.{statement}
 use Rattle.groups.proofs.members.expand_word.Tie as tie
 

@@ -1,8 +1,8 @@
 -- `least_in_order` is `leastBehind`, by whether openings matter.
 use borrow.Author.Needs.{needs}
-use Rattle.groups.specs.Words.{least-same, least-next}
-use Rattle.groups.proofs.members.least_in_order.Statement.{statement}
-use Rattle.groups.proofs.members.least_in_order.Tie as tie
+use Rattle.slots.specs.Words.{least-same, least-next}
+use Rattle.slots.proofs.meeting.least_in_order.Statement.{statement}
+use Rattle.slots.proofs.meeting.least_in_order.Tie as tie
 
 returns : tie.Need-returns
 returns c = (search least-same, search needs)

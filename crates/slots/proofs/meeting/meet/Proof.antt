@@ -1,8 +1,8 @@
 -- `meet` by what stands at the pair: nothing new, a goal, or a pair that is marked and queued.
 use borrow.Author.Needs.{needs}
-use Rattle.groups.specs.Steps.{fresh-within, meets-known, meets-goal, meets-fresh}
-use Rattle.groups.proofs.members.meet.Statement.{statement}
-use Rattle.groups.proofs.members.meet.Tie as tie
+use Rattle.slots.specs.Arrivals.{fresh-within, meets-known, meets-goal, meets-fresh}
+use Rattle.slots.proofs.meeting.meet.Statement.{statement}
+use Rattle.slots.proofs.meeting.meet.Tie as tie
 
 slice-write-marks : tie.Need-slice-write-marks
 slice-write-marks c = search fresh-within

@@ -1,8 +1,8 @@
 -- `leads` is `leadsBehind`, by whether the word begins with the symbol.
 use borrow.Author.Needs.{needs}
-use Rattle.groups.specs.Words.{leads-by, leads-other}
-use Rattle.groups.proofs.members.leads.Statement.{statement}
-use Rattle.groups.proofs.members.leads.Tie as tie
+use Rattle.slots.specs.Words.{leads-by, leads-other}
+use Rattle.slots.proofs.meeting.leads.Statement.{statement}
+use Rattle.slots.proofs.meeting.leads.Tie as tie
 
 returns : tie.Need-returns
 returns c = search leads-by

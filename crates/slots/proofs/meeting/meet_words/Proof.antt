@@ -1,8 +1,8 @@
 -- `meet_words` meets the first pair of the two words where both may come, which is where their slot leads; else the slot leads nowhere.
 use borrow.Author.Needs.{needs}
-use Rattle.groups.specs.Words.{left-known, right-known, meets-pair, meets-none}
-use Rattle.groups.proofs.members.meet_words.Statement.{statement}
-use Rattle.groups.proofs.members.meet_words.Tie as tie
+use Rattle.slots.specs.Words.{left-known, right-known, meets-pair, meets-none}
+use Rattle.slots.proofs.meeting.meet_words.Statement.{statement}
+use Rattle.slots.proofs.meeting.meet_words.Tie as tie
 
 first-pair-requires : tie.Need-first-pair-requires
 first-pair-requires c κs = (search needs, search left-known, search right-known)
