@@ -1,0 +1,39 @@
+-- `next_symbol` goes through the members. The invariant: no symbol from `symbol` to `least` - 1 leads on a member before `member`. The measure is what is
+-- left of the group.
+use borrow.Author.Needs.{needs}
+use Prim.Native.Nat.{_≤_, _-_}
+use Rattle.groups.specs.Symbols.{NoneLed, none-led-begin, none-led-more, none-led-end}
+use Rattle.groups.proofs.next_symbol.Statement.{statement}
+use Rattle.groups.proofs.next_symbol.Tie as tie
+
+abbrev Inv-loop : tie.InvT-loop
+Inv-loop places queue group symbol least₀ member₀ least member = NoneLed places queue (group .start) member symbol least × (least ≤ 16)
+
+abbrev μ-loop : tie.MeasureT-loop
+μ-loop places queue group symbol least₀ member₀ least member = group .end - member
+
+loop-holds : tie.Need-loop-holds Inv-loop μ-loop
+loop-holds c = (search none-led-begin, search needs)
+
+loop-again : tie.Need-loop-again Inv-loop μ-loop
+loop-again c = (search none-led-more, search needs)
+
+returns : tie.Need-returns Inv-loop μ-loop
+returns c = (search none-led-end, search needs)
+
+pub next-symbol-spec : {M : Type 1} → statement M
+next-symbol-spec =
+    tie.close
+    (tie.spec
+    Inv-loop
+    μ-loop
+    (λ c. search needs)
+    loop-holds
+    (λ c. search needs)
+    (λ c. search needs)
+    (λ c κs. search needs)
+    (λ c κs. search needs)
+    (λ c. search needs)
+    (λ c. search needs)
+    loop-again
+    returns)

@@ -1,0 +1,131 @@
+// One group of the queue: where it ends, and what comes next from its members, symbol after symbol, member after member.
+
+mod members;
+
+use code::Word;
+use members::expand_member;
+use places::Pair;
+use slots::Progress;
+use slots::Turns;
+use slots::entries::key;
+use slots::entries::pair_of;
+use slots::inner;
+use slots::turning;
+ghost use Prim.Native.Nat.{_+_, _*_, _≤_, _<_};
+ghost use lib.ListN.{length};
+ghost use Rattle.places.specs.Flat.{Laid};
+ghost use Rattle.places.specs.Opens.{openGraph};
+ghost use Rattle.places.specs.Roots.{Numbered};
+ghost use Rattle.groups.specs.Contracts.{Stands, Progressed};
+ghost use Rattle.groups.specs.Queue.{Ascending, IsGroup};
+ghost use Rattle.groups.specs.Symbols.{NotLed, NoneLed};
+
+// A group of the queue: entries `start` to `end` - 1.
+pub struct Group {
+    pub start: usize,
+    pub end: usize,
+}
+
+// Deals with all members of a group for one symbol.
+fn expand_symbol(
+    places: &[u8],
+    marks: &mut [u16],
+    queue: &mut [u64],
+    group: Group,
+    symbol: usize,
+    tail: usize,
+) -> Progress
+    requires { ⌜ Laid (now places)
+        × Numbered (now places)
+        × (16384 ≤ length (now queue))
+        × (symbol < 16)
+        × Stands (now places) (now marks) (now queue) tail (group .start) (group .end) symbol (group .start) 0 ⌝ }
+    ensures { λ r. ⌜ Progressed (now (places .entry)) (now (marks .exit)) (now (queue .exit))
+        (group .start) (group .end) (symbol + 1) (group .start) 0 r ⌝ }
+{
+    let mut member = group.start;
+    let mut tail = tail;
+    while member < group.end {
+        match expand_member(places, marks, queue, group, symbol, member, tail) {
+            Progress::Goal(x) => return Progress::Goal(x),
+            Progress::Tail(e) => tail = e,
+        }
+        member += 1;
+    }
+    Progress::Tail(tail)
+}
+
+// The lesser of `least` and the symbol, not below `symbol`, that leads a pair on. Any symbol may lead the source on.
+fn sooner(places: &[u8], pair: Pair, symbol: usize, least: usize) -> usize
+    requires { ⌜ Laid (now places) × (pair .high < 128) × (symbol ≤ least) ⌝ }
+    ensures { λ r. ⌜ NotLed (now (places .entry)) (pair .low * 128 + pair .high) symbol r × (r ≤ least) ⌝ }
+{
+    if turning(places, pair) < Turns::NOT {
+        return symbol;
+    }
+    let place = inner(places, pair);
+    let next = places[place + 1] as usize;
+    if symbol <= next {
+        if next < least {
+            return next;
+        }
+    }
+    least
+}
+
+// The least symbol, not below `symbol`, that may lead a member of a group on; 16 if there is none.
+fn next_symbol(places: &[u8], queue: &[u64], group: Group, symbol: usize) -> usize
+    requires { ⌜ Laid (now places) × (group .end ≤ length (now queue)) × (symbol ≤ 16) ⌝ }
+    ensures { λ r. ⌜ NoneLed (now (places .entry)) (now (queue .entry)) (group .start) (group .end) symbol r × (r ≤ 16) ⌝ }
+{
+    let mut least = Word::ALPHABET as usize;
+    let mut member = group.start;
+    while member < group.end {
+        least = sooner(places, pair_of(queue[member]), symbol, least);
+        member += 1;
+    }
+    least
+}
+
+// Deals with a group, symbol after symbol.
+pub fn expand_group(
+    places: &[u8],
+    marks: &mut [u16],
+    queue: &mut [u64],
+    group: Group,
+    tail: usize,
+) -> Progress
+    requires { ⌜ Laid (now places)
+        × Numbered (now places)
+        × (16384 ≤ length (now queue))
+        × Stands (now places) (now marks) (now queue) tail (group .start) (group .end) 0 (group .start) 0 ⌝ }
+    ensures { λ r. ⌜ Progressed (now (places .entry)) (now (marks .exit)) (now (queue .exit))
+        (group .start) (group .end) 16 (group .start) 0 r ⌝ }
+{
+    let mut symbol = next_symbol(places, queue, group, 0);
+    let mut tail = tail;
+    while symbol < Word::ALPHABET as usize {
+        match expand_symbol(places, marks, queue, group, symbol, tail) {
+            Progress::Goal(x) => return Progress::Goal(x),
+            Progress::Tail(e) => tail = e,
+        }
+        symbol = next_symbol(places, queue, group, symbol + 1);
+    }
+    Progress::Tail(tail)
+}
+
+// The end of the group that starts at an entry.
+pub fn group_end(places: &[u8], queue: &[u64], start: usize, tail: usize) -> usize
+    requires { ⌜ Laid (now places) × Ascending (openGraph (now places)) (now queue) tail × (start < tail) × (tail ≤ length (now queue)) ⌝ }
+    ensures { λ r. ⌜ IsGroup (openGraph (now (places .entry))) (now (queue .entry)) tail start r ⌝ }
+{
+    let first = key(places, queue[start]);
+    let mut end = start + 1;
+    while end < tail {
+        if key(places, queue[end]) != first {
+            return end;
+        }
+        end += 1;
+    }
+    end
+}

@@ -1,0 +1,137 @@
+// One member of a group, by one symbol: the pairs where its slots lead are met. A pair that turns goes on with two words, any other with a step of both
+// places.
+
+use crate::Group;
+use places::Pair;
+use slots::Progress;
+use slots::Turns;
+use slots::entries::pair_of;
+use slots::meeting::leads;
+use slots::meeting::least_in_order;
+use slots::meeting::meet;
+use slots::meeting::meet_words;
+use slots::turning;
+use slots::width;
+ghost use mathlib.Core.Path.{_≡_};
+ghost use Prim.Native.Nat.{_+_, _*_, _<_};
+ghost use Rattle.places.specs.Entries.{nodeAt};
+ghost use Rattle.places.specs.Flat.{wordCount};
+ghost use Rattle.slots.specs.Contracts.{Straight, Turned};
+ghost use Rattle.groups.specs.Contracts.{Expanding, Progressed};
+
+// Meets the pairs where the slots of a member lead that does not turn.
+fn expand_slots(
+    places: &[u8],
+    marks: &mut [u16],
+    queue: &mut [u64],
+    group: Group,
+    symbol: usize,
+    member: usize,
+    pair: Pair,
+    tail: usize,
+) -> Progress
+    requires { ⌜ Expanding (now places) (now marks) (now queue) tail (group .start) (group .end) symbol member 0
+        × (nodeAt (now queue) member ≡ pair .low * 128 + pair .high)
+        × Straight (now places) pair ⌝ }
+    ensures { λ r. ⌜ Progressed (now (places .entry)) (now (marks .exit)) (now (queue .exit))
+        (group .start) (group .end) symbol (member + 1) 0 r ⌝ }
+{
+    let end = width(places, pair, symbol);
+    let mut slot: usize = 0;
+    let mut tail = tail;
+    while slot < end {
+        let next = places::successor(places, pair.low, pair.high, slot);
+        match meet(places, marks, queue, group.start, symbol, next, tail) {
+            Progress::Goal(x) => return Progress::Goal(x),
+            Progress::Tail(e) => tail = e,
+        }
+        slot += 1;
+    }
+    Progress::Tail(tail)
+}
+
+// Meets the pairs of word `x` and another, from a member that turns behind `y`.
+fn expand_word(
+    places: &[u8],
+    marks: &mut [u16],
+    queue: &mut [u64],
+    group: Group,
+    symbol: usize,
+    member: usize,
+    y: usize,
+    x: usize,
+    tail: usize,
+) -> Progress
+    requires { ⌜ Expanding (now places) (now marks) (now queue) tail (group .start) (group .end) symbol member (x * 32)
+        × Turned (now places) (nodeAt (now queue) member) y
+        × (x < wordCount (now places)) ⌝ }
+    ensures { λ r. ⌜ Progressed (now (places .entry)) (now (marks .exit)) (now (queue .exit))
+        (group .start) (group .end) symbol member ((x + 1) * 32) r
+        × Turned (now (places .entry)) (nodeAt (now (queue .exit)) member) y ⌝ }
+{
+    if !leads(places, symbol, y, x) {
+        return Progress::Tail(tail);
+    }
+    let n = places::word_count(places);
+    let mut z = least_in_order(places, x);
+    let mut tail = tail;
+    while z < n {
+        match meet_words(places, marks, queue, group.start, symbol, y, x, z, tail) {
+            Progress::Goal(g) => return Progress::Goal(g),
+            Progress::Tail(e) => tail = e,
+        }
+        z += 1;
+    }
+    Progress::Tail(tail)
+}
+
+// Meets the pairs of words that come next from a member that turns behind `y`.
+fn expand_words(
+    places: &[u8],
+    marks: &mut [u16],
+    queue: &mut [u64],
+    group: Group,
+    symbol: usize,
+    member: usize,
+    y: usize,
+    tail: usize,
+) -> Progress
+    requires { ⌜ Expanding (now places) (now marks) (now queue) tail (group .start) (group .end) symbol member 0
+        × Turned (now places) (nodeAt (now queue) member) y ⌝ }
+    ensures { λ r. ⌜ Progressed (now (places .entry)) (now (marks .exit)) (now (queue .exit))
+        (group .start) (group .end) symbol (member + 1) 0 r ⌝ }
+{
+    let n = places::word_count(places);
+    let mut x: usize = 0;
+    let mut tail = tail;
+    while x < n {
+        match expand_word(places, marks, queue, group, symbol, member, y, x, tail) {
+            Progress::Goal(g) => return Progress::Goal(g),
+            Progress::Tail(e) => tail = e,
+        }
+        x += 1;
+    }
+    Progress::Tail(tail)
+}
+
+// Meets all pairs that come next from a member by one symbol.
+pub fn expand_member(
+    places: &[u8],
+    marks: &mut [u16],
+    queue: &mut [u64],
+    group: Group,
+    symbol: usize,
+    member: usize,
+    tail: usize,
+) -> Progress
+    requires { ⌜ Expanding (now places) (now marks) (now queue) tail (group .start) (group .end) symbol member 0 ⌝ }
+    ensures { λ r. ⌜ Progressed (now (places .entry)) (now (marks .exit)) (now (queue .exit))
+        (group .start) (group .end) symbol (member + 1) 0 r ⌝ }
+{
+    let pair = pair_of(queue[member]);
+    let y = turning(places, pair);
+    if y < Turns::NOT {
+        return expand_words(places, marks, queue, group, symbol, member, y, tail);
+    }
+    expand_slots(places, marks, queue, group, symbol, member, pair, tail)
+}

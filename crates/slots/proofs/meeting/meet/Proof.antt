@@ -1,0 +1,41 @@
+-- `meet` by what stands at the pair: nothing new, a goal, or a pair that is marked and queued.
+use borrow.Author.Needs.{needs}
+use Rattle.slots.specs.Arrivals.{fresh-within, meets-known, meets-goal, meets-fresh}
+use Rattle.slots.proofs.meeting.meet.Statement.{statement}
+use Rattle.slots.proofs.meeting.meet.Tie as tie
+
+slice-write-marks : tie.Need-slice-write-marks
+slice-write-marks c = search fresh-within
+
+returns : tie.Need-returns
+returns c = search meets-known
+
+returns-2 : tie.Need-returns-2
+returns-2 c = search meets-goal
+
+returns-3 : tie.Need-returns-3
+returns-3 c = search meets-fresh
+
+pub meet-spec : {M : Type 1} → statement M
+meet-spec =
+    tie.close
+    (tie.spec
+    (λ c κs. search needs)
+    (λ c. search needs)
+    (λ c. search needs)
+    (λ c. search needs)
+    (λ c κs. search needs)
+    (λ c. search needs)
+    slice-write-marks
+    (λ c. search needs)
+    (λ c κs. search needs)
+    (λ c. search needs)
+    (λ c. search needs)
+    (λ c. search needs)
+    (λ c. search needs)
+    returns
+    (λ c. search needs)
+    returns-2
+    (λ c. search needs)
+    (λ c. search needs)
+    returns-3)

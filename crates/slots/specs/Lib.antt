@@ -1,0 +1,5 @@
+pub mod Arrivals
+pub mod Contracts
+pub mod Leaves
+pub mod Widths
+pub mod Words

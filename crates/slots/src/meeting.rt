@@ -1,0 +1,94 @@
+// A pair where a slot leads is met: if it was not met before it is marked and queued. A pair that turns goes on with two words, which are met by their first
+// pair.
+
+use crate::Arrival;
+use crate::Progress;
+use crate::entries::entry;
+use crate::look;
+use places::Pair;
+use places::entries::node;
+ghost use mathlib.Core.Path.{_≡_};
+ghost use mathlib.Core.Bool.{true};
+ghost use Prim.Native.Nat.{_+_, _*_, _≤_, _<_};
+ghost use Rattle.places.specs.Flat.{Laid, mayCome, wordCount};
+ghost use Rattle.places.specs.Opens.{inOrder, pairBehind};
+ghost use Rattle.slots.specs.Contracts.{Space, Arrived};
+ghost use Rattle.slots.specs.Words.{leadsBehind, leastBehind};
+
+// Meets a pair, from the group that begins at `start`: if it was not met before it is marked and queued.
+pub fn meet(
+    places: &[u8],
+    marks: &mut [u16],
+    queue: &mut [u64],
+    start: usize,
+    symbol: usize,
+    pair: Pair,
+    tail: usize,
+) -> Progress
+    requires { ⌜ Laid (now places) × Space (now marks) (now queue) tail start × (pair .low ≤ 128) × (pair .high < 128) ⌝ }
+    ensures { λ r. ⌜ Arrived (now (places .entry)) (now (marks .entry)) (now (queue .entry)) (now (marks .exit)) (now (queue .exit))
+        start symbol tail (pair .low * 128 + pair .high) r ⌝ }
+{
+    match look(places, marks, pair, symbol) {
+        Arrival::Passed => Progress::Tail(tail),
+        Arrival::Goal => Progress::Goal(symbol),
+        Arrival::Fresh => {
+            marks[node(pair)] = 1;
+            queue[tail] = entry(start + 1, pair);
+            Progress::Tail(tail + 1)
+        }
+    }
+}
+
+// Meets the first pair of words `x` and `z`, in order, if `z` may come behind `y`, as `x` may.
+pub fn meet_words(
+    places: &[u8],
+    marks: &mut [u16],
+    queue: &mut [u64],
+    start: usize,
+    symbol: usize,
+    y: usize,
+    x: usize,
+    z: usize,
+    tail: usize,
+) -> Progress
+    requires { ⌜ Laid (now places) × Space (now marks) (now queue) tail start × (y ≤ 32) × (mayCome (now places) x y ≡ true)
+        × (inOrder (now places) x z ≡ true) × (z < wordCount (now places)) ⌝ }
+    ensures { λ r. ⌜ Arrived (now (places .entry)) (now (marks .entry)) (now (queue .entry)) (now (marks .exit)) (now (queue .exit))
+        start symbol tail (pairBehind (now (places .entry)) y (x * 32 + z)) r ⌝ }
+{
+    if places::may_come(places, z, y) {
+        return meet(
+            places,
+            marks,
+            queue,
+            start,
+            symbol,
+            places::first_pair(places, x, z),
+            tail,
+        );
+    }
+    Progress::Tail(tail)
+}
+
+// Whether word `x` begins with the symbol and may come behind `y`.
+pub fn leads(places: &[u8], symbol: usize, y: usize, x: usize) -> bool
+    requires { ⌜ Laid (now places) × (x < 32) × (y ≤ 32) ⌝ }
+    ensures { λ r. ⌜ r ≡ leadsBehind (now (places .entry)) symbol y x ⌝ }
+{
+    if places::first_symbol(places, x) == symbol {
+        return places::may_come(places, x, y);
+    }
+    false
+}
+
+// The least word that stands in order behind `x`: the next one, or `x` itself where openings matter.
+pub fn least_in_order(places: &[u8], x: usize) -> usize
+    requires { ⌜ Laid (now places) × (x < 32) ⌝ }
+    ensures { λ r. ⌜ (r ≡ leastBehind (now (places .entry)) x) × (r ≤ 32) ⌝ }
+{
+    if places::opens(places) {
+        return x;
+    }
+    x + 1
+}
