@@ -32,7 +32,8 @@ fn enlarge(value: Enlarged, list: &[u8]) -> Enlarged {
             io::write_all(STDOUT_FILENO, b"refused ");
             io::print_decimal(STDOUT_FILENO, r.number() as u64)
         }
-    };
+    }
+    ;
     write_value(enlargement.enlarged);
     enlargement.enlarged
 }

@@ -1,7 +1,6 @@
 -- A word is its own origin, and past the words the origin is 0.
 use mathlib.Core.Path.{sym}
 use mathlib.Core.List.{[]}
-use native.Mathlib.Omega.{arith}
 use borrow.Author.Needs.{needs}
 use Rattle.copies.specs.CopyLists.{origin-word, origin-copy}
 use Rattle.enlargements.proofs.own.Statement.{statement}

@@ -2,7 +2,6 @@
 -- table of original words has (`renamed-found`).
 use native.Mathlib.Omega.{arith}
 use borrow.Author.Needs.{needs}
-use mathlib.Core.Path.{_∙_}
 use Rattle.code.specs.Definitions.Sheets.{limits}
 use Rattle.reading.specs.Named.{value-origins, first-words, second-words, ordered-well, ordered-few, renamed-found}
 use Rattle.reading.proofs.named.find_by_origin.Statement.{statement}
