@@ -7,6 +7,7 @@ use code::Sheet;
 use code::Word;
 use trying::fields;
 ghost use Prim.Native.Nat.{_<_};
+ghost use Rattle.code.specs.Definitions.Sheets.{limits};
 
 fn from_sheet(sheet: &[u8]) -> Code {
     let taken = sheet::take_in(sheet);
@@ -116,14 +117,14 @@ fn changed(code: Code, line: &[u8], k: usize) -> Code
 }
 
 fn with_origin(mut value: Enlarged, x: usize, of: u8) -> Enlarged
-    requires { ⌜ x < 32 ⌝ }
+    requires { ⌜ x < limits .words ⌝ }
 {
     value.origins[x] = of;
     value
 }
 
 fn with_behind(mut value: Enlarged, x: usize, after: u8) -> Enlarged
-    requires { ⌜ x < 32 ⌝ }
+    requires { ⌜ x < limits .words ⌝ }
 {
     value.behind[x] = after;
     value

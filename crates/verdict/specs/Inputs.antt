@@ -30,13 +30,13 @@ module _ {sheet list : List ℕ} where
   refusal-right gives answer {x} {s} {u} {j} right =
       by-kind (right .given) x s u j (right .right) (ap (λ (e : Enlargement). e .answer) (gives-unique (right .gives) gives) ∙ answer)
 
-  long-sheet : 4096 < length sheet → Gives sheet list (record { answer = Refused SheetLength; enlarged = plainOf limits (taken limits sheet .code) })
+  long-sheet : limits .bytes < length sheet → Gives sheet list (record { answer = Refused SheetLength; enlarged = plainOf limits (taken limits sheet .code) })
   long-sheet long = sheet-refused (sym (ap (λ (t : Taken). t .answer) (way-long sheet long))) refl
 
-  long-list : taken limits sheet .answer ≡ Accepted → 4096 < length list → Gives sheet list (record { answer = Refused SheetLength; enlarged = blankEnlarged limits })
+  long-list : taken limits sheet .answer ≡ Accepted → limits .bytes < length list → Gives sheet list (record { answer = Refused SheetLength; enlarged = blankEnlarged limits })
   long-list accepted long = sheet-accepted accepted (refused (inl (long, refl)) refl)
 
-pub input-answered : (input : List ℕ) (n : ℕ) (file : List ℕ) (k : ℕ) {o o′ : List ℕ} {r : ℕ} → Counts n input → Counts k file → 4096 < length input → 4096 < length file → Answers (take n input) (take k file) o o′ r
+pub input-answered : (input : List ℕ) (n : ℕ) (file : List ℕ) (k : ℕ) {o o′ : List ℕ} {r : ℕ} → Counts n input → Counts k file → limits .bytes < length input → limits .bytes < length file → Answers (take n input) (take k file) o o′ r
     → AnswersInput input n file k o o′ r
 input-answered input n file k n-counts k-counts long file-long a =
     record {

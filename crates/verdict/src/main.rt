@@ -81,7 +81,7 @@ fn answer(sheet: &[u8], list: &[u8], out: &mut [u8]) -> usize
 
 // The answer to the first n bytes of an input and the first k of a file. Each buffer is longer than a sheet or a list may be, so what fills it is refused.
 fn answer_input(input: &[u8], n: usize, file: &[u8], k: usize, out: &mut [u8]) -> usize
-    requires { ⌜ Counts n (now input) × Counts k (now file) × (4096 < length (now input)) × (4096 < length (now file)) × (length (now out) ≡ outputRoom) ⌝ }
+    requires { ⌜ Counts n (now input) × Counts k (now file) × (limits .bytes < length (now input)) × (limits .bytes < length (now file)) × (length (now out) ≡ outputRoom) ⌝ }
     ensures { λ r. ⌜ AnswersInput (now (input .entry)) n (now (file .entry)) k (now (out .entry)) (now (out .exit)) r ⌝ }
 {
     answer(&input[..n], &file[..k], out)
