@@ -1,5 +1,5 @@
-// Codes with copies: a table without copies as one of them, and the test for refusal 8: whether a table and bans give a value. The plain code, the numbers of its words and copies, each copy and each entry
-// of the matrix are tested, each by itself.
+// Codes with copies: a table without copies as one of them, and the test for refusal 8, whether a sheet and a ban list give a value. The plain code, the numbers
+// of its words and copies, each copy and each entry of the matrix are tested, each by itself.
 
 use code::Code;
 use code::Enlarged;

@@ -1,5 +1,5 @@
-// The test for refusal 8: whether an accepted sheet gives a table value. Each part of the table is held to its bounds, and all that stands past a word,
-// past a row or past the count to zero.
+// The part of refusal 8 that is about the table alone: whether an accepted sheet gives it. Each part of the table is held to its bounds, and all that stands
+// past a word, past a row or past the count to zero.
 
 use code::Code;
 use code::Row;
@@ -103,7 +103,7 @@ fn total_fits(code: Code) -> bool
     0 < room
 }
 
-// Whether an accepted sheet gives this table: where not, refusal 8 holds.
+// Whether an accepted sheet gives this table: where not, refusal 8 holds of every value that has it.
 pub fn well_formed(code: Code) -> bool
     ensures { λ r. ⌜ Exactly r (FromSheet limits code) ⌝ }
 {

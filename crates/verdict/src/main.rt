@@ -38,6 +38,7 @@ fn give(sheet: &[u8], list: &[u8]) -> Enlargement
         answer: answer,
         enlarged: value,
     };
+    // The table of a refused sheet is blank, and this answer is then not used.
     let enlarged = banning::enlarge(value, list);
     match answer {
         SheetAnswer::Refused(_) => alone,
