@@ -1,0 +1,4 @@
+pub mod Types
+pub mod Given
+pub mod Padding
+pub mod Making
