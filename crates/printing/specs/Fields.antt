@@ -1,14 +1,15 @@
--- The record of a reading, written number by number: each number but the first follows a comma.
-use mathlib.Core.Path.{_≡_, refl, sym, ap, _∙_}
-use mathlib.Core.List.{List, [], _∷_, _++_, map, map-append, append-assoc, append-nil}
+-- Fields written one by one: each but the first follows what parts them.
+use mathlib.Core.Path.{_≡_, refl, ap, _∙_}
+use mathlib.Core.List.{List, [], _∷_, _++_, map, append-assoc, append-nil}
 use Prim.Native.Nat.{ℕ, suc, _+_, _≤_, _<_}
 use native.Mathlib.Omega.{arith}
 use native.Mathlib.Numerals.{add-one}
 use lib.Dec.{eqb}
-use lib.ListN.{length, take, drop, getD, length-append, length-map, take-append-drop}
+use lib.ListN.{length, take, drop, getD, length-append, length-map, take-append-drop, List·getD-map}
 use lib.Seq.{length-take-le, take-suc, take-all}
 use borrow.Author.Tests.{ne-eqb}
 use Rattle.code.specs.Definitions.Lists.{if_then_else_}
+use Rattle.code.specs.Laws.Lists.{getD-within}
 use Rattle.table.specs.Join.{join}
 use Rattle.printing.specs.Printed.{decimal}
 use Rattle.printing.specs.Puts.{Puts, puts-then, puts-none, puts-length}
@@ -34,34 +35,34 @@ module _ (sep : List ℕ) where
       let rest = rw (append-assoc fs (g ∷ []) gs) at (join-front (fs ++ (g ∷ [])) gs) in
       omega (arith, rest)
 
--- the first i numbers of a reading
-abbrev pub numbers : List ℕ → ℕ → List ℕ
-numbers s i = join (44 ∷ []) (map decimal (take i s))
+  -- the first i fields of a record
+  abbrev pub fieldsTo : List (List ℕ) → ℕ → List ℕ
+  fieldsTo fs i = join sep (take i fs)
 
-pub numbers-next : (s : List ℕ) (i : ℕ) → i < length s → numbers s (i + 1) ≡ numbers s i ++ following (44 ∷ []) i (decimal (getD s i 0))
-numbers-next s i h =
-    let long : length (map decimal (take i s)) ≡ i = length-map (take i s) decimal ∙ length-take-le i s (omega arith) in
-    rw (add-one i, take-suc s i 0 h, map-append decimal (take i s) (getD s i 0 ∷ []))
-    (join-last (44 ∷ []) (map decimal (take i s)) (decimal (getD s i 0)) ∙ rw long)
+  module _ (fs : List (List ℕ)) (i : ℕ) where
+    fields-next : i < length fs → fieldsTo fs (i + 1) ≡ fieldsTo fs i ++ following sep i (getD fs i [])
+    fields-next h = rw (add-one i, take-suc fs i [] h) (join-last (take i fs) (getD fs i []) ∙ rw (length-take-le i fs (omega arith)))
 
-pub numbers-most : (s : List ℕ) (i : ℕ) → length (numbers s i) ≤ length (join (44 ∷ []) (map decimal s))
-numbers-most s i =
-    let parts : map decimal (take i s) ++ map decimal (drop i s) ≡ map decimal s = sym (map-append decimal (take i s) (drop i s)) ∙ rw (take-append-drop i s) in
-    rw parts at (join-front (44 ∷ []) (map decimal (take i s)) (map decimal (drop i s)))
+    fields-most : length (fieldsTo fs i) ≤ length (join sep fs)
+    fields-most = rw (take-append-drop i fs) at (join-front (take i fs) (drop i fs))
 
--- The loop over the numbers: nothing put yet, one number more, all of them.
-pub none-put : (s : List ℕ) (at : ℕ) (o : List ℕ) → Puts at (numbers s 0) o o at
-unfolding join
-none-put s at o = puts-none at o
+  -- A loop over the fields: nothing put yet, one field more, all of them.
+  pub none-put : (fs : List (List ℕ)) (at : ℕ) (o : List ℕ) → Puts at (fieldsTo fs 0) o o at
+  unfolding join
+  none-put fs at o = puts-none at o
 
-module _ (s o p : List ℕ) (at next i : ℕ) (before : Puts at (numbers s i) o p next) where
-  pub number-fits : i < length s → at + length (join (44 ∷ []) (map decimal s)) ≤ length o → next + length (following (44 ∷ []) i (decimal (getD s i 0))) ≤ length p
-  number-fits h room =
-      omega
-      (arith, before .end, puts-length before, numbers-most s (i + 1), ap length (numbers-next s i h), length-append (numbers s i) (following (44 ∷ []) i (decimal (getD s i 0))))
+  module _ (fs : List (List ℕ)) (i : ℕ) {o p : List ℕ} {at next : ℕ} (before : Puts at (fieldsTo fs i) o p next) where
+    pub field-fits : i < length fs → at + length (join sep fs) ≤ length o → next + length (following sep i (getD fs i [])) ≤ length p
+    field-fits h room =
+        omega
+        (arith, before .end, puts-length before, fields-most fs (i + 1), ap length (fields-next fs i h), length-append (fieldsTo fs i) (following sep i (getD fs i [])))
 
-  pub number-put : (q : List ℕ) (r : ℕ) → i < length s → Puts next (following (44 ∷ []) i (decimal (getD s i 0))) p q r → Puts at (numbers s (i + 1)) o q r
-  number-put q r h g = rw (numbers-next s i h) (puts-then before g)
+    pub field-put : {q : List ℕ} {r : ℕ} → i < length fs → Puts next (following sep i (getD fs i [])) p q r → Puts at (fieldsTo fs (i + 1)) o q r
+    field-put h g = rw (fields-next fs i h) (puts-then before g)
 
-  pub all-put : length s ≤ i → Puts at (join (44 ∷ []) (map decimal s)) o p next
-  all-put h = rw (take-all i s h) at before
+    pub all-put : length fs ≤ i → Puts at (join sep fs) o p next
+    all-put h = rw (take-all i fs h) at before
+
+-- number i of some, in decimal
+pub number-at : (s : List ℕ) (i : ℕ) → i < length s → getD (map decimal s) i [] ≡ decimal (getD s i 0)
+number-at s i h = getD-within (map decimal s) i [] (decimal 0) (omega (arith, length-map s decimal)) ∙ List·getD-map decimal s i 0

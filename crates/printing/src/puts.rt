@@ -55,27 +55,27 @@ pub fn put_decimal(out: &mut [u8], at: usize, number: u64) -> usize
     put(out, at, &digits[..n])
 }
 
-// Number i of a record, after a comma if it is not the first.
-fn put_number(out: &mut [u8], at: usize, i: usize, number: u8) -> usize
-    requires { ⌜ at + length (following (44 ∷ []) i (decimal number)) ≤ length (now out) ⌝ }
-    ensures { λ r. ⌜ Puts at (following (44 ∷ []) i (decimal number)) (now (out .entry)) (now (out .exit)) r ⌝ }
+// Number i of some, after `sep` if it is not the first.
+fn put_number(out: &mut [u8], at: usize, sep: &[u8], i: usize, number: u8) -> usize
+    requires { ⌜ at + length (following (now sep) i (decimal number)) ≤ length (now out) ⌝ }
+    ensures { λ r. ⌜ Puts at (following (now (sep .entry)) i (decimal number)) (now (out .entry)) (now (out .exit)) r ⌝ }
 {
     if i == 0 {
         return put_decimal(out, at, number as u64);
     }
-    let next = put(out, at, b",");
+    let next = put(out, at, sep);
     put_decimal(out, next, number as u64)
 }
 
-// The word numbers of a reading, parted by commas.
-fn put_numbers(out: &mut [u8], at: usize, reading: &[u8]) -> usize
-    requires { ⌜ at + length (join (44 ∷ []) (map decimal (now reading))) ≤ length (now out) ⌝ }
-    ensures { λ r. ⌜ Puts at (join (44 ∷ []) (map decimal (now (reading .entry)))) (now (out .entry)) (now (out .exit)) r ⌝ }
+// Numbers in decimal, parted by `sep`.
+pub fn put_numbers(out: &mut [u8], at: usize, sep: &[u8], numbers: &[u8]) -> usize
+    requires { ⌜ at + length (join (now sep) (map decimal (now numbers))) ≤ length (now out) ⌝ }
+    ensures { λ r. ⌜ Puts at (join (now (sep .entry)) (map decimal (now (numbers .entry)))) (now (out .entry)) (now (out .exit)) r ⌝ }
 {
     let mut next = at;
     let mut i: usize = 0;
-    while i < reading.len() {
-        next = put_number(out, next, i, reading[i]);
+    while i < numbers.len() {
+        next = put_number(out, next, sep, i, numbers[i]);
         i += 1;
     }
     next
@@ -86,6 +86,6 @@ pub fn put_reading(out: &mut [u8], at: usize, reading: &[u8]) -> usize
     requires { ⌜ at + 4 * length (now reading) + 2 ≤ length (now out) ⌝ }
     ensures { λ r. ⌜ Puts at (recordOf (map decimal (now (reading .entry)))) (now (out .entry)) (now (out .exit)) r × (r ≤ at + 4 * length (now (reading .entry)) + 2) ⌝ }
 {
-    let end = put_numbers(out, at, reading);
+    let end = put_numbers(out, at, b",", reading);
     put(out, end, b"\r\n")
 }

@@ -7,20 +7,24 @@ use Rattle.printing.proofs.puts.put_reading.Statement.{statement}
 use Rattle.printing.proofs.puts.put_reading.Tie as tie
 
 put-numbers-requires : tie.Need-put-numbers-requires
-put-numbers-requires c κs = let s = c .before .before .before .args .reading .now in
-    omega (arith, length-numbers s (λ k. omega (arith, c .before .shared-slice-known .given k)))
+put-numbers-requires c κs =
+    let s = c .before .before .before .before .args .reading .now in
+    omega (arith, length-numbers s (λ k. omega (arith, c .before .before .shared-slice-known .given k)))
 
 put-requires : tie.Need-put-requires
-put-requires c κs = let s = c .before .before .before .before .before .before .before .before .args .reading .now in
+put-requires c κs =
+    let s = c .before .before .before .before .before .before .before .before .before .args .reading .now in
     let f = c .before .before .before .before .put-numbers .ensures in
-    omega (arith, f .end, puts-length f, length-numbers s (λ k. omega (arith, c .before .before .before .before .before .before .shared-slice-known .given k)))
+    omega (arith, f .end, puts-length f, length-numbers s (λ k. omega (arith, c .before .before .before .before .before .before .before .shared-slice-known .given k)))
 
 returns : tie.Need-returns
-returns c = let s = c .before .before .before .before .before .before .before .before .before .before .before .args .reading .now in
+returns c =
+    let s = c .before .before .before .before .before .before .before .before .before .before .before .before .args .reading .now in
     let f = c .before .before .before .before .before .before .before .put-numbers .ensures in
     let g = c .before .before .put .ensures in
-    (puts-then f g, omega (arith, f .end, g .end, length-numbers s (λ k. omega (arith, c .before .before .before .before .before .before .before .before .before .shared-slice-known .given k))))
+    let bytes = length-numbers s (λ k. omega (arith, c .before .before .before .before .before .before .before .before .before .before .shared-slice-known .given k)) in
+    (puts-then f g, omega (arith, f .end, g .end, bytes))
 
 pub put-reading-spec : {M : Type 1} → statement M
 put-reading-spec =
-    tie.close (tie.spec put-numbers-requires (λ c. search needs) put-requires (λ c. search needs) returns)
+    tie.close (tie.spec (λ c. search needs) put-numbers-requires (λ c. search needs) put-requires (λ c. search needs) returns)
