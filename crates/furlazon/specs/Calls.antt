@@ -20,6 +20,7 @@ use Rattle.code.specs.Definitions.Lists.{if_then_else_}
 use Rattle.code.specs.Definitions.Operations.{Condition, Lowest, written, encodingConditions, readingConditions, verdictConditions, Enlarges, Encodes, ReadsMessage, Judges}
 use Rattle.code.specs.Definitions.Sheets.{limits, taken}
 use Rattle.image.specs.Image.{imageLength, imageOf, enlargedIn}
+use Rattle.turkish.specs.Types.{types, codeOfTypes}
 use Rattle.answers.specs.Answers.{answerLength, encodingNumber, encodingEntries, readingNumber, readingEntries, judgementNumber, judgementEntries}
 
 abbrev pub shortNumber : ℕ
@@ -43,6 +44,10 @@ pub record Answered (a : SheetAnswer) (e : Enlarged) (b b′ : List ℕ) (r : �
 -- Taking in the sheet s, with the buffer b for the table.
 abbrev pub TakesIn : (s b b′ : List ℕ) → ℕ → Type 0
 TakesIn s b b′ r = Answered (taken limits s .answer) (plainOf limits (taken limits s .code)) b b′ r
+
+-- Giving the code of the twelve Turkish types, with the buffer b for the table.
+abbrev pub TurkishCall : (b b′ : List ℕ) → ℕ → Type 0
+TurkishCall b b′ r = Answered Accepted (plainOf limits (codeOfTypes limits types)) b b′ r
 
 -- Enlarging the table in t by the ban list s, with the buffer b for the enlarged table.
 pub data EnlargeCall (t s b b′ : List ℕ) (r : ℕ) : Type 0 where

@@ -1,7 +1,8 @@
--- From call to call: the table that taking in a sheet, or enlarging by a ban list, leaves in a buffer is the one that the other functions find there.
+-- From call to call: the table that taking in a sheet, giving the Turkish types, or enlarging by a ban list, leaves in a buffer is the one that the other functions find there.
 use mathlib.Core.Path.{_≡_, refl}
 use Prim.Native.Nat.{ℕ, _≤_, _<_}
 use mathlib.Core.List.{List}
+use mathlib.Core.Logic.{_↔_}
 use native.Mathlib.Omega.{arith}
 use native.Mathlib.Decide.{decLt}
 use lib.ListN.{length, drop}
@@ -17,8 +18,10 @@ use Rattle.code.specs.Definitions.Operations.{Enlarges, FromLists}
 use Rattle.code.specs.Definitions.Sheets.{limits, taken}
 use Rattle.image.specs.Image.{imageLength, imageOf, Packable, enlargedIn}
 use Rattle.image.specs.RoundTrip.{image-holds}
-use Rattle.furlazon.specs.Calls.{sheetNumber, Answered, TakesIn, EnlargeCall}
-use Rattle.furlazon.specs.Packs.{sheet-packs, list-accepted, list-packs}
+use Rattle.turkish.specs.Types.{types, codeOfTypes}
+use Rattle.turkish.specs.Given.{twelveSheet, twelve-given}
+use Rattle.furlazon.specs.Calls.{sheetNumber, Answered, TakesIn, TurkishCall, EnlargeCall}
+use Rattle.furlazon.specs.Packs.{sheet-packs, turkish-packs, list-accepted, list-packs}
 
 some-number : (r : Refusal) → 1 ≤ refusalNumber r
 some-number SheetLength = omega arith
@@ -54,6 +57,13 @@ held {a} {e} {b} call fits =
 
 pub sheet-held : (s : List ℕ) {b b′ : List ℕ} → TakesIn s b b′ 0 → (taken limits s .answer ≡ Accepted) × (enlargedIn b′ ≡ plainOf limits (taken limits s .code))
 sheet-held s call = held call (sheet-packs s refl refl)
+
+pub turkish-held : {b b′ : List ℕ} → TurkishCall b b′ 0 → enlargedIn b′ ≡ plainOf limits (codeOfTypes limits types)
+turkish-held call = held call (λ a. turkish-packs refl refl) .1
+
+-- The call does what taking in sheets/turkish-twelve.csv does.
+pub turkish-as-sheet : {b b′ : List ℕ} {r : ℕ} → TurkishCall b b′ r ↔ TakesIn twelveSheet b b′ r
+turkish-as-sheet = (λ h. rw twelve-given h, λ h. rw twelve-given at h)
 
 pub list-held : {t s b b′ : List ℕ} → EnlargeCall t s b b′ 0 → Enlarges limits (enlargedIn t) s (record { answer = Accepted; enlarged = enlargedIn b′ })
 list-held (EnlargeCall.unread h e k) = absurd (omega arith)

@@ -1,9 +1,10 @@
--- What an accepted sheet or an accepted ban list gives can be packed.
+-- What an accepted sheet or an accepted ban list gives can be packed, and so can the code of the twelve Turkish types.
 use mathlib.Core.Path.{_≡_, sym, subst, ap, _∙_}
 use mathlib.Core.List.{List}
 use Prim.Native.Nat.{ℕ, _≤_, _<_}
 use native.Mathlib.Decide.{decLt}
 use native.Mathlib.Omega.{arith}
+use Rattle.code.specs.declared.Code.{Code}
 use Rattle.code.specs.declared.Enlarged.{Enlarged}
 use Rattle.code.specs.declared.Enlargement.{Enlargement}
 use Rattle.code.specs.declared.SheetAnswer.{SheetAnswer}
@@ -17,6 +18,8 @@ use Rattle.enlargements.specs.Plain.{plain-well}
 use Rattle.enlargements.specs.Listed.{from-lists}
 use Rattle.image.specs.Image.{Packable}
 use Rattle.table.specs.Given.{well}
+use Rattle.turkish.specs.Types.{types, codeOfTypes}
+use Rattle.turkish.specs.Given.{twelve-from-sheet}
 
 packs : {e : Enlarged} → WellEnlarged limits e → Packable e
 packs w = record {
@@ -36,6 +39,9 @@ packs w = record {
 
 pub sheet-packs : (s : List ℕ) {t : Taken} {e : Enlarged} → t ≡ taken limits s → e ≡ plainOf limits (t .code) → t .answer ≡ Accepted → Packable e
 sheet-packs s g p a = rw p (packs (plain-well (well (record { sheet = s; gives = sym g ∙ rw a }))))
+
+pub turkish-packs : {c : Code} {e : Enlarged} → c ≡ codeOfTypes limits types → e ≡ plainOf limits c → Packable e
+turkish-packs g p = rw (p, g) (packs (plain-well (well twelve-from-sheet)))
 
 -- That a list is accepted says only that it is not so that refusal 8 holds. What can be packed is told by numbers, so this is enough.
 module _ {e : Enlarged} (n : (Packable e → ⊥) → ⊥) where

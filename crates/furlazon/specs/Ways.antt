@@ -7,6 +7,7 @@ use native.Mathlib.Omega.{arith}
 use lib.Dec.{ltb}
 use lib.ListN.{length}
 use borrow.Author.Tests.{lt-ltb, le-ltb, ltb-true, ltb-false}
+use Rattle.code.specs.declared.Code.{Code}
 use Rattle.code.specs.declared.Enlarged.{Enlarged}
 use Rattle.code.specs.declared.Enlargement.{Enlargement}
 use Rattle.code.specs.declared.Taken.{Taken}
@@ -22,8 +23,9 @@ use Rattle.code.specs.Definitions.Lists.{if_then_else_}
 use Rattle.code.specs.Definitions.Operations.{written, encodingConditions, readingConditions, verdictConditions, Enlarges, Encodes, ReadsMessage, Judges}
 use Rattle.code.specs.Definitions.Sheets.{limits, taken}
 use Rattle.image.specs.Image.{imageLength, imageOf, enlargedIn}
+use Rattle.turkish.specs.Types.{types, codeOfTypes}
 use Rattle.answers.specs.Answers.{answerLength, encodingNumber, encodingEntries, readingNumber, readingEntries, judgementNumber, judgementEntries}
-use Rattle.furlazon.specs.Calls.{shortNumber, Answered, TakesIn, EnlargeCall, Untold, EncodeCall, ReadCall, VerdictCall}
+use Rattle.furlazon.specs.Calls.{shortNumber, Answered, TakesIn, TurkishCall, EnlargeCall, Untold, EncodeCall, ReadCall, VerdictCall}
 
 -- Answering a sheet or a ban list
 
@@ -41,6 +43,9 @@ module _ {a : SheetAnswer} {e : Enlarged} {b : List ℕ} where
 pub sheet-answered : (s : List ℕ) {b b′ : List ℕ} {n : ℕ} {t : Taken} {e : Enlarged} → t ≡ taken limits s → e ≡ plainOf limits (t .code) → Answered (t .answer) e b b′ n
     → TakesIn s b b′ n
 sheet-answered s g p h = rw (p, g) at h
+
+pub turkish-answered : {b b′ : List ℕ} {n : ℕ} {c : Code} {e : Enlarged} → c ≡ codeOfTypes limits types → e ≡ plainOf limits c → Answered Accepted e b b′ n → TurkishCall b b′ n
+turkish-answered g p h = rw (p, g) at h
 
 pub list-unread : {t s b : List ℕ} {n : ℕ} → length t < imageLength → n ≡ shortNumber → EnlargeCall t s b b n
 list-unread h e = EnlargeCall.unread h e refl

@@ -24,7 +24,7 @@ ghost use lib.Dec.{ltb};
 ghost use Rattle.code.specs.declared.SheetAnswer.the-variants.{Accepted};
 ghost use Rattle.code.specs.Definitions.Lists.{if_then_else_};
 ghost use Rattle.image.specs.Image.{imageLength, Packable};
-ghost use Rattle.furlazon.specs.Calls.{shortNumber, Answered, TakesIn, EnlargeCall, EncodeCall, ReadCall, VerdictCall};
+ghost use Rattle.furlazon.specs.Calls.{shortNumber, Answered, TakesIn, TurkishCall, EnlargeCall, EncodeCall, ReadCall, VerdictCall};
 
 // The lower of the refusal of a sheet or a ban list and 13, where a buffer of this length is too short for a table.
 fn lower(refusal: u64, table: usize) -> u64
@@ -66,6 +66,15 @@ pub extern "C" fn furlazon_take_in(sheet: &[u8], table: &mut [u8]) -> u64
     let code = taken.code;
     let value = plain(code);
     put_table(answer, value, table)
+}
+
+// Gives the built-in code of the twelve Turkish types. 0: its table's image stands at the start of `table`. Else 13, and `table` is as it was.
+#[no_mangle]
+pub extern "C" fn furlazon_turkish(table: &mut [u8]) -> u64
+    ensures { λ r. ⌜ TurkishCall (now (table .entry)) (now (table .exit)) r ⌝ }
+{
+    let value = plain(turkish::twelve());
+    put_table(SheetAnswer::Accepted, value, table)
 }
 
 // Enlarges a table by a list of bans that look two words back. 0: accepted, and the image of the enlarged table stands at the start of `enlarged`. Else the
