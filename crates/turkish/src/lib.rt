@@ -16,6 +16,10 @@ pub struct Types {}
 impl Types {
     // Types in the table.
     pub const COUNT: usize = 12;
+    // The symbols of a type.
+    pub const VOWEL: u8 = 0;
+
+    pub const CONSONANT: u8 = 1;
 }
 
 // Row X of the follow matrix: entry Y is 1 if type X may come immediately after type Y, else 0.

@@ -1,0 +1,5 @@
+pub mod Printed
+pub mod Printing
+pub mod Rules
+pub mod Rows
+pub mod Lines

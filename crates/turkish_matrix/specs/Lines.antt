@@ -1,0 +1,84 @@
+-- The printed table, line by line: there is room for each line, and what stands there in the end is the whole.
+use mathlib.Core.Path.{_≡_, refl, sym, ap, _∙_}
+use mathlib.Core.Bool.{Bool, true, false}
+use mathlib.Core.List.{List, [], _++_, map}
+use Prim.Native.Nat.{ℕ, _+_, _≤_, _<_}
+use native.Mathlib.Omega.{arith}
+use lib.Dec.{eqb}
+use lib.ListN.{length, take, drop, getD, length-append, length-map, List·getD-map}
+use lib.Seq.{length-take-le}
+use Rattle.code.specs.Definitions.Lists.{if_then_else_}
+use Rattle.code.specs.Laws.Lists.{getD-within}
+use Rattle.table.specs.Join.{join}
+use Rattle.printing.specs.Printed.{places}
+use Rattle.printing.specs.Puts.{Puts, Starts, starts}
+use Rattle.printing.specs.Fields.{following, fieldsTo, field-fits, field-put, all-put}
+use Rattle.turkish.specs.Types.{types, entryFor, matrix}
+use Rattle.turkish_matrix.specs.Printed.{lineOf, lines, opening, closing, printed}
+use Rattle.turkish_matrix.specs.Printing.{second-fits, third-fits, three-put}
+
+-- the line of each row
+abbrev pub allLines : List (List ℕ)
+allLines = map lineOf (matrix types)
+
+lines-count : length allLines ≡ length types
+lines-count = length-map (matrix types) lineOf ∙ length-map types (λ t. map (entryFor t) types)
+
+-- Nothing parts the lines.
+unparted : (i : ℕ) (f : List ℕ) → following [] i f ≡ f
+unparted i f = either (eqb i 0)
+  where
+    either : (b : Bool) → (if b then f else [] ++ f) ≡ f
+    either true = refl
+    either false = refl
+
+module _ (x : ℕ) (h : x < length types) {row : List ℕ} (is : row ≡ getD (matrix types) x []) where
+  line-at : following [] x (getD allLines x []) ≡ lineOf row
+  line-at =
+      unparted x (getD allLines x [])
+      ∙ getD-within allLines x [] (lineOf []) (omega (arith, lines-count))
+      ∙ List·getD-map lineOf (matrix types) x []
+      ∙ rw is
+
+  module _ {o p : List ℕ} {at next : ℕ} (before : Puts at (fieldsTo [] allLines x) o p next) where
+    pub line-fits : at + length lines ≤ length o → next + length (lineOf row) ≤ length p
+    unfolding lines
+    line-fits room = rw line-at at (field-fits [] allLines x before (omega (arith, lines-count)) room)
+
+    pub line-more : {q : List ℕ} {r : ℕ} → Puts next (lineOf row) p q r → Puts at (fieldsTo [] allLines (x + 1)) o q r
+    line-more put = field-put [] allLines x before (omega (arith, lines-count)) (rw line-at put)
+
+pub lines-all : (x : ℕ) → length types ≤ x → {o p : List ℕ} {at next : ℕ} → Puts at (fieldsTo [] allLines x) o p next → Puts at lines o p next
+unfolding lines
+lines-all x h before = all-put [] allLines x before (omega (arith, lines-count))
+
+-- The whole table: what opens it, its lines, what closes it
+module _ (o : List ℕ) (room : length printed ≤ length o) where
+  whole-fits : 0 + length (opening ++ lines ++ closing) ≤ length o
+  unfolding printed
+  whole-fits = let fits : length (opening ++ lines ++ closing) ≤ length o = room in omega arith
+
+  pub opening-fits : length opening ≤ length o
+  opening-fits = omega (arith, whole-fits, length-append (opening ++ lines) closing, length-append opening lines)
+
+  module _ {p : List ℕ} {k : ℕ} (first : Puts 0 opening o p k) where
+    pub lines-fit : k + length lines ≤ length p
+    lines-fit = second-fits opening lines closing whole-fits first
+
+    module _ {q : List ℕ} {l : ℕ} (second : Puts k lines p q l) where
+      pub closing-fits : l + length closing ≤ length q
+      closing-fits = third-fits opening lines closing whole-fits first second
+
+      pub table-put : {e : List ℕ} {r : ℕ} → Puts l closing q e r → Starts printed o e r
+      unfolding printed
+      table-put third = starts (three-put opening lines closing whole-fits first second third) room
+
+-- It has so many bytes, and they stand in the buffer.
+pub printed-long : length printed ≡ 659
+unfolding printed lines join places
+printed-long = refl
+
+pub printed-part : {o p : List ℕ} {r : ℕ} → Starts printed o p r → (r ≤ length p) × (r ≡ length (take r p))
+printed-part {o} {p} {r} s =
+    let within : r ≤ length p = omega (arith, s .count, ap length (s .out), length-append printed (drop (length printed) o)) in
+    (within, sym (length-take-le r p within))

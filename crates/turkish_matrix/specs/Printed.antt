@@ -1,0 +1,28 @@
+-- The printed constant table as bytes: the matrix that the rules give, row by row.
+use mathlib.Core.List.{List, [], _∷_, _++_, map}
+use Prim.Native.Nat.{ℕ}
+use Rattle.table.specs.Join.{join}
+use Rattle.printing.specs.Printed.{decimal}
+use Rattle.turkish.specs.Types.{types, matrix}
+
+-- `    TypeRow([`, the entries parted by a comma and a space, `]),` and a line end
+abbrev pub lineOf : List ℕ → List ℕ
+lineOf row =
+    (32 ∷ 32 ∷ 32 ∷ 32 ∷ 84 ∷ 121 ∷ 112 ∷ 101 ∷ 82 ∷ 111 ∷ 119 ∷ 40 ∷ 91 ∷ [])
+    ++ join (44 ∷ 32 ∷ []) (map decimal row)
+    ++ (93 ∷ 41 ∷ 44 ∷ 10 ∷ [])
+
+-- the lines of all rows
+unfoldable pub lines : List ℕ
+lines = join [] (map lineOf (matrix types))
+
+-- `pub const ROWS: [TypeRow; Types::COUNT] = [` and a line end
+abbrev pub opening : List ℕ
+opening = 112 ∷ 117 ∷ 98 ∷ 32 ∷ 99 ∷ 111 ∷ 110 ∷ 115 ∷ 116 ∷ 32 ∷ 82 ∷ 79 ∷ 87 ∷ 83 ∷ 58 ∷ 32 ∷ 91 ∷ 84 ∷ 121 ∷ 112 ∷ 101 ∷ 82 ∷ 111 ∷ 119 ∷ 59 ∷ 32 ∷ 84 ∷ 121 ∷ 112 ∷ 101 ∷ 115 ∷ 58 ∷ 58 ∷ 67 ∷ 79 ∷ 85 ∷ 78 ∷ 84 ∷ 93 ∷ 32 ∷ 61 ∷ 32 ∷ 91 ∷ 10 ∷ []
+
+-- `];` and a line end
+abbrev pub closing : List ℕ
+closing = 93 ∷ 59 ∷ 10 ∷ []
+
+unfoldable pub printed : List ℕ
+printed = opening ++ lines ++ closing
