@@ -5,11 +5,11 @@ use Prim.Native.Nat.{ℕ, suc, _+_, _≤_, _<_}
 use native.Mathlib.Omega.{arith}
 use native.Mathlib.Numerals.{add-one}
 use lib.Dec.{eqb}
-use lib.ListN.{length, take, drop, getD, length-append, length-map, take-append-drop, List·getD-map}
+use lib.ListN.{length, take, drop, getD, length-append, take-append-drop}
 use lib.Seq.{length-take-le, take-suc, take-all}
 use borrow.Author.Tests.{ne-eqb}
 use Rattle.code.specs.Definitions.Lists.{if_then_else_}
-use Rattle.code.specs.Laws.Lists.{getD-within}
+use Rattle.code.specs.Laws.Lists.{map-at}
 use Rattle.table.specs.Join.{join}
 use Rattle.printing.specs.Printed.{decimal}
 use Rattle.printing.specs.Puts.{Puts, puts-then, puts-none, puts-length}
@@ -65,4 +65,4 @@ module _ (sep : List ℕ) where
 
 -- number i of some, in decimal
 pub number-at : (s : List ℕ) (i : ℕ) → i < length s → getD (map decimal s) i [] ≡ decimal (getD s i 0)
-number-at s i h = getD-within (map decimal s) i [] (decimal 0) (omega (arith, length-map s decimal)) ∙ List·getD-map decimal s i 0
+number-at s i h = map-at decimal s i [] 0 h

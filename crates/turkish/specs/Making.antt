@@ -10,7 +10,7 @@ use Rattle.code.specs.declared.Code.{Code}
 use Rattle.code.specs.Definitions.Lists.{every, table}
 use Rattle.code.specs.Definitions.Tables.{noWord}
 use Rattle.code.specs.Definitions.Sheets.{limits, codeOf, blankCode}
-use Rattle.code.specs.Laws.Lists.{getD-within}
+use Rattle.code.specs.Laws.Lists.{map-at}
 use Rattle.turkish.specs.declared.TypeRow.{TypeRow}
 use Rattle.turkish.specs.Types.{entryFor, matrix, rowOfTypes, padded, wordFor, rowFor, codeOfTypes}
 use Rattle.turkish.specs.Padding.{Padding, padding-none, padding-next, padding-all}
@@ -28,16 +28,13 @@ made-none e = rw e record { words = padding-none refl; rows = padding-none refl;
 -- Word and row x of the constants ws and rs
 module _ (ts : List (List ℕ)) (x : ℕ) (h : x < length ts) where
   word-at : {ws : List Word} → ws ≡ map (wordFor limits) ts → getD ws x noWord ≡ getD (map (wordFor limits) ts) x (wordFor limits [])
-  word-at e = rw e (getD-within (map (wordFor limits) ts) x noWord (wordFor limits []) (omega (arith, length-map ts (wordFor limits))))
+  word-at e = rw e (map-at (wordFor limits) ts x noWord [] h ∙ sym (List·getD-map (wordFor limits) ts x []))
 
   entries-at : {rs : List TypeRow} → rs ≡ map rowOfTypes (matrix ts) → getD rs x (rowOfTypes []) .0 ≡ getD (matrix ts) x []
   entries-at e = rw e (ap (λ (r : TypeRow). r .0) (List·getD-map rowOfTypes (matrix ts) x []))
 
   pub entries-long : {rs : List TypeRow} → rs ≡ map rowOfTypes (matrix ts) → length (getD rs x (rowOfTypes []) .0) ≡ length ts
-  entries-long e =
-      ap length (entries-at e ∙ getD-within (matrix ts) x [] (map (entryFor []) ts) (omega (arith, length-map ts (λ t. map (entryFor t) ts)))
-      ∙ List·getD-map (λ t. map (entryFor t) ts) ts x [])
-      ∙ length-map ts (entryFor (getD ts x []))
+  entries-long e = ap length (entries-at e ∙ map-at (λ t. map (entryFor t) ts) ts x [] [] h) ∙ length-map ts (entryFor (getD ts x []))
 
   pub made-more : {code : Code} {ws : List Word} {rs : List TypeRow} {row : Row} → length ts ≤ limits .words → ws ≡ map (wordFor limits) ts → rs ≡ map rowOfTypes (matrix ts)
       → row ≡ rowFor limits (getD rs x (rowOfTypes []) .0) → Made ts code x

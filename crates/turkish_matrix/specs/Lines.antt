@@ -5,10 +5,10 @@ use mathlib.Core.List.{List, [], _++_, map}
 use Prim.Native.Nat.{ℕ, _+_, _≤_, _<_}
 use native.Mathlib.Omega.{arith}
 use lib.Dec.{eqb}
-use lib.ListN.{length, take, drop, getD, length-append, length-map, List·getD-map}
+use lib.ListN.{length, take, drop, getD, length-append, length-map}
 use lib.Seq.{length-take-le}
 use Rattle.code.specs.Definitions.Lists.{if_then_else_}
-use Rattle.code.specs.Laws.Lists.{getD-within}
+use Rattle.code.specs.Laws.Lists.{map-at}
 use Rattle.table.specs.Join.{join}
 use Rattle.printing.specs.Printed.{places}
 use Rattle.printing.specs.Puts.{Puts, Starts, starts}
@@ -34,11 +34,7 @@ unparted i f = either (eqb i 0)
 
 module _ (x : ℕ) (h : x < length types) {row : List ℕ} (is : row ≡ getD (matrix types) x []) where
   line-at : following [] x (getD allLines x []) ≡ lineOf row
-  line-at =
-      unparted x (getD allLines x [])
-      ∙ getD-within allLines x [] (lineOf []) (omega (arith, lines-count))
-      ∙ List·getD-map lineOf (matrix types) x []
-      ∙ rw is
+  line-at = unparted x (getD allLines x []) ∙ map-at lineOf (matrix types) x [] [] (omega (arith, length-map types (λ t. map (entryFor t) types))) ∙ rw is
 
   module _ {o p : List ℕ} {at next : ℕ} (before : Puts at (fieldsTo [] allLines x) o p next) where
     pub line-fits : at + length lines ≤ length o → next + length (lineOf row) ≤ length p

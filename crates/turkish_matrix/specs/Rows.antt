@@ -5,14 +5,14 @@ use mathlib.Core.List.{List, [], map}
 use Prim.Native.Nat.{ℕ, _≤_, _<_}
 use native.Mathlib.Omega.{arith}
 use lib.Dec.{leb}
-use lib.ListN.{length, take, getD, length-map, List·getD-map}
+use lib.ListN.{length, take, getD, length-map}
 use lib.Seq.{length-take-le, getD-take, ext-getD}
 use borrow.Author.Tests.{leb-true}
 use Rattle.code.specs.declared.Word.{Word}
 use Rattle.code.specs.Definitions.Lists.{every, table}
 use Rattle.code.specs.Definitions.Sheets.{limits}
 use Rattle.code.specs.Definitions.Tables.{noWord, symbolsOf}
-use Rattle.code.specs.Laws.Lists.{length-table, getD-table, table-list, getD-within, every-at}
+use Rattle.code.specs.Laws.Lists.{length-table, getD-table, table-list, map-at, every-at}
 use Rattle.turkish.specs.Types.{types, entryFor, matrix, padded, wordFor}
 use Rattle.turkish.specs.Padding.{Padding, padding-all}
 use Rattle.turkish_matrix.specs.Rules.{Spelt}
@@ -31,7 +31,7 @@ module _ (x : ℕ) (h : x < length types) where
 
   module _ {ws : List Word} (e : ws ≡ map (wordFor limits) types) where
     word-is : getD ws x noWord ≡ wordFor limits (getD types x [])
-    word-is = rw e (getD-within (map (wordFor limits) types) x noWord (wordFor limits []) (omega (arith, length-map types (wordFor limits))) ∙ List·getD-map (wordFor limits) types x [])
+    word-is = rw e (map-at (wordFor limits) types x noWord [] h)
 
     pub word-spelt : Spelt (getD ws x noWord)
     unfolding padded
@@ -54,17 +54,10 @@ entriesOf x = map (entryFor (getD types x [])) types
 
 module _ (x y : ℕ) (h : x < length types) (l : y < length types) {ws : List Word} (e : ws ≡ map (wordFor limits) types) where
   pub entry-is : {n : ℕ} → n ≡ entryFor (symbolsOf (getD ws x noWord)) (symbolsOf (getD ws y noWord)) → n ≡ getD (entriesOf x) y 0
-  entry-is p =
-      p
-      ∙ rw (word-type x h e, word-type y l e)
-      (sym (getD-within (entriesOf x) y 0 (entryFor (getD types x []) []) (omega (arith, length-map types (entryFor (getD types x []))))
-      ∙ List·getD-map (entryFor (getD types x [])) types y []))
+  entry-is p = p ∙ rw (word-type x h e, word-type y l e) (sym (map-at (entryFor (getD types x [])) types y 0 [] l))
 
 row-is : (x : ℕ) → x < length types → entriesOf x ≡ getD (matrix types) x []
-row-is x h =
-    sym
-    (getD-within (matrix types) x [] (map (entryFor []) types) (omega (arith, length-map types (λ t. map (entryFor t) types)))
-    ∙ List·getD-map (λ t. map (entryFor t) types) types x [])
+row-is x h = sym (map-at (λ t. map (entryFor t) types) types x [] [] h)
 
 pub row-filled : (x : ℕ) → x < length types → {y : ℕ} {row : List ℕ} → length types ≤ y → y ≤ length types → Padding 0 (entriesOf x) (length types) y row
     → row ≡ getD (matrix types) x []

@@ -11,7 +11,7 @@ use lib.Seq.{getD-drop}
 use borrow.Author.Tests.{lt-ltb, le-ltb, eq-eqb}
 use Rattle.code.specs.declared.Limits.{Limits}
 use Rattle.code.specs.Definitions.Sheets.{valueOf, allWide, hasStarts, firstField, startField, wordLength, badEntry, badRow, badWord, wordOf, rowOf, beginsOf, codeOf, refused4, refused6, refused7, refused15, takenGrid}
-use Rattle.code.specs.Laws.Lists.{getD-within, table-same, any-map, any-none, every-all}
+use Rattle.code.specs.Laws.Lists.{map-at, table-same, any-map, any-none, every-all}
 use Rattle.code.specs.Laws.Records.{wide-at}
 
 -- a record with the field 1 in second place
@@ -34,7 +34,7 @@ module _ (l : Limits) (g : List (List (List ℕ))) (wide : allWide (length g + 1
   long = length-map g withOne
 
   record-one : (k : ℕ) → k < length g → getD (withOnes g) k [] ≡ withOne (getD g k [])
-  record-one k h = getD-within (withOnes g) k [] (withOne []) (rw long h) ∙ List·getD-map withOne g k []
+  record-one k h = map-at withOne g k [] [] h
 
   marked : hasStarts (withOnes g) ≡ true
   marked =
