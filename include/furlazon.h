@@ -1,4 +1,5 @@
-/* Codes with forbidden successors: taking in a sheet, enlarging its code by a ban list, encoding, reading, and the verdict.
+/* Codes with forbidden successors: taking in a sheet, the built-in code of the twelve Turkish types, enlarging a code by a ban
+ * list, encoding, reading, and the verdict.
  *
  * The functions are proved for every input that this file allows: pointers to as many entries as the length beside them says,
  * no two of them overlapping where one is written, and 8-byte alignment for uint64_t. Nothing else is asked. Where a length is 0
@@ -81,6 +82,12 @@ extern "C" {
  * Needs: `table` of FURLAZON_TABLE_BYTES. Refusals: 1 to 7, 13, 15.
  * Result: the table's image, without copies, stands at the start of `table`. */
 uint64_t furlazon_take_in(const uint8_t *sheet, size_t sheet_length, uint8_t *table, size_t table_length);
+
+/* Gives the built-in code of the twelve Turkish types: words 0 to 11 are types A to L, 0 is a vowel and 1 a consonant. Every type
+ * may begin. No vowel-first type follows a consonant-last one, and no type with two or more consonants first a vowel-last one.
+ * Needs: `table` of FURLAZON_TABLE_BYTES. Refusals: 13.
+ * Result: the table's image, without copies, stands at the start of `table`, as if sheets/turkish-twelve.csv were taken in. */
+uint64_t furlazon_turkish(uint8_t *table, size_t table_length);
 
 /* Enlarges a table without copies by a ban list of any bytes: records X,Y,Z of word numbers, Y and Z different.
  * Needs: `table` and `enlarged` of FURLAZON_TABLE_BYTES each. Refusals: 1, 8, 13, 16, 17; a table that has copies gets 8.

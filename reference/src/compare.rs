@@ -6,12 +6,14 @@ use crate::generate;
 use crate::operations::{Operations, ReadingLengths, Reference, VerdictLengths};
 use crate::random::Random;
 use crate::table::Table;
+use crate::turkish;
 use std::fmt::Debug;
 
 /// How often each answer was met, so that a run shows what it covered.
 #[derive(Clone, Default, PartialEq, Eq, Debug)]
 pub struct Met {
     pub accepted: usize,
+    pub built_in: usize,
     pub enlarged: usize,
     pub encoded: usize,
     pub one_reading: usize,
@@ -39,10 +41,22 @@ fn one_round(subject: &mut impl Operations, random: &mut Random, met: &mut Met) 
     let (refusal, table) = Reference.take_in(&sheet);
     same("sheet", &String::from_utf8_lossy(&sheet), &(refusal, table.clone()), &subject.take_in(&sheet))?;
     count(met, refusal, |met| met.accepted += 1);
-    let code = table.code().unwrap_or_else(|| generate::code(random));
+    let code = match table.code() {
+        Some(code) => code,
+        // The rounds of refused sheets have room for another code.
+        None if random.one_in(16) => built_in(subject, met)?,
+        None => generate::code(random),
+    };
     let code = enlarging(subject, random, met, code)?;
     let table = if random.one_in(4) { generate::damaged_table(random, &code) } else { Table::of(&code) };
     on_table(subject, random, met, &code, &table)
+}
+
+/// Compares the built-in code, with which the round then goes on.
+fn built_in(subject: &mut impl Operations, met: &mut Met) -> Result<Code, String> {
+    same("built-in code", "the Turkish types", &Reference.turkish(), &subject.turkish())?;
+    met.built_in += 1;
+    Ok(turkish::code())
 }
 
 /// Compares enlarging, now and then of a table that is damaged or has copies

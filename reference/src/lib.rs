@@ -12,7 +12,7 @@
 //!
 //! [`generate`] makes random and damaged inputs, and [`compare`] holds another
 //! program's [`operations`] against the reference on them. [`cases`] has the
-//! codes that the papers give.
+//! codes that the papers give, and [`turkish`] the built-in one.
 
 pub mod bans;
 pub mod brute;
@@ -31,4 +31,5 @@ pub mod read;
 pub mod rivals;
 pub mod sheet;
 pub mod table;
+pub mod turkish;
 pub mod verdict;

@@ -1,11 +1,12 @@
 //! The operations with their lent buffers: refusals 8 to 14, and what each
-//! buffer holds afterwards; and enlarging a table by a ban list.
+//! buffer holds afterwards; enlarging a table by a ban list; and the built-in
+//! code.
 
 use crate::code::{Code, Refusal};
 use crate::read::{self, Readings};
 use crate::table::Table;
 use crate::verdict::{self, Verdict};
-use crate::{bans, copies};
+use crate::{bans, copies, turkish};
 
 /// Entries of a verdict's message buffer and of each of its reading buffers.
 pub const VERDICT_ENTRIES: usize = 8_384;
@@ -36,11 +37,13 @@ pub struct Buffers {
     pub working: Vec<u64>,
 }
 
-/// A program that offers the five operations. The reference is one; a linked
+/// A program that offers the six operations. The reference is one; a linked
 /// library becomes another by wrapping its functions.
 pub trait Operations {
     /// The table of a sheet, the blank one with a refusal.
     fn take_in(&mut self, sheet: &[u8]) -> (Option<Refusal>, Table);
+    /// The table of the built-in code.
+    fn turkish(&mut self) -> Table;
     /// The table with the copies that a ban list needs, the blank one with a refusal.
     fn enlarge(&mut self, table: &Table, list: &[u8]) -> (Option<Refusal>, Table);
     /// Writes the message of a sequence and gives its length.
@@ -59,6 +62,10 @@ impl Operations for Reference {
             Ok(code) => (None, Table::of(&code)),
             Err(refusal) => (Some(refusal), Table::BLANK),
         }
+    }
+
+    fn turkish(&mut self) -> Table {
+        Table::of(&turkish::code())
     }
 
     fn enlarge(&mut self, table: &Table, list: &[u8]) -> (Option<Refusal>, Table) {

@@ -15,7 +15,7 @@ fn every_answer_is_met() {
     let met = compare(&mut Reference, 1, 10_000).unwrap();
     println!("{met:?}");
     assert!(met.refused[1..].iter().all(|&times| times >= 20), "{met:?}");
-    let answers = [met.accepted, met.enlarged, met.encoded, met.one_reading, met.two_readings];
+    let answers = [met.accepted, met.built_in, met.enlarged, met.encoded, met.one_reading, met.two_readings];
     let verdicts = [met.ambiguous, met.delayed, met.unbounded];
     assert!(answers.iter().chain(&verdicts).all(|&times| times >= 20), "{met:?}");
 }
@@ -31,6 +31,7 @@ enum Slip {
     MixedFieldsAccepted,
     StartFieldBeforeRowEntry,
     MarkFromRowEntry,
+    BuiltInEntry,
     TableOfRefusedList,
     LeadingZeroAccepted,
     LastBlankLineAccepted,
@@ -90,6 +91,15 @@ impl Operations for Wrong {
             _ => {}
         }
         (refusal, table)
+    }
+
+    fn turkish(&mut self) -> Table {
+        let mut table = Reference.turkish();
+        if self.0 == Slip::BuiltInEntry {
+            // Type L starts with one consonant and may follow A.
+            table.rows[11].entries[0] = 0;
+        }
+        table
     }
 
     fn enlarge(&mut self, table: &Table, list: &[u8]) -> (Option<Refusal>, Table) {
@@ -433,6 +443,7 @@ fn slips_are_caught() {
         ("sheet", Slip::MixedFieldsAccepted),
         ("sheet", Slip::StartFieldBeforeRowEntry),
         ("sheet", Slip::MarkFromRowEntry),
+        ("built-in code", Slip::BuiltInEntry),
         ("enlarging", Slip::TableOfRefusedList),
         ("enlarging", Slip::LeadingZeroAccepted),
         ("enlarging", Slip::LastBlankLineAccepted),

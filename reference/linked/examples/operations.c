@@ -1,6 +1,7 @@
 /* Code U from a sheet in memory: its verdict, the only reading of a message, the message again from the reading, a sequence that is
- * refused, and the empty message. Then the same code with a ban on 0 after 01 and 10: its verdict, and what the ban forbids. Prints
- * what examples/operations.rs prints. */
+ * refused, and the empty message. Then the same code with a ban on 0 after 01 and 10: its verdict, and what the ban forbids. Last the
+ * built-in code of the twelve Turkish types: its verdict, with the message and both readings. Prints what examples/operations.rs
+ * prints. */
 #include "furlazon.h"
 
 #include <inttypes.h>
@@ -75,5 +76,17 @@ int main(void) {
     refused = furlazon_read(enlarged, sizeof enlarged, message, length, first, sizeof first, second, sizeof second, work,
                             FURLAZON_VERDICT_WORK, answer, FURLAZON_ANSWER_ENTRIES);
     printf("reading of that message with the ban: %s\n", refused == FURLAZON_REFUSED_NO_READING ? "none" : "some");
+
+    if (furlazon_turkish(table, sizeof table) != 0) {
+        return 1;
+    }
+    refused = furlazon_verdict(table, sizeof table, message, sizeof message, first, sizeof first, second, sizeof second, work,
+                               FURLAZON_VERDICT_WORK, answer, FURLAZON_ANSWER_ENTRIES);
+    print_answer("verdict on the Turkish types", refused);
+    print_entries("message", message, answer[1]);
+    printf("its first reading");
+    print_entries("words", first, answer[2]);
+    printf("its second reading");
+    print_entries("words", second, answer[3]);
     return 0;
 }

@@ -1,7 +1,9 @@
 //! Code U from a sheet in memory: its verdict, the only reading of a message,
 //! the message again from the reading, a sequence that is refused, and the
 //! empty message. Then the same code with a ban on 0 after 01 and 10: its
-//! verdict, and what the ban forbids. Prints what `operations.c` prints.
+//! verdict, and what the ban forbids. Last the built-in code of the twelve
+//! Turkish types: its verdict, with the message and both readings. Prints what
+//! `operations.c` prints.
 
 use furlazon::{ANSWER_ENTRIES, TABLE_BYTES};
 use reference::code::Refusal;
@@ -46,4 +48,11 @@ fn main() {
     let refused = furlazon::read(&enlarged, &symbols, &mut first, &mut second, &mut work, &mut answer);
     let none = refused == u64::from(Refusal::NoReading.number());
     println!("reading of that message with the ban: {}", if none { "none" } else { "some" });
+
+    assert_eq!(furlazon::turkish(&mut table), 0);
+    let refused = furlazon::verdict(&table, &mut message, &mut first, &mut second, &mut work, &mut answer);
+    let [symbols, words, others] = [1, 2, 3].map(|entry| answer[entry] as usize);
+    println!("verdict on the Turkish types: refusal {refused}, answer {answer:?}, message {:?}", &message[..symbols]);
+    println!("its first reading, words {:?}", &first[..words]);
+    println!("its second reading, words {:?}", &second[..others]);
 }

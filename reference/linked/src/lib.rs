@@ -16,6 +16,7 @@ pub const ANSWER_ENTRIES: usize = 4;
 
 extern "C" {
     fn furlazon_take_in(sheet: *const u8, sheet_length: usize, table: *mut u8, table_length: usize) -> u64;
+    fn furlazon_turkish(table: *mut u8, table_length: usize) -> u64;
     fn furlazon_enlarge(
         table: *const u8,
         table_length: usize,
@@ -68,6 +69,12 @@ extern "C" {
 pub fn take_in(sheet: &[u8], table: &mut [u8]) -> u64 {
     // SAFETY: each pointer comes from a slice with its length, and no two slices overlap.
     unsafe { furlazon_take_in(sheet.as_ptr(), sheet.len(), table.as_mut_ptr(), table.len()) }
+}
+
+/// Writes the image of the built-in code of the twelve Turkish types. 0, or the refusal's number.
+pub fn turkish(table: &mut [u8]) -> u64 {
+    // SAFETY: as above.
+    unsafe { furlazon_turkish(table.as_mut_ptr(), table.len()) }
 }
 
 /// Enlarges a table by a ban list and writes the enlarged table's image. 0, or the refusal's number.

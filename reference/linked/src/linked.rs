@@ -68,6 +68,13 @@ impl Operations for Linked {
         table(|image| crate::take_in(sheet, image))
     }
 
+    fn turkish(&mut self) -> Table {
+        match table(crate::turkish) {
+            (None, table) => table,
+            other => panic!("not the built-in code: {other:?}"),
+        }
+    }
+
     fn enlarge(&mut self, words: &Table, list: &[u8]) -> (Option<Refusal>, Table) {
         let words = image::pack(words);
         table(|image| crate::enlarge(&words, list, image))

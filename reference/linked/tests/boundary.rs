@@ -1,11 +1,11 @@
 //! What belongs to the boundary alone: the numbers of the header, the image of
-//! a table, a table too short to be read, an enlarged one too short to be
-//! written, and an answer too short to be told.
+//! a table, that of the built-in code, a table too short to be read, an
+//! enlarged one too short to be written, and an answer too short to be told.
 
 use furlazon::linked::refusal;
-use furlazon::{ANSWER_ENTRIES, TABLE_BYTES};
+use furlazon::{image, ANSWER_ENTRIES, TABLE_BYTES};
 use reference::code::{Code, Refusal};
-use reference::operations::{VERDICT_ENTRIES, VERDICT_WORKING};
+use reference::operations::{Operations, Reference, VERDICT_ENTRIES, VERDICT_WORKING};
 use reference::sheet::write;
 
 const MARK: u8 = 0x5A;
@@ -129,6 +129,40 @@ fn an_image_without_copies_stays() {
         assert_eq!(furlazon::enlarge(&table, list, &mut enlarged), 0);
         assert_eq!(enlarged == table, list.is_empty());
     }
+}
+
+/// The built-in code with room for its image or not; what follows the image is as it was.
+#[test]
+fn room_for_the_turkish_types() {
+    let image = image::pack(&Reference.turkish());
+    for room in [0, 1, TABLE_BYTES - 1, TABLE_BYTES, TABLE_BYTES + 1, 2 * TABLE_BYTES] {
+        let mut table = vec![MARK; room];
+        let mut expected = table.clone();
+        let written = expected.get_mut(..TABLE_BYTES).map(|start| start.copy_from_slice(&image));
+        let short = written.is_none().then_some(Refusal::BufferTooShort);
+        assert_eq!(refusal(furlazon::turkish(&mut table)), short, "room of {room}");
+        assert_eq!(table, expected, "room of {room}");
+    }
+}
+
+/// The built-in code has the image that its sheet gives, and the other functions take it.
+#[test]
+fn the_turkish_types_are_a_table() {
+    let [mut table, mut taken, mut enlarged] = [[MARK; TABLE_BYTES]; 3];
+    assert_eq!(furlazon::turkish(&mut table), 0);
+    assert_eq!(furlazon::take_in(include_bytes!("../../../sheets/turkish-twelve.csv"), &mut taken), 0);
+    assert_eq!(table, taken);
+
+    let [mut message, mut first, mut second] = [(); 3].map(|()| vec![MARK; VERDICT_ENTRIES]);
+    let (mut work, mut answer) = (vec![WORD_MARK; VERDICT_WORKING], [WORD_MARK; ANSWER_ENTRIES]);
+    assert_eq!(furlazon::verdict(&table, &mut message, &mut first, &mut second, &mut work, &mut answer), 0);
+    assert_eq!(answer, [defined("AMBIGUOUS"), 5, 2, 2]);
+    assert_eq!((&message[..5], &first[..2], &second[..2]), (&[0, 1, 1, 1, 0][..], &[2, 6][..], &[4, 1][..]));
+
+    assert_eq!(furlazon::enlarge(&table, b"0,0,1", &mut enlarged), 0);
+    let (refused, expected) = Reference.enlarge(&Reference.turkish(), b"0,0,1");
+    assert_eq!((refused, expected.count), (None, 13));
+    assert_eq!(enlarged, image::pack(&expected));
 }
 
 /// Refusals of enlarging with images of every kind, and room for the enlarged

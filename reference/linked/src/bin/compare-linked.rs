@@ -36,7 +36,7 @@ fn main() {
     short_buffers(start, rounds).unwrap_or_else(|difference| fail(&difference));
     println!("short images and answers: refused, nothing changed");
     // A round has a sheet, a ban list and three inputs for a table, a ban list and three inputs for a damaged image,
-    // and four inputs with short buffers.
+    // and four inputs with short buffers. The built-in code has no input and is not counted.
     println!("all the same: {} inputs in {} s, start {start}", 13 * rounds, clock.elapsed().as_secs());
 }
 
@@ -47,12 +47,23 @@ fn fail<T>(difference: &str) -> T {
 
 /// What was met, in words.
 fn told(met: &Met) -> String {
-    let Met { accepted, enlarged, encoded, one_reading, two_readings, ambiguous, delayed, unbounded, refused } = met;
+    let Met {
+        accepted,
+        built_in,
+        enlarged,
+        encoded,
+        one_reading,
+        two_readings,
+        ambiguous,
+        delayed,
+        unbounded,
+        refused,
+    } = met;
     let refused: Vec<String> = (1..refused.len()).map(|number| format!("{number}: {}", refused[number])).collect();
     format!(
-        "{accepted} sheets and {enlarged} ban lists accepted, {encoded} encoded, {one_reading} with one reading, \
-         {two_readings} with more, {ambiguous} ambiguous, {delayed} with a delay, {unbounded} without bound; \
-         refused {}",
+        "{accepted} sheets and {enlarged} ban lists accepted, {built_in} times the built-in code, {encoded} encoded, \
+         {one_reading} with one reading, {two_readings} with more, {ambiguous} ambiguous, {delayed} with a delay, \
+         {unbounded} without bound; refused {}",
         refused.join(", ")
     )
 }
@@ -147,7 +158,8 @@ impl Lent {
             image.len() == TABLE_BYTES || furlazon::take_in(&sheet, &mut message[..image.len()]) == sheet_number;
         let room = random.below(TABLE_BYTES);
         let enlarged = furlazon::enlarge(image, &list, &mut message[..room]) == list_number(image, &list);
-        numbers == [short; 3] && taken && enlarged && self.unchanged()
+        let given = furlazon::turkish(&mut message[..room]) == short;
+        numbers == [short; 3] && taken && enlarged && given && self.unchanged()
     }
 
     fn unchanged(&self) -> bool {
