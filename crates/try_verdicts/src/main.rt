@@ -1,5 +1,5 @@
 // Gives the verdict on the sheet in each file that it is given: with buffers as long as need be, and with longer ones. Then tries buffers that are one
-// entry short, and tables that no accepted sheet gives. Of each trial it writes the lengths of the lent buffers, the printed result, and what the
+// entry short, tables that no accepted sheet gives, and the built-in code. Of each trial it writes the lengths of the lent buffers, the printed result, and what the
 // buffers then hold. Lines end with CR LF, as those of a printed result do.
 
 mod buffers;
@@ -31,8 +31,7 @@ fn from_sheet(sheet: &[u8]) -> Code {
     taken.code
 }
 
-fn try_sheet(sheet: &[u8]) {
-    let code = from_sheet(sheet);
+fn try_code(code: Code) {
     try_table(code, NEEDED);
     try_table(code, LONGER);
 }
@@ -46,7 +45,7 @@ fn try_file(path: &[u8]) {
     write_name(path);
     let mut bytes = [0u8; Sheet::BYTES + 1];
     let n = trying::read_file(path, &mut bytes);
-    try_sheet(&bytes[..n]);
+    try_code(from_sheet(&bytes[..n]));
 }
 
 // Each buffer one entry short.
@@ -115,4 +114,6 @@ fn main() {
         i += 1;
     }
     try_refusals();
+    write_name(b"the twelve Turkish types, built in");
+    try_code(turkish::twelve());
 }

@@ -1,28 +1,24 @@
 -- The printed table, line by line: there is room for each line, and what stands there in the end is the whole.
 use mathlib.Core.Path.{_≡_, refl, sym, ap, _∙_}
 use mathlib.Core.Bool.{Bool, true, false}
-use mathlib.Core.List.{List, [], _++_, map}
+use mathlib.Core.List.{List, [], _++_}
 use Prim.Native.Nat.{ℕ, _+_, _≤_, _<_}
 use native.Mathlib.Omega.{arith}
 use lib.Dec.{eqb}
-use lib.ListN.{length, take, drop, getD, length-append, length-map}
+use lib.ListN.{length, take, drop, getD, length-append}
 use lib.Seq.{length-take-le}
-use Rattle.code.specs.Definitions.Lists.{if_then_else_}
-use Rattle.code.specs.Laws.Lists.{map-at}
+use Rattle.code.specs.Definitions.Lists.{if_then_else_, table}
+use Rattle.code.specs.Laws.Lists.{length-table, getD-table}
 use Rattle.table.specs.Join.{join}
 use Rattle.printing.specs.Printed.{places}
 use Rattle.printing.specs.Puts.{Puts, Starts, starts}
 use Rattle.printing.specs.Fields.{following, fieldsTo, field-fits, field-put, all-put}
-use Rattle.turkish.specs.Types.{types, entryFor, matrix}
-use Rattle.turkish_matrix.specs.Printed.{lineOf, lines, opening, closing, printed}
+use Rattle.turkish.specs.Types.{types, matrix}
+use Rattle.turkish_matrix.specs.Printed.{lineOf, lineAt, lines, opening, closing, printed}
 use Rattle.turkish_matrix.specs.Printing.{second-fits, third-fits, three-put}
 
--- the line of each row
 abbrev pub allLines : List (List ℕ)
-allLines = map lineOf (matrix types)
-
-lines-count : length allLines ≡ length types
-lines-count = length-map (matrix types) lineOf ∙ length-map types (λ t. map (entryFor t) types)
+allLines = table lineAt (length types)
 
 -- Nothing parts the lines.
 unparted : (i : ℕ) (f : List ℕ) → following [] i f ≡ f
@@ -33,20 +29,20 @@ unparted i f = either (eqb i 0)
     either false = refl
 
 module _ (x : ℕ) (h : x < length types) {row : List ℕ} (is : row ≡ getD (matrix types) x []) where
-  line-at : following [] x (getD allLines x []) ≡ lineOf row
-  line-at = unparted x (getD allLines x []) ∙ map-at lineOf (matrix types) x [] [] (omega (arith, length-map types (λ t. map (entryFor t) types))) ∙ rw is
+  line-at : following [] x (getD allLines x []) ≡ lineOf x row
+  line-at = unparted x (getD allLines x []) ∙ getD-table lineAt (length types) x [] h ∙ rw is
 
   module _ {o p : List ℕ} {at next : ℕ} (before : Puts at (fieldsTo [] allLines x) o p next) where
-    pub line-fits : at + length lines ≤ length o → next + length (lineOf row) ≤ length p
+    pub line-fits : at + length lines ≤ length o → next + length (lineOf x row) ≤ length p
     unfolding lines
-    line-fits room = rw line-at at (field-fits [] allLines x before (omega (arith, lines-count)) room)
+    line-fits room = rw line-at at (field-fits [] allLines x before (omega (arith, length-table lineAt (length types))) room)
 
-    pub line-more : {q : List ℕ} {r : ℕ} → Puts next (lineOf row) p q r → Puts at (fieldsTo [] allLines (x + 1)) o q r
-    line-more put = field-put [] allLines x before (omega (arith, lines-count)) (rw line-at put)
+    pub line-more : {q : List ℕ} {r : ℕ} → Puts next (lineOf x row) p q r → Puts at (fieldsTo [] allLines (x + 1)) o q r
+    line-more put = field-put [] allLines x before (omega (arith, length-table lineAt (length types))) (rw line-at put)
 
 pub lines-all : (x : ℕ) → length types ≤ x → {o p : List ℕ} {at next : ℕ} → Puts at (fieldsTo [] allLines x) o p next → Puts at lines o p next
 unfolding lines
-lines-all x h before = all-put [] allLines x before (omega (arith, lines-count))
+lines-all x h before = all-put [] allLines x before (omega (arith, length-table lineAt (length types)))
 
 -- The whole table: what opens it, its lines, what closes it
 module _ (o : List ℕ) (room : length printed ≤ length o) where
@@ -70,8 +66,8 @@ module _ (o : List ℕ) (room : length printed ≤ length o) where
       table-put third = starts (three-put opening lines closing whole-fits first second third) room
 
 -- It has so many bytes, and they stand in the buffer.
-pub printed-long : length printed ≡ 659
-unfolding printed lines join places
+pub printed-long : length printed ≡ 719
+unfolding printed lines table join places
 printed-long = refl
 
 pub printed-part : {o p : List ℕ} {r : ℕ} → Starts printed o p r → (r ≤ length p) × (r ≡ length (take r p))

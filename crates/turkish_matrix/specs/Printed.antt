@@ -1,20 +1,27 @@
 -- The printed constant table as bytes: the matrix that the rules give, row by row.
 use mathlib.Core.List.{List, [], _∷_, _++_, map}
-use Prim.Native.Nat.{ℕ}
+use Prim.Native.Nat.{ℕ, _+_}
+use lib.ListN.{length, getD}
+use Rattle.code.specs.Definitions.Lists.{table}
 use Rattle.table.specs.Join.{join}
 use Rattle.printing.specs.Printed.{decimal}
 use Rattle.turkish.specs.Types.{types, matrix}
 
--- `    TypeRow([`, the entries parted by a comma and a space, `]),` and a line end
-abbrev pub lineOf : List ℕ → List ℕ
-lineOf row =
-    (32 ∷ 32 ∷ 32 ∷ 32 ∷ 84 ∷ 121 ∷ 112 ∷ 101 ∷ 82 ∷ 111 ∷ 119 ∷ 40 ∷ 91 ∷ [])
-    ++ join (44 ∷ 32 ∷ []) (map decimal row)
-    ++ (93 ∷ 41 ∷ 44 ∷ 10 ∷ [])
+-- `]), // `, the letter of type x, from A on, and a line end
+abbrev pub endOf : ℕ → List ℕ
+endOf x = (93 ∷ 41 ∷ 44 ∷ 32 ∷ 47 ∷ 47 ∷ 32 ∷ []) ++ ((65 + x) ∷ 10 ∷ [])
 
--- the lines of all rows
+-- `    TypeRow([`, the entries parted by a comma and a space, and what ends the line
+abbrev pub lineOf : ℕ → List ℕ → List ℕ
+lineOf x row = (32 ∷ 32 ∷ 32 ∷ 32 ∷ 84 ∷ 121 ∷ 112 ∷ 101 ∷ 82 ∷ 111 ∷ 119 ∷ 40 ∷ 91 ∷ []) ++ join (44 ∷ 32 ∷ []) (map decimal row) ++ endOf x
+
+-- the line of each row
+abbrev pub lineAt : ℕ → List ℕ
+lineAt x = lineOf x (getD (matrix types) x [])
+
+-- all lines
 unfoldable pub lines : List ℕ
-lines = join [] (map lineOf (matrix types))
+lines = join [] (table lineAt (length types))
 
 -- `pub const ROWS: [TypeRow; Types::COUNT] = [` and a line end
 abbrev pub opening : List ℕ

@@ -7,10 +7,11 @@ use printing::puts::put;
 use printing::puts::put_numbers;
 use rules::row_of;
 use turkish::Types;
-ghost use Prim.Native.Nat.{_+_, _≤_};
+ghost use Prim.Native.Nat.{_+_, _≤_, _<_};
 ghost use lib.ListN.{length};
 ghost use Rattle.printing.specs.Puts.{Puts, Starts};
-ghost use Rattle.turkish_matrix.specs.Printed.{lineOf, lines, printed};
+ghost use Rattle.turkish.specs.Types.{types};
+ghost use Rattle.turkish_matrix.specs.Printed.{endOf, lineOf, lines, printed};
 
 pub struct Output {}
 
@@ -19,14 +20,24 @@ impl Output {
     pub const BYTES: usize = 1024;
 }
 
-// The line of a row.
-fn put_line(out: &mut [u8], at: usize, row: &[u8]) -> usize
-    requires { ⌜ at + length (lineOf (now row)) ≤ length (now out) ⌝ }
-    ensures { λ r. ⌜ Puts at (lineOf (now (row .entry))) (now (out .entry)) (now (out .exit)) r ⌝ }
+// What ends the line of row x: the name of its type, as a comment.
+fn put_end(out: &mut [u8], at: usize, x: usize) -> usize
+    requires { ⌜ (x < length types) × (at + length (endOf x) ≤ length (now out)) ⌝ }
+    ensures { λ r. ⌜ Puts at (endOf x) (now (out .entry)) (now (out .exit)) r ⌝ }
+{
+    let name = put(out, at, b"]), // ");
+    let letter = [b'A' + x as u8, b'\n'];
+    put(out, name, &letter)
+}
+
+// The line of row x.
+fn put_line(out: &mut [u8], at: usize, x: usize, row: &[u8]) -> usize
+    requires { ⌜ (x < length types) × (at + length (lineOf x (now row)) ≤ length (now out)) ⌝ }
+    ensures { λ r. ⌜ Puts at (lineOf x (now (row .entry))) (now (out .entry)) (now (out .exit)) r ⌝ }
 {
     let first = put(out, at, b"    TypeRow([");
     let end = put_numbers(out, first, b", ", row);
-    put(out, end, b"]),\n")
+    put_end(out, end, x)
 }
 
 // The lines of all rows.
@@ -38,7 +49,7 @@ fn put_lines(out: &mut [u8], at: usize) -> usize
     let mut x: usize = 0;
     while x < Types::COUNT {
         let row = row_of(x);
-        next = put_line(out, next, &row);
+        next = put_line(out, next, x, &row);
         x += 1;
     }
     next

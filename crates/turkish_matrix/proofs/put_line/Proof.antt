@@ -1,4 +1,4 @@
--- What stands before the entries, the entries, and what stands behind them.
+-- What stands before the entries, the entries, and what ends the line.
 use Rattle.turkish_matrix.specs.Printing.{second-fits, third-fits, three-put}
 use borrow.Author.Needs.{needs}
 use Rattle.turkish_matrix.proofs.put_line.Statement.{statement}
@@ -7,8 +7,8 @@ use Rattle.turkish_matrix.proofs.put_line.Tie as tie
 put-numbers-requires : tie.Need-put-numbers-requires
 put-numbers-requires c κs = search second-fits
 
-put-requires-2 : tie.Need-put-requires-2
-put-requires-2 c κs = search third-fits
+put-end-requires : tie.Need-put-end-requires
+put-end-requires c κs = (search needs, search third-fits)
 
 returns : tie.Need-returns
 returns c = search three-put
@@ -21,7 +21,6 @@ put-line-spec =
     (λ c κs. search needs)
     (λ c. search needs)
     put-numbers-requires
-    (λ c. search needs)
-    put-requires-2
+    put-end-requires
     (λ c. search needs)
     returns)

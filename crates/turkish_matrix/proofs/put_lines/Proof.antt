@@ -2,7 +2,6 @@
 use mathlib.Core.Path.{_≡_, refl}
 use mathlib.Core.List.{[]}
 use Prim.Native.Nat.{_-_, _≤_}
-use native.Mathlib.Omega.{arith}
 use lib.ListN.{length}
 use Rattle.printing.specs.Fields.{fieldsTo, none-put}
 use Rattle.printing.specs.Puts.{Puts, puts-length}
@@ -24,7 +23,7 @@ loop-holds c = (search needs, refl, none-put [] allLines _ _)
 put-line-requires : tie.Need-put-line-requires Inv-loop μ-loop
 put-line-requires c κs =
     let l = c .before .before .before .before .loop in
-    line-fits (l .x) (search needs) (c .before .before .row-of .ensures) (l .inv .2) (c .before .before .before .before .before .before .pre)
+    (search needs, line-fits (l .x) (search needs) (c .before .before .row-of .ensures) (l .inv .2) (c .before .before .before .before .before .before .pre))
 
 loop-again : tie.Need-loop-again Inv-loop μ-loop
 loop-again c =

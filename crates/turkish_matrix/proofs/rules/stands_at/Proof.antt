@@ -1,7 +1,6 @@
 -- Within the word the symbol decides; past its end there is none.
 use native.Mathlib.Omega.{arith}
 use Rattle.turkish_matrix.specs.Rules.{stands-within, stands-past}
-use borrow.Author.Needs.{needs}
 use Rattle.turkish_matrix.proofs.rules.stands_at.Statement.{statement}
 use Rattle.turkish_matrix.proofs.rules.stands_at.Tie as tie
 
