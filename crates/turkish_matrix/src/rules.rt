@@ -50,11 +50,9 @@ fn entry_for(x: Word, y: Word) -> u8
     requires { ⌜ Spelt x × Spelt y ⌝ }
     ensures { λ r. ⌜ r ≡ entryFor (symbolsOf x) (symbolsOf y) ⌝ }
 {
-    if or(vowel_rule(x, y), consonant_rule(x, y)) {
-        0
-    } else {
-        1
-    }
+    let by_vowel = vowel_rule(x, y);
+    let by_consonants = consonant_rule(x, y);
+    if or(by_vowel, by_consonants) { 0 } else { 1 }
 }
 
 // Row x of the follow matrix.

@@ -22,7 +22,9 @@ entry-for-requires : tie.Need-entry-for-requires Inv-loop μ-loop
 entry-for-requires c κs =
     let s = c .before .before .before .before .before in
     let w = c .before .before .before .before .words .ensures in
-    (word-spelt (s .args .x) (s .pre) w, word-spelt (c .before .before .loop .y) (search needs) w)
+    let row = word-spelt (s .args .x) (s .pre) w in
+    let column = word-spelt (c .before .before .loop .y) (search needs) w in
+    search (row, column)
 
 loop-again : tie.Need-loop-again Inv-loop μ-loop
 loop-again c =
