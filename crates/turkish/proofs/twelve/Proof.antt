@@ -1,6 +1,7 @@
 -- The loop fills words, rows and start marks from the front; what stays blank is what the definition has past the types.
 use Prim.Native.Nat.{_-_, _≤_}
 use native.Mathlib.Omega.{arith}
+use lib.ListN.{length}
 use borrow.Author.Needs.{needs}
 use Rattle.turkish.specs.Types.{types}
 use Rattle.turkish.specs.Making.{Made, made-none, entries-long, made-more, made-all}
@@ -8,10 +9,10 @@ use Rattle.turkish.proofs.twelve.Statement.{statement}
 use Rattle.turkish.proofs.twelve.Tie as tie
 
 abbrev Inv-loop : tie.InvT-loop
-Inv-loop words rows code₀ x₀ code x = (x ≤ 12) × Made types code x
+Inv-loop words rows code₀ x₀ code x = (x ≤ length types) × Made types code x
 
 abbrev μ-loop : tie.MeasureT-loop
-μ-loop words rows code₀ x₀ code x = 12 - x
+μ-loop words rows code₀ x₀ code x = length types - x
 
 loop-holds : tie.Need-loop-holds Inv-loop μ-loop
 loop-holds c = (search needs, made-none (c .blank-code .ensures))

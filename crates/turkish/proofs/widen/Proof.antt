@@ -3,12 +3,13 @@ use mathlib.Core.Path.{refl}
 use Prim.Native.Nat.{_-_, _≤_}
 use lib.ListN.{length}
 use borrow.Author.Needs.{needs}
+use Rattle.code.specs.Definitions.Sheets.{limits}
 use Rattle.turkish.specs.Padding.{Padding, padding-none, padding-next, padding-all}
 use Rattle.turkish.proofs.widen.Statement.{statement}
 use Rattle.turkish.proofs.widen.Tie as tie
 
 abbrev Inv-loop : tie.InvT-loop
-Inv-loop entries row₀ y₀ row y = (y ≤ length entries) × Padding 0 entries 32 y (row .entries)
+Inv-loop entries row₀ y₀ row y = (y ≤ length entries) × Padding 0 entries (limits .words) y (row .entries)
 
 abbrev μ-loop : tie.MeasureT-loop
 μ-loop entries row₀ y₀ row y = length entries - y

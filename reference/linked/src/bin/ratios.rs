@@ -25,9 +25,10 @@ fn main() {
     let bench = Bench { span: Duration::from_secs_f64(seconds) };
     println!("| Operation | Input | Plain Rust | Proved, µs | Plain, µs | Ratio |");
     println!("|---|---|---|---|---|---|");
-    for name in ["turkish-six", "largest-unbounded"] {
+    for name in ["turkish-six", "turkish-twelve", "largest-unbounded"] {
         bench.take_in(name, &read_file(&sheets, name, "csv"));
     }
+    bench.turkish();
     for name in ["bans-delay", "bans-32-words"] {
         bench.enlarge(name, &read_code(&sheets, name), &read_file(&sheets, name, "bans"));
     }
@@ -119,6 +120,16 @@ impl Bench {
         };
         let plain = |timer: &mut Timer| timer.time(|| Reference.take_in(black_box(sheet)));
         self.row("take in", &format!("`{name}`, {} bytes", sheet.len()), "reference", proved, plain);
+    }
+
+    fn turkish(&self) {
+        let mut table = [0; TABLE_BYTES];
+        let proved = |timer: &mut Timer| {
+            table.fill(0);
+            timer.time(|| furlazon::turkish(&mut table));
+        };
+        let plain = |timer: &mut Timer| timer.time(|| Reference.turkish());
+        self.row("built-in code", "none", "reference", proved, plain);
     }
 
     fn enlarge(&self, name: &str, code: &Code, list: &[u8]) {
