@@ -104,6 +104,11 @@ fn try_refusals() {
     try_mark(u, 4, 1);
 }
 
+fn try_built_in() {
+    write_name(b"the twelve Turkish types, built in");
+    try_code(turkish::twelve());
+}
+
 fn main() {
     let count = os::arg_count();
     let mut i: usize = 1;
@@ -114,6 +119,5 @@ fn main() {
         i += 1;
     }
     try_refusals();
-    write_name(b"the twelve Turkish types, built in");
-    try_code(turkish::twelve());
+    try_built_in();
 }
