@@ -4,13 +4,13 @@ pub mod adding;
 pub mod filling;
 
 use adding::collect;
+use building::blank_code;
 use code::Code;
 use code::Enlarged;
 use code::Enlargement;
 use code::Refusal;
 use code::SheetAnswer;
 use filling::fill;
-use sheet::build::blank_code;
 ghost use mathlib.Core.Path.{_≡_};
 ghost use Prim.Native.Nat.{_*_, _≤_};
 ghost use lib.ListN.{length};

@@ -1,11 +1,8 @@
 // Taking in a code sheet: for every byte string the lowest refusal that holds, or the table that the sheet gives. Three passes over the bytes:
-// which bytes they are, what the records amount to, and, for an accepted sheet, the table.
+// which bytes they are (`records`), what the records amount to (`survey`), and, for an accepted sheet, the table (`building`).
 
-pub mod build;
-pub mod survey;
-
-use build::blank_code;
-use build::build;
+use building::blank_code;
+use building::build;
 use code::Refusal;
 use code::Sheet;
 use code::SheetAnswer;
