@@ -1,14 +1,12 @@
 -- What each exported function promises, for every input: the number it returns, and what each lent buffer then holds. A table's image that is too short to be
 -- read gets 13 by itself. Where the answer is too short, 13 holds beside the operation's own refusals, and no buffer changes. All else is the operation's answer.
 use mathlib.Core.Path.{_≡_}
-use mathlib.Core.List.{List, [], _∷_, _++_}
+use mathlib.Core.List.{List, []}
 use Prim.Native.Nat.{ℕ, _≤_, _<_, min}
 use lib.Dec.{ltb}
 use lib.ListN.{length}
 use Rattle.code.specs.declared.Enlarged.{Enlarged}
 use Rattle.code.specs.declared.Enlargement.{Enlargement}
-use Rattle.code.specs.declared.Refusal.{Refusal}
-use Rattle.code.specs.declared.Refusal.the-variants.{ShortBuffer}
 use Rattle.code.specs.declared.SheetAnswer.{SheetAnswer}
 use Rattle.code.specs.declared.SheetAnswer.the-variants.{Accepted, Refused}
 use Rattle.code.specs.declared.Encoding.{Encoding}
@@ -17,14 +15,12 @@ use Rattle.code.specs.declared.Judgement.{Judgement}
 use Rattle.code.specs.Definitions.Answers.{refusalNumber}
 use Rattle.code.specs.Definitions.Enlarged.{plainOf}
 use Rattle.code.specs.Definitions.Lists.{if_then_else_}
-use Rattle.code.specs.Definitions.Operations.{Condition, Lowest, written, encodingConditions, readingConditions, verdictConditions, Enlarges, Encodes, ReadsMessage, Judges}
+use Rattle.code.specs.Definitions.Operations.{written, encodingConditions, readingConditions, verdictConditions, Enlarges, Encodes, ReadsMessage, Judges}
 use Rattle.code.specs.Definitions.Sheets.{limits, taken}
 use Rattle.image.specs.Image.{imageLength, imageOf, enlargedIn}
 use Rattle.turkish.specs.Types.{types, codeOfTypes}
+use Rattle.untold.specs.Untold.{shortNumber, Untold}
 use Rattle.answers.specs.Answers.{answerLength, encodingNumber, encodingEntries, readingNumber, readingEntries, judgementNumber, judgementEntries}
-
-abbrev pub shortNumber : ℕ
-shortNumber = refusalNumber ShortBuffer
 
 -- Where the buffer for the table is too short, 13 holds beside the own refusal of a sheet or a ban list, which is below it or, from 15 on, above.
 abbrev pub sheetNumber : SheetAnswer → List ℕ → ℕ
@@ -53,16 +49,6 @@ TurkishCall b b′ r = Answered Accepted (plainOf limits (codeOfTypes limits typ
 pub data EnlargeCall (t s b b′ : List ℕ) (r : ℕ) : Type 0 where
   unread : length t < imageLength → r ≡ shortNumber → b′ ≡ b → EnlargeCall t s b b′ r
   answered : {x : Enlargement} → imageLength ≤ length t → Enlarges limits (enlargedIn t) s x → Answered (x .answer) (x .enlarged) b b′ r → EnlargeCall t s b b′ r
-
--- The answer is too short to be told, whatever the other buffers are.
-abbrev pub noAnswer : Condition
-noAnswer = record { refusal = ShortBuffer; holds = Unit }
-
--- The number of the lowest refusal where the answer is too short: the operation's own below 13, or 13.
-pub record Untold (conditions : List Condition) (r : ℕ) : Type 0 where
-  pub refusal : Refusal
-  pub lowest : Lowest (conditions ++ (noAnswer ∷ [])) refusal
-  pub number : r ≡ refusalNumber refusal
 
 -- Encoding the sequence s by the table in t into the buffer m, with the buffer a for the answer.
 pub data EncodeCall (t s m a m′ a′ : List ℕ) (r : ℕ) : Type 0 where

@@ -25,7 +25,8 @@ use Rattle.code.specs.Definitions.Sheets.{limits, taken}
 use Rattle.image.specs.Image.{imageLength, imageOf, enlargedIn}
 use Rattle.turkish.specs.Types.{types, codeOfTypes}
 use Rattle.answers.specs.Answers.{answerLength, encodingNumber, encodingEntries, readingNumber, readingEntries, judgementNumber, judgementEntries}
-use Rattle.furlazon.specs.Calls.{shortNumber, Answered, TakesIn, TurkishCall, EnlargeCall, Untold, EncodeCall, ReadCall, VerdictCall}
+use Rattle.untold.specs.Untold.{shortNumber, Untold}
+use Rattle.furlazon.specs.Calls.{Answered, TakesIn, TurkishCall, EnlargeCall, EncodeCall, ReadCall, VerdictCall}
 
 -- Answering a sheet or a ban list
 

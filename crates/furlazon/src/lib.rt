@@ -1,8 +1,6 @@
 // The operations for C and for Rust. A table crosses as its image, a flat run of bytes; an answer crosses as the number returned, 0 for a result or the
 // refusal's, and as entries of a lent buffer. include/furlazon.h declares these functions for C.
 
-pub mod untold;
-
 use answers::is_short;
 use answers::number;
 use answers::put_encoding;
@@ -24,7 +22,8 @@ ghost use lib.Dec.{ltb};
 ghost use Rattle.code.specs.declared.SheetAnswer.the-variants.{Accepted};
 ghost use Rattle.code.specs.Definitions.Lists.{if_then_else_};
 ghost use Rattle.image.specs.Image.{imageLength, Packable};
-ghost use Rattle.furlazon.specs.Calls.{shortNumber, Answered, TakesIn, TurkishCall, EnlargeCall, EncodeCall, ReadCall, VerdictCall};
+ghost use Rattle.untold.specs.Untold.{shortNumber};
+ghost use Rattle.furlazon.specs.Calls.{Answered, TakesIn, TurkishCall, EnlargeCall, EncodeCall, ReadCall, VerdictCall};
 
 // The lower of the refusal of a sheet or a ban list and 13, where a buffer of this length is too short for a table.
 fn lower(refusal: u64, table: usize) -> u64

@@ -16,7 +16,19 @@ use Rattle.code.specs.declared.Judgement.the-variants.{Judged, Refused as Not-j
 use Rattle.code.specs.Definitions.Answers.{refusalNumber}
 use Rattle.code.specs.Definitions.Operations.{Condition, Lowest, NoneHolds, encodingConditions, readingConditions, verdictConditions, Encodes, ReadsMessage, Judges}
 use Rattle.code.specs.Definitions.Sheets.{limits}
-use Rattle.furlazon.specs.Calls.{shortNumber, noAnswer, Untold}
+
+abbrev pub shortNumber : ℕ
+shortNumber = refusalNumber ShortBuffer
+
+-- The answer is too short to be told, whatever the other buffers are.
+abbrev pub noAnswer : Condition
+noAnswer = record { refusal = ShortBuffer; holds = Unit }
+
+-- The number of the lowest refusal where the answer is too short: the operation's own below 13, or 13.
+pub record Untold (conditions : List Condition) (r : ℕ) : Type 0 where
+  pub refusal : Refusal
+  pub lowest : Lowest (conditions ++ (noAnswer ∷ [])) refusal
+  pub number : r ≡ refusalNumber refusal
 
 lowest-more : (r : Refusal) (cs : List Condition) → Lowest cs r → Lowest (cs ++ (noAnswer ∷ [])) r
 lowest-more r [] h = absurd h

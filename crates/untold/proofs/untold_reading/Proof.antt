@@ -1,8 +1,8 @@
 -- With no room reading refuses.
-use Rattle.furlazon.specs.Untold.{untold-reading}
+use Rattle.untold.specs.Untold.{untold-reading}
 use borrow.Author.Needs.{needs}
-use Rattle.furlazon.proofs.untold.untold_reading.Statement.{statement}
-use Rattle.furlazon.proofs.untold.untold_reading.Tie as tie
+use Rattle.untold.proofs.untold_reading.Statement.{statement}
+use Rattle.untold.proofs.untold_reading.Tie as tie
 
 returns : tie.Need-returns
 returns c = untold-reading (c .before .before .before .before .before .before .before .read .ensures) (rw (c .before .before .e .given .1) (c .number .ensures))

@@ -1,8 +1,8 @@
 -- With no room the verdict is refused.
-use Rattle.furlazon.specs.Untold.{untold-verdict}
+use Rattle.untold.specs.Untold.{untold-verdict}
 use borrow.Author.Needs.{needs}
-use Rattle.furlazon.proofs.untold.untold_verdict.Statement.{statement}
-use Rattle.furlazon.proofs.untold.untold_verdict.Tie as tie
+use Rattle.untold.proofs.untold_verdict.Statement.{statement}
+use Rattle.untold.proofs.untold_verdict.Tie as tie
 
 returns : tie.Need-returns
 returns c = untold-verdict (c .before .before .before .before .before .before .before .before .verdict .ensures) (rw (c .before .before .e .given .1) (c .number .ensures))

@@ -1,8 +1,8 @@
 -- With no room encoding refuses, or its message is empty.
-use Rattle.furlazon.specs.Untold.{untold-encoding}
+use Rattle.untold.specs.Untold.{untold-encoding}
 use borrow.Author.Needs.{needs}
-use Rattle.furlazon.proofs.untold.untold_encoding.Statement.{statement}
-use Rattle.furlazon.proofs.untold.untold_encoding.Tie as tie
+use Rattle.untold.proofs.untold_encoding.Statement.{statement}
+use Rattle.untold.proofs.untold_encoding.Tie as tie
 
 returns : tie.Need-returns
 returns c = untold-encoding (c .before .before .before .before .before .encode .ensures) (rw (c .before .before .e .given .1) (c .number .ensures))

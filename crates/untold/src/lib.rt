@@ -10,7 +10,7 @@ use code::Refusal;
 ghost use mathlib.Core.List.{[]};
 ghost use Rattle.code.specs.Definitions.Operations.{encodingConditions, readingConditions, verdictConditions};
 ghost use Rattle.code.specs.Definitions.Sheets.{limits};
-ghost use Rattle.furlazon.specs.Calls.{Untold};
+ghost use Rattle.untold.specs.Untold.{Untold};
 
 pub fn untold_encoding(value: Enlarged, words: &[u8]) -> u64
     ensures { λ r. ⌜ Untold (encodingConditions limits value (now (words .entry)) []) r ⌝ }
