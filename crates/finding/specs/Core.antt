@@ -15,11 +15,11 @@ use Rattle.sets.specs.Sets.{SetsOf, Lays}
 use Rattle.marking.specs.Text.{From}
 use Rattle.marking.specs.Message.{text}
 use Rattle.marking.specs.Marks.{Marked}
-use Rattle.finding.specs.Firsts.{Only, FirstPair}
+use Rattle.choices.specs.Firsts.{Only, FirstPair}
 use Rattle.finding.specs.Readings.{from-reads, reads-from}
-use Rattle.finding.specs.Shown.{shown, from-shown, shown-from, marked-sure}
-use Rattle.finding.specs.Steps.{Walkable}
-use Rattle.finding.specs.Answers as Answers
+use Rattle.walks.specs.Shown.{shown, from-shown, shown-from, marked-sure}
+use Rattle.walks.specs.Steps.{Walkable}
+use Rattle.walks.specs.Answers as Answers
 
 -- The readings of m in the table t. f and g are the two buffers, f′ and g′ what they then hold.
 pub data Finds (t : Table) (m f g f′ g′ : List ℕ) : Reading → Type 0 where

@@ -1,10 +1,3 @@
-pub mod Firsts
-pub mod FirstWords
-pub mod Walks
 pub mod Readings
-pub mod Choices
-pub mod Shown
-pub mod Steps
-pub mod Answers
 pub mod Core
 pub mod Parts

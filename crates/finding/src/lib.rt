@@ -1,8 +1,5 @@
 // Finding the readings of a message in a plain code: whether no, one or several permitted sequences of words have it, and the first two of them.
 
-mod choices;
-mod walks;
-
 use code::Code;
 use code::Reading;
 use code::Word;
