@@ -21,9 +21,9 @@ use Rattle.shortest.specs.declared.Search.{Search}
 use Rattle.shortest.specs.declared.Search.the-variants.{Found, Nothing}
 use Rattle.shortest.specs.Contracts.{Answers}
 use Rattle.theory.specs.Searches.{search-least}
-use Rattle.decipher.specs.Delays.{DelayBy, finite, unbounded, Measured, delay-means}
+use Rattle.decipherable.specs.Delays.{DelayBy, finite, unbounded, Measured, delay-means}
 use Rattle.decipher.specs.Found.{was-nothing, found-least, found-written}
-use Rattle.decipher.specs.Twice.{ReadTwice, twice}
+use Rattle.ambiguous.specs.Twice.{ReadTwice, twice}
 
 -- The verdict and what the four buffers hold, as `Judges` has them: m, f, g and w are what they held, m′, f′, g′ and w′ what they hold.
 pub record Decided (t : Table) (m f g w m′ f′ g′ w′ : List ℕ) (v : Verdict) : Type 0 where

@@ -1,8 +1,6 @@
 pub mod Buffers
 pub mod Lengths
 pub mod Found
-pub mod Twice
-pub mod Delays
 pub mod Decided
 pub mod Ways
 pub mod Kinds

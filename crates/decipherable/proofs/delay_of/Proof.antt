@@ -1,7 +1,7 @@
 -- `delay_of` meets its contract: the test decides the case of its definition.
 use borrow.Author.Needs.{needs}
-use Rattle.decipher.proofs.delay_of.Statement.{statement}
-use Rattle.decipher.proofs.delay_of.Tie as tie
+use Rattle.decipherable.proofs.delay_of.Statement.{statement}
+use Rattle.decipherable.proofs.delay_of.Tie as tie
 
 returns : tie.Need-returns
 returns c = rw (c .if1 .taken)

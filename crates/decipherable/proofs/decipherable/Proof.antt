@@ -1,8 +1,8 @@
 -- `decipherable` meets its contract: the walk is as long as `delay_of` asks (`extent-low`), and each answer of the search gives its verdict.
 use borrow.Author.Needs.{needs}
-use Rattle.decipher.specs.Delays.{extent-low, measured-finite, measured-unbounded}
-use Rattle.decipher.proofs.decipherable.Statement.{statement}
-use Rattle.decipher.proofs.decipherable.Tie as tie
+use Rattle.decipherable.specs.Delays.{extent-low, measured-finite, measured-unbounded}
+use Rattle.decipherable.proofs.decipherable.Statement.{statement}
+use Rattle.decipherable.proofs.decipherable.Tie as tie
 
 delay-of-requires : tie.Need-delay-of-requires
 delay-of-requires c κs = search extent-low

@@ -2,9 +2,9 @@
 use borrow.Author.Needs.{needs}
 use mathlib.Core.Logic.{⊎-elim}
 use native.Mathlib.Omega.{arith}
-use Rattle.decipher.specs.Twice.{finds-two, finds-twice}
-use Rattle.decipher.proofs.ambiguous.Statement.{statement}
-use Rattle.decipher.proofs.ambiguous.Tie as tie
+use Rattle.ambiguous.specs.Twice.{finds-two, finds-twice}
+use Rattle.ambiguous.proofs.ambiguous.Statement.{statement}
+use Rattle.ambiguous.proofs.ambiguous.Tie as tie
 
 returns : tie.Need-returns
 returns c =

@@ -1,0 +1,35 @@
+// The verdict on an ambiguous code, from a message that has several readings.
+
+use code::Enlarged;
+use code::Reading;
+use code::SymbolCount;
+use code::Verdict;
+use reading::named::find_named;
+ghost use Prim.Native.Nat.{_≤_};
+ghost use lib.ListN.{length};
+ghost use Rattle.code.specs.Definitions.Enlarged.{originalTable};
+ghost use Rattle.code.specs.Definitions.Readings.{TwoReadings};
+ghost use Rattle.code.specs.Definitions.Sheets.{limits};
+ghost use Rattle.enlargements.specs.WellEnlarged.{WellEnlarged};
+ghost use Rattle.ambiguous.specs.Twice.{ReadTwice};
+
+// The verdict `ambiguous`, from a message that has several readings; the first two then stand in their buffers.
+pub fn ambiguous(
+    e: Enlarged,
+    message: &[u8],
+    first: &mut [u8],
+    second: &mut [u8],
+    work: &mut [u64],
+) -> Verdict
+    requires { ⌜ WellEnlarged limits e × TwoReadings (originalTable e) (now message) × (length (now message) ≤ 8256)
+        × (8256 ≤ length (now first)) × (8256 ≤ length (now second)) × (16384 ≤ length (now work)) ⌝ }
+    ensures { λ r. ⌜ ReadTwice (originalTable e) (now (message .entry)) (now (first .entry)) (now (second .entry)) (now (work .entry))
+        (now (first .exit)) (now (second .exit)) (now (work .exit)) r ⌝ }
+{
+    let n = message.len();
+    let Reading::Two(a, b) = find_named(e, message, first, second, work) else {
+        // not reached: the message has a second reading
+        return Verdict::Unbounded;
+    };
+    Verdict::Ambiguous(SymbolCount(n), a, b)
+}
