@@ -1,0 +1,10 @@
+pub mod Marks
+pub mod Stack
+pub mod Height
+pub mod State
+pub mod Transitions
+pub mod Pairs
+pub mod Search
+pub mod Pass
+pub mod Follow
+pub mod Advance
