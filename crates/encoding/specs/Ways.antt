@@ -17,9 +17,9 @@ use Rattle.code.specs.Definitions.Operations.{FromLists, HasUnknown, HasForbidd
 use Rattle.table.specs.Exactly.{Exactly}
 use Rattle.enlargements.specs.WellEnlarged.{WellEnlarged}
 use Rattle.enlargements.specs.Listed.{from-lists}
-use Rattle.encoding.specs.Messages.{messageOf}
-use Rattle.encoding.specs.Passes.{Known}
-use Rattle.encoding.specs.Originals.{Original, all-words, original-known, same-message}
+use Rattle.joining.specs.Messages.{messageOf}
+use Rattle.joining.specs.Passes.{Known}
+use Rattle.permitted.specs.Originals.{Original, all-words, original-known, same-message}
 
 module _ (l : Limits) {e : Enlarged} {t : Bool} (lists : Exactly t (FromLists l e)) where
   -- No sheet and list give the code: 8.

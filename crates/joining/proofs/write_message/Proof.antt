@@ -6,9 +6,9 @@ use lib.ListN.{length}
 use borrow.Author.Needs.{needs}
 use Rattle.code.specs.Definitions.Sheets.{limits}
 use Rattle.code.specs.Definitions.Operations.{written}
-use Rattle.encoding.specs.Passes.{messageBelow, known-number, known-short, length-more, write-room, write-more, write-whole}
-use Rattle.encoding.proofs.write_message.Statement.{statement}
-use Rattle.encoding.proofs.write_message.Tie as tie
+use Rattle.joining.specs.Passes.{messageBelow, known-number, known-short, length-more, write-room, write-more, write-whole}
+use Rattle.joining.proofs.write_message.Statement.{statement}
+use Rattle.joining.proofs.write_message.Tie as tie
 
 abbrev Inv-loop : tie.InvT-loop
 Inv-loop words message₀ code at₀ i₀ message at i =

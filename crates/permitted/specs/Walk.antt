@@ -19,7 +19,7 @@ use Rattle.enlargements.specs.Back.{original-size}
 use Rattle.enlargements.specs.Meaning.{Covers, value-covers}
 use Rattle.table.specs.Exactly.{Exactly, exactly-true, exactly-false}
 use Rattle.table.specs.Words.{size-count}
-use Rattle.encoding.specs.Originals.{Original}
+use Rattle.permitted.specs.Originals.{Original}
 
 -- the number of the word x after the word y
 abbrev pub nextIn : Enlarged → ℕ → ℕ → ℕ

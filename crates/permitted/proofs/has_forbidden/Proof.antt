@@ -4,9 +4,9 @@ use native.Mathlib.Omega.{arith}
 use lib.ListN.{length}
 use borrow.Author.Needs.{needs}
 use Rattle.code.specs.Definitions.Sheets.{limits}
-use Rattle.encoding.specs.Walk.{Walked, walk-begins, number-low, held-low, next-low, forbidden-empty, forbidden-opening, forbidden-here, walked-on, forbidden-nowhere}
-use Rattle.encoding.proofs.has_forbidden.Statement.{statement}
-use Rattle.encoding.proofs.has_forbidden.Tie as tie
+use Rattle.permitted.specs.Walk.{Walked, walk-begins, number-low, held-low, next-low, forbidden-empty, forbidden-opening, forbidden-here, walked-on, forbidden-nowhere}
+use Rattle.permitted.proofs.has_forbidden.Statement.{statement}
+use Rattle.permitted.proofs.has_forbidden.Tie as tie
 
 abbrev Inv-loop : tie.InvT-loop
 Inv-loop e words code origins behind last₀ i₀ last i = Walked e words i last

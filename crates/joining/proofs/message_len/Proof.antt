@@ -5,9 +5,9 @@ use native.Mathlib.Omega.{arith}
 use lib.ListN.{length}
 use borrow.Author.Needs.{needs}
 use Rattle.code.specs.Definitions.Sheets.{limits}
-use Rattle.encoding.specs.Passes.{messageBelow, known-number, known-short, length-more, length-over, length-whole}
-use Rattle.encoding.proofs.message_len.Statement.{statement}
-use Rattle.encoding.proofs.message_len.Tie as tie
+use Rattle.joining.specs.Passes.{messageBelow, known-number, known-short, length-more, length-over, length-whole}
+use Rattle.joining.proofs.message_len.Statement.{statement}
+use Rattle.joining.proofs.message_len.Tie as tie
 
 abbrev Inv-loop : tie.InvT-loop
 Inv-loop words code sum₀ i₀ sum i = (i ≤ length words) × (sum ≡ length (messageBelow code words i)) × (sum ≤ limits .message)

@@ -12,7 +12,7 @@ use Rattle.code.specs.Definitions.Tables.{symbolsOf, noWord, tableOf}
 use Rattle.code.specs.Definitions.Operations.{written}
 use Rattle.copying.specs.Copies.{paste-behind}
 use Rattle.table.specs.WellFormed.{WordFits, WellFormed}
-use Rattle.encoding.specs.Messages.{messageOf, message-more, message-all, message-part}
+use Rattle.joining.specs.Messages.{messageOf, message-more, message-all, message-part}
 use Rattle.table.specs.Words.{word-symbols, word-length}
 
 -- Each of the first i entries of s is below n.

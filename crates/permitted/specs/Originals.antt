@@ -15,8 +15,8 @@ use Rattle.code.specs.Definitions.Operations.{HasUnknown}
 use Rattle.enlargements.specs.WellEnlarged.{WellEnlarged}
 use Rattle.enlargements.specs.Back.{original-size}
 use Rattle.table.specs.Exactly.{Exactly, exactly-true, exactly-false}
-use Rattle.encoding.specs.Messages.{messageOf}
-use Rattle.encoding.specs.Passes.{WordsBelow, Known}
+use Rattle.joining.specs.Messages.{messageOf}
+use Rattle.joining.specs.Passes.{WordsBelow, Known}
 
 -- A well-enlarged value, and a sequence of its original words.
 pub record Original (l : Limits) (e : Enlarged) (s : List ℕ) : Type 0 where

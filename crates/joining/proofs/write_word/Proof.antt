@@ -4,8 +4,8 @@ use native.Mathlib.Omega.{arith}
 use lib.ListN.{length}
 use borrow.Author.Needs.{needs}
 use Rattle.code.specs.Definitions.Sheets.{limits}
-use Rattle.encoding.proofs.write_word.Statement.{statement}
-use Rattle.encoding.proofs.write_word.Tie as tie
+use Rattle.joining.proofs.write_word.Statement.{statement}
+use Rattle.joining.proofs.write_word.Tie as tie
 
 copy-at-requires : tie.Need-copy-at-requires
 copy-at-requires c κs = let long : length (c .before .before .before .before .args .w .symbols) ≡ limits .symbols = search needs in (omega arith, omega arith)

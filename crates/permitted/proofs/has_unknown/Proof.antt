@@ -4,10 +4,10 @@ use native.Mathlib.Omega.{arith}
 use lib.ListN.{length}
 use borrow.Author.Count.{below-none, below-more}
 use borrow.Author.Needs.{needs}
-use Rattle.encoding.specs.Passes.{WordsBelow}
-use Rattle.encoding.specs.Originals.{unknown-here, unknown-nowhere}
-use Rattle.encoding.proofs.has_unknown.Statement.{statement}
-use Rattle.encoding.proofs.has_unknown.Tie as tie
+use Rattle.joining.specs.Passes.{WordsBelow}
+use Rattle.permitted.specs.Originals.{unknown-here, unknown-nowhere}
+use Rattle.permitted.proofs.has_unknown.Statement.{statement}
+use Rattle.permitted.proofs.has_unknown.Tie as tie
 
 abbrev Inv-loop : tie.InvT-loop
 Inv-loop e words i₀ i = (i ≤ length words) × WordsBelow (e .originals) words i

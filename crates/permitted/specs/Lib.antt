@@ -1,0 +1,3 @@
+pub mod Originals
+pub mod Permitted
+pub mod Walk
