@@ -27,7 +27,7 @@ use Rattle.pairs.specs.OpenPairs.{open-finds}
 use Rattle.pairs.specs.RivalPairs.{Ended, some-parting, none-part, rival-shows}
 use Rattle.places.specs.Flat.{pairGraph}
 use Rattle.places.specs.Opens.{openGraph}
-use Rattle.places.specs.Rivals.{someRivals}
+use Rattle.rivals.specs.Rivals.{someRivals}
 use Rattle.places.specs.Whole.{LaidOut}
 use Rattle.theory.specs.Searches.{search-decipherable, search-delay, search-without-bound}
 

@@ -4,7 +4,7 @@ use code::Code;
 use code::SymbolCount;
 use code::Verdict;
 use delay::Extent;
-use places::rivals::some_rivals;
+use rivals::some_rivals;
 ghost use mathlib.Core.Path.{_≡_};
 ghost use Prim.Native.Nat.{_≤_};
 ghost use lib.ListN.{length};

@@ -1,8 +1,8 @@
 -- The first pair of rivals, and no pair of other words.
-use Rattle.places.specs.Rivals.{arrives-rivals, arrives-not}
+use Rattle.rivals.specs.Rivals.{arrives-rivals, arrives-not}
 use borrow.Author.Needs.{needs}
-use Rattle.places.proofs.rivals.rival_pair.Statement.{statement}
-use Rattle.places.proofs.rivals.rival_pair.Tie as tie
+use Rattle.rivals.proofs.rival_pair.Statement.{statement}
+use Rattle.rivals.proofs.rival_pair.Tie as tie
 
 returns : tie.Need-returns
 returns c =

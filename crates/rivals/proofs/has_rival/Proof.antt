@@ -3,11 +3,11 @@ use mathlib.Core.Path.{_≡_}
 use mathlib.Core.Bool.{false}
 use Prim.Native.Nat.{_-_, _≤_}
 use Rattle.code.specs.Laws.Below.{someBelow, none-yet, none-more}
 use Rattle.places.specs.Flat.{rivalsAt}
-use Rattle.places.specs.Rivals.{before-here, before-none}
+use Rattle.rivals.specs.Rivals.{before-here, before-none}
 use borrow.Author.Needs.{needs}
-use Rattle.places.proofs.rivals.has_rival.Statement.{statement}
-use Rattle.places.proofs.rivals.has_rival.Tie as tie
+use Rattle.rivals.proofs.has_rival.Statement.{statement}
+use Rattle.rivals.proofs.has_rival.Tie as tie
 
 abbrev Inv-loop : tie.InvT-loop
 Inv-loop places x y₀ y = (y ≤ x) × (someBelow (rivalsAt places x) y ≡ false)

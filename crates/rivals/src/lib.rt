@@ -1,16 +1,16 @@
 // Rivals: words that may both begin, or both follow the last word of one permitted sequence. They are where two sequences part.
 
-use crate::Layout;
-use crate::Pair;
-use crate::first_pair;
-use crate::may_come;
-use crate::word_count;
 use code::Code;
+use places::Layout;
+use places::Pair;
+use places::first_pair;
+use places::may_come;
+use places::word_count;
 ghost use mathlib.Core.Path.{_≡_};
 ghost use Prim.Native.Nat.{_≤_, _<_};
 ghost use Rattle.places.specs.Flat.{Laid, bothBehind, rivalsAt, firstNode};
-ghost use Rattle.places.specs.Rivals.{rivalBefore, someRivals};
+ghost use Rattle.rivals.specs.Rivals.{rivalBefore, someRivals};
 ghost use Rattle.places.specs.Steps.{Arrives};
 
 // Whether words `x` and `y` may both come behind `z`, which ends a permitted sequence or is the start.
 fn both_behind(places: &[u8], x: usize, y: usize, z: usize) -> bool

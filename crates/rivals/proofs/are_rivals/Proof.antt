@@ -1,10 +1,10 @@
 -- No word from `z` on, nor the start, lets both words come; at 0 none does.
 use Prim.Native.Nat.{_≤_}
 use Rattle.places.specs.Flat.{bothBehind}
-use Rattle.places.specs.Rivals.{NoneFrom, none-from, none-less, rivals-here, rivals-none}
+use Rattle.rivals.specs.Rivals.{NoneFrom, none-from, none-less, rivals-here, rivals-none}
 use borrow.Author.Needs.{needs}
-use Rattle.places.proofs.rivals.are_rivals.Statement.{statement}
-use Rattle.places.proofs.rivals.are_rivals.Tie as tie
+use Rattle.rivals.proofs.are_rivals.Statement.{statement}
+use Rattle.rivals.proofs.are_rivals.Tie as tie
 
 abbrev Inv-loop : tie.InvT-loop
 Inv-loop places x y z₀ z = (z ≤ 33) × NoneFrom (bothBehind places x y) z 33

@@ -3,10 +3,10 @@ use mathlib.Core.Path.{_≡_}
 use mathlib.Core.Bool.{false}
 use Prim.Native.Nat.{_-_, _≤_}
 use Rattle.code.specs.Laws.Below.{someBelow, none-yet, none-more}
-use Rattle.places.specs.Rivals.{rivalBefore, some-rivals-here, some-rivals-none}
+use Rattle.rivals.specs.Rivals.{rivalBefore, some-rivals-here, some-rivals-none}
 use borrow.Author.Needs.{needs}
-use Rattle.places.proofs.rivals.some_rivals.Statement.{statement}
-use Rattle.places.proofs.rivals.some_rivals.Tie as tie
+use Rattle.rivals.proofs.some_rivals.Statement.{statement}
+use Rattle.rivals.proofs.some_rivals.Tie as tie
 
 abbrev Inv-loop : tie.InvT-loop
 Inv-loop places n x₀ x = (x ≤ n) × (someBelow (rivalBefore places) x ≡ false)
