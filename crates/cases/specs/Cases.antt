@@ -9,7 +9,7 @@ use borrow.Author.Tests.{leb-true}
 use Rattle.code.specs.Definitions.Tables.{Table, size, word}
 use Rattle.code.specs.Definitions.Readings.{OnlyReading, Ambiguous, Decipherable}
 use Rattle.code.specs.Definitions.Delays.{Delay, WithoutBound}
-use Rattle.code.specs.Laws.Sequences.{NonEmpty, Plain}
+use Rattle.code.specs.Laws.Sequences.{NonEmpty, Free, Plain}
 use Rattle.theory.specs.Bounded.{everyBelow, every-below}
 use Rattle.cases.specs.Delays.{delayIs, isWithoutBound, delay-means, without-bound-means}
 use Rattle.cases.specs.Messages.{leastIs, ambiguous-means}
@@ -61,9 +61,13 @@ isMeant t (ambiguous m s u) = leastIs t m && firstTwoOf (readings t m) s u
 isMeant t (onlyReading m s) = onlyOf (readings t m) s
 
 -- The words are not empty, and the layers of pairs and the lists of readings show what is expected.
-unfoldable pub check : Case → Bool
+unfoldable pub checkTable : Table → Expected → Bool
 unfolding isNonEmpty isMeant
-check c = isNonEmpty (caseTable c) && isMeant (caseTable c) (c .expected)
+checkTable t x = isNonEmpty t && isMeant t x
+
+unfoldable pub check : Case → Bool
+unfolding checkTable
+check c = checkTable (caseTable c) (c .expected)
 
 pub non-empty : (t : Table) → isNonEmpty t ≡ true → NonEmpty t
 unfolding isNonEmpty
@@ -79,9 +83,14 @@ meant t plain (ambiguous m s u) e =
     ambiguous-means t plain (a .0) (first-two-means plain m s u (a .1))
 meant t plain (onlyReading m s) e = only-means plain m s e
 
--- A case that passes the check holds.
+-- A table without bans of three words that passes the check is as expected,
+pub sound-table : (t : Table) → Free t → (x : Expected) → checkTable t x ≡ true → Means t x
+unfolding checkTable
+sound-table t free x e =
+    let a = and-eq-true-iff (isNonEmpty t) (isMeant t x) .0 e in
+    meant t (record { some = non-empty t (a .0); free = free }) x (a .1)
+
+-- and a case that passes it holds.
 pub sound : (c : Case) → check c ≡ true → Holds c
 unfolding check
-sound c e =
-    let a = and-eq-true-iff (isNonEmpty (caseTable c)) (isMeant (caseTable c) (c .expected)) .0 e in
-    meant (caseTable c) (record { some = non-empty (caseTable c) (a .0); free = λ x y z. refl }) (c .expected) (a .1)
+sound c e = sound-table (caseTable c) (λ x y z. refl) (c .expected) e

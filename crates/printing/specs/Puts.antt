@@ -1,10 +1,11 @@
 -- Bytes put into a buffer from a place on: what two puts after one another store, and what a put at the start leaves.
-use mathlib.Core.Path.{_≡_, refl, ap, _∙_}
+use mathlib.Core.Path.{_≡_, refl, sym, ap, _∙_}
 use mathlib.Core.List.{List, [], _++_}
 use Prim.Native.Nat.{ℕ, _+_, _≤_}
 use native.Mathlib.Omega.{arith}
-use lib.ListN.{length, length-append}
-use lib.Seq.{sets, length-sets}
+use lib.ListN.{length, drop, length-append}
+use lib.Seq.{sets, length-sets, length-take-le}
+use Rattle.io.specs.Counts.{Counts}
 use Rattle.code.specs.Definitions.Operations.{written}
 use Rattle.copying.specs.Runs.{sets-behind, sets-front}
 
@@ -34,3 +35,9 @@ pub record Starts (text o o′ : List ℕ) (r : ℕ) : Type 0 where
 
 pub starts : {r : ℕ} {text o p : List ℕ} → Puts 0 text o p r → length text ≤ length o → Starts text o p r
 starts {r} {text} {o} {p} f h = record { count = omega (arith, f .end); out = f .out ∙ sets-front text o h }
+
+-- These bytes lie within the buffer.
+pub starts-counts : {r : ℕ} {text o p : List ℕ} → Starts text o p r → Counts r p
+starts-counts {r} {text} {o} {p} s =
+    let within : r ≤ length p = omega (arith, s .count, ap length (s .out), length-append text (drop (length text) o)) in
+    (within, sym (length-take-le r p within))

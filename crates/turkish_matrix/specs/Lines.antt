@@ -1,12 +1,11 @@
 -- The printed table, line by line: there is room for each line, and what stands there in the end is the whole.
-use mathlib.Core.Path.{_≡_, refl, sym, ap, _∙_}
+use mathlib.Core.Path.{_≡_, refl, _∙_}
 use mathlib.Core.Bool.{Bool, true, false}
 use mathlib.Core.List.{List, [], _++_}
 use Prim.Native.Nat.{ℕ, _+_, _≤_, _<_}
 use native.Mathlib.Omega.{arith}
 use lib.Dec.{eqb}
-use lib.ListN.{length, take, drop, getD, length-append}
-use lib.Seq.{length-take-le}
+use lib.ListN.{length, getD, length-append}
 use Rattle.code.specs.Definitions.Lists.{if_then_else_, table}
 use Rattle.code.specs.Laws.Lists.{length-table, getD-table}
 use Rattle.table.specs.Join.{join}
@@ -65,12 +64,7 @@ module _ (o : List ℕ) (room : length printed ≤ length o) where
       unfolding printed
       table-put third = starts (three-put opening lines closing whole-fits first second third) room
 
--- It has so many bytes, and they stand in the buffer.
+-- It has so many bytes.
 pub printed-long : length printed ≡ 719
 unfolding printed lines table join places
 printed-long = refl
-
-pub printed-part : {o p : List ℕ} {r : ℕ} → Starts printed o p r → (r ≤ length p) × (r ≡ length (take r p))
-printed-part {o} {p} {r} s =
-    let within : r ≤ length p = omega (arith, s .count, ap length (s .out), length-append printed (drop (length printed) o)) in
-    (within, sym (length-take-le r p within))

@@ -1,6 +1,6 @@
 -- 01's cases 11 and 12, of the codes that types and rules make. One statement, proved by computation, says that both pass the check of the crate `cases`.
 use mathlib.Core.Path.{_≡_, refl}
-use mathlib.Core.Bool.{Bool, true, _&&_, and-eq-true-iff}
+use mathlib.Core.Bool.{true, _&&_, and-eq-true-iff}
 use mathlib.Core.List.{List, [], _∷_}
 use Prim.Native.Nat.{ℕ}
 use lib.ListN.{take}
@@ -10,19 +10,8 @@ use Rattle.code.specs.Definitions.Lists.{table}
 use Rattle.code.specs.Definitions.Readings.{Ambiguous, Decipherable}
 use Rattle.code.specs.Definitions.Sheets.{limits}
 use Rattle.code.specs.Definitions.Tables.{tableOf}
-use Rattle.cases.specs.Cases.{Expected, ambiguous, delay, Means, isNonEmpty, isMeant, non-empty, meant}
+use Rattle.cases.specs.Cases.{Expected, ambiguous, delay, checkTable, sound-table}
 use Rattle.turkish.specs.Types.{types, padded, codeOfTypes}
-
--- The words of the code are not empty, and the layers of pairs and the lists of readings show what is expected.
-unfoldable pub checkCode : Code → Expected → Bool
-unfolding isNonEmpty isMeant
-checkCode c x = isNonEmpty (tableOf c) && isMeant (tableOf c) x
-
-checked-means : (c : Code) (x : Expected) → checkCode c x ≡ true → Means (tableOf c) x
-unfolding checkCode
-checked-means c x e =
-    let a = and-eq-true-iff (isNonEmpty (tableOf c)) (isMeant (tableOf c) x) .0 e in
-    meant (tableOf c) (record { some = non-empty (tableOf c) (a .0); free = λ a b c. refl }) x (a .1)
 
 -- the twelve types, and the first six
 abbrev pub twelve : Code
@@ -48,15 +37,15 @@ expectedTwelve = ambiguous messageTwelve firstTwelve secondTwelve
 abbrev pub expectedSix : Expected
 expectedSix = delay 5
 
-both-checked : (checkCode twelve expectedTwelve && checkCode six expectedSix) ≡ true
-unfolding checkCode table padded codeOfTypes
+both-checked : (checkTable (tableOf twelve) expectedTwelve && checkTable (tableOf six) expectedSix) ≡ true
+unfolding checkTable table padded codeOfTypes
 both-checked = refl
 
-each-checked : (checkCode twelve expectedTwelve ≡ true) × (checkCode six expectedSix ≡ true)
-each-checked = and-eq-true-iff (checkCode twelve expectedTwelve) (checkCode six expectedSix) .0 both-checked
+each-checked : (checkTable (tableOf twelve) expectedTwelve ≡ true) × (checkTable (tableOf six) expectedSix ≡ true)
+each-checked = and-eq-true-iff (checkTable (tableOf twelve) expectedTwelve) (checkTable (tableOf six) expectedSix) .0 both-checked
 
 pub twelve-ambiguous : Ambiguous (tableOf twelve) messageTwelve firstTwelve secondTwelve
-twelve-ambiguous = checked-means twelve expectedTwelve (each-checked .0)
+twelve-ambiguous = sound-table (tableOf twelve) (λ x y z. refl) expectedTwelve (each-checked .0)
 
 pub six-delay : Decipherable (tableOf six) × Delay (tableOf six) 5
-six-delay = checked-means six expectedSix (each-checked .1)
+six-delay = sound-table (tableOf six) (λ x y z. refl) expectedSix (each-checked .1)

@@ -5,7 +5,6 @@ use mathlib.Core.Logic.{⊎-elim}
 use Prim.Native.Nat.{ℕ, _≤_}
 use native.Mathlib.Omega.{arith}
 use lib.ListN.{length, drop, length-append}
-use lib.Seq.{length-take-le}
 use Rattle.io.specs.Counts.{Counts}
 use Rattle.code.specs.declared.Enlarged.{Enlarged}
 use Rattle.code.specs.declared.Enlargement.{Enlargement}
@@ -29,6 +28,7 @@ use Rattle.decipher.specs.Buffers.{marksRoom}
 use Rattle.table.specs.Given.{well}
 use Rattle.places.specs.Codes.{code-fits}
 use Rattle.printing.specs.Printed.{printed}
+use Rattle.printing.specs.Puts.{Starts, starts-counts}
 use Rattle.printing.specs.Prints.{lengthsOf, Symbols, Printable, Prints, all, none, result}
 use Rattle.meaning.specs.Alike.{same-reads}
 use Rattle.meaning.specs.Given.{tableWith, lists-alike}
@@ -152,7 +152,6 @@ answers sheet list m f g o o′ j s long (none unprintable out) = absurd (unprin
 
 -- The printed result lies within the output buffer.
 pub answer-counts : {sheet list o o′ : List ℕ} {r : ℕ} → Answers sheet list o o′ r → Counts r o′
-answer-counts {sheet} {list} {o} {o′} {r} a =
-    let text = printed (a .judgement) (a .message) (a .first) (a .second) in
-    let within : r ≤ length o′ = omega (arith, a .count, ap length (a .out), length-append text (drop (length text) o)) in
-    (within, sym (length-take-le r o′ within))
+answer-counts {o = o} {o′ = o′} {r = r} a =
+    let whole : Starts (printed (a .judgement) (a .message) (a .first) (a .second)) o o′ r = record { count = a .count; out = a .out } in
+    starts-counts whole

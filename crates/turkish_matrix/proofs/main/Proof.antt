@@ -1,5 +1,6 @@
 -- The buffer has room for the printed table, and what is written is at its start.
-use Rattle.turkish_matrix.specs.Lines.{printed-long, printed-part}
+use Rattle.printing.specs.Puts.{starts-counts}
+use Rattle.turkish_matrix.specs.Lines.{printed-long}
 use borrow.Author.Needs.{needs}
 use Rattle.turkish_matrix.proofs.main.Statement.{statement}
 use Rattle.turkish_matrix.proofs.main.Tie as tie
@@ -8,10 +9,10 @@ print-table-requires : tie.Need-print-table-requires
 print-table-requires c κs = search (needs, printed-long)
 
 array-share-prefix-out : tie.Need-array-share-prefix-out
-array-share-prefix-out c = printed-part (c .before .print-table .ensures) .0
+array-share-prefix-out c = starts-counts (c .before .print-table .ensures) .0
 
 slice-aggregate-write-all : tie.Need-slice-aggregate-write-all
-slice-aggregate-write-all c = printed-part (c .before .before .print-table .ensures) .1
+slice-aggregate-write-all c = starts-counts (c .before .before .print-table .ensures) .1
 
 pub main-spec : {M : Type 1} → statement M
 main-spec =
