@@ -1,6 +1,7 @@
 -- The rules as the code asks them, of words that hold a type.
 use mathlib.Core.Path.{_≡_, sym, ap, _∙_}
-use mathlib.Core.Bool.{Bool, false, _&&_}
+use mathlib.Core.Bool.{Bool, true, false, _&&_, _||_}
+use mathlib.Core.List.{List}
 use Prim.Native.Nat.{ℕ, _-_, _≤_, _<_}
 use native.Mathlib.Omega.{arith}
 use lib.Dec.{eqb}
@@ -10,7 +11,7 @@ use borrow.Author.Tests.{lt-ltb, le-ltb}
 use Rattle.code.specs.declared.Word.{Word}
 use Rattle.code.specs.Definitions.Tables.{symbolsOf}
 use Rattle.code.specs.Definitions.Sheets.{limits}
-use Rattle.turkish.specs.Types.{vowel, consonant, standsAt, vowelRule, consonantRule}
+use Rattle.turkish.specs.Types.{vowel, consonant, standsAt, vowelRule, consonantRule, forbids, entryFor}
 
 -- A word that has a symbol, and no more than there is room for.
 pub record Spelt (w : Word) : Type 0 where
@@ -41,3 +42,14 @@ module _ (x y : Word) (s : Spelt y) {a b r : Bool} where
   pub consonant-rule-is : {c d : Bool} → a ≡ standsAt (symbolsOf x) 0 consonant → b ≡ standsAt (symbolsOf x) 1 consonant → c ≡ standsAt (symbolsOf y) (y .len - 1) vowel
       → d ≡ (a && b) → r ≡ (d && c) → r ≡ consonantRule (symbolsOf x) (symbolsOf y)
   consonant-rule-is p q l m e = let last = l ∙ last-at s vowel in e ∙ rw (m, p, q, last)
+
+-- The entry, by what the two rules say
+module _ (x y : List ℕ) {a b r : Bool} (p : a ≡ vowelRule x y) (q : b ≡ consonantRule x y) (e : r ≡ (a || b)) where
+  either-forbids : r ≡ forbids x y
+  either-forbids = e ∙ rw (p, q)
+
+  pub entry-zero : r ≡ true → 0 ≡ entryFor x y
+  entry-zero t = let f = sym either-forbids ∙ t in rw f
+
+  pub entry-one : r ≡ false → 1 ≡ entryFor x y
+  entry-one t = let f = sym either-forbids ∙ t in rw f
