@@ -6,12 +6,11 @@ use mathlib.Core.List.{List, [], _∷_, _++_, map, flatMap, List·Memᴰ, List·
 use mathlib.Core.Logic.{_⊎_, inl, inr}
 use Prim.Native.Nat.{ℕ, zero, suc, _≤_, _<_}
 use native.Mathlib.Omega.{arith}
-use lib.ListN.{length, take, drop, length-append, take-append-drop}
+use lib.ListN.{length, take, drop, take-append-drop}
 use lib.Seq.{take-append-seam, drop-append-seam}
 use Rattle.code.specs.Definitions.Tables.{Table, size, word, Linked, none, one, more, Permitted, empty as nothing, message}
 use Rattle.code.specs.Definitions.Readings.{Reads}
-use Rattle.code.specs.Laws.Finite.{Within}
-use Rattle.code.specs.Laws.Sequences.{NonEmpty, Free, first-word, rest-linked, second-follows, linked-within, permitted-linked, first-begins, free-permitted}
+use Rattle.code.specs.Laws.Sequences.{NonEmpty, Free, first-word, rest-linked, second-follows, linked-within, permitted-linked, first-begins, free-permitted, words-most}
 use Rattle.cases.specs.Members.{empty, keep, keep-in, keep-out, numbers, numbers-in, numbers-out, flatMap-in, flatMap-out}
 use Rattle.cases.specs.Comparing.{equal, equal-true, equal-same}
 
@@ -141,16 +140,12 @@ module _ (t : Table) where
   linked-permitted free [] l b = nothing
   linked-permitted free (x ∷ s) l b = free-permitted free b l
 
-  words-most : NonEmpty t → (s : List ℕ) → Within (size t) s → length s ≤ length (message t s)
-  words-most ne [] w = omega arith
-  words-most ne (x ∷ s) w = simp length-append (omega (arith, ne x (w .0), words-most ne s (w .1)))
-
   -- Every reading of m is in the list.
   pub reading-in : NonEmpty t → {m s : List ℕ} → Reads t m s → List·Memᴰ s (readings m)
   unfolding readings
   reading-in ne {s = s} r =
       let linked = permitted-linked (r .permitted) in
-      let short = words-most ne s (linked-within linked) in
+      let short = words-most t ne s (linked-within linked) in
       subst (λ (l : List ℕ). List·Memᴰ s (readings l)) (r .joined) (readings-in (length (message t s)) (t .begins) s linked (permitted-begins s (r .permitted)) short)
 
   -- Without bans every member of the list is a reading of m.

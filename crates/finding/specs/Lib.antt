@@ -1,3 +1,4 @@
 pub mod Readings
 pub mod Core
+pub mod Counts
 pub mod Parts

@@ -8,7 +8,7 @@ use native.Mathlib.Omega.{arith}
 use lib.Dec.{eqb}
 use lib.ListN.{length, length-append}
 use borrow.Author.Tests.{eq-eqb, ne-eqb}
-use Rattle.code.specs.Definitions.Lists.{any, every, sum}
+use Rattle.code.specs.Definitions.Lists.{any, every, sum, join}
 use Rattle.code.specs.Definitions.Sheets.{isDigit, fields, grid, badBytes}
 use Rattle.code.specs.Definitions.Bans.{Ban, isBan, bannedBy}
 use Rattle.code.specs.Definitions.BanLists.{banOf, badBan, banRecords, refused16, bansOf}
@@ -16,7 +16,7 @@ use Rattle.code.specs.Laws.Clean.{bad-end, body-end}
 use Rattle.code.specs.Laws.Lists.{or-neither}
 use Rattle.copies.specs.BanLists.{Known, ban}
 use Rattle.copies.specs.Triples.{KnownBan}
-use Rattle.table.specs.Join.{join, isPlain, fields-join, records-join, bad-join, plain-join, length-join}
+use Rattle.table.specs.Join.{isPlain, fields-join, records-join, bad-join, plain-join, length-join}
 use Rattle.listing.specs.Numbers.{numberField, number-back, number-digits, number-short, number-known}
 
 abbrev crlf : List ℕ

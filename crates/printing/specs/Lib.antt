@@ -1,7 +1,7 @@
 pub mod Printed
 pub mod Decimals
-pub mod Puts
-pub mod Fields
+pub mod Starts
+pub mod Numbers
 pub mod Lengths
 pub mod Prints
 pub mod Rooms

@@ -6,10 +6,9 @@ use Rattle.io.specs.Digits.{digits}
 use Rattle.code.specs.declared.Verdict.the-variants.{Ambiguous as Two-ways, Finite, Unbounded}
 use Rattle.code.specs.declared.Judgement.{Judgement}
 use Rattle.code.specs.declared.Judgement.the-variants.{Judged, Refused as Not-judged}
-use Rattle.code.specs.Definitions.Lists.{if_then_else_}
+use Rattle.code.specs.Definitions.Lists.{if_then_else_, join}
 use Rattle.code.specs.Definitions.Answers.{refusalNumber}
 use Rattle.table.specs.Digits.{digitOf}
-use Rattle.table.specs.Join.{join}
 
 -- How many decimal digits n has: one more for each division by ten that leaves something, and k divisions are tried. Decimals shows that n divisions
 -- are enough, and that no fewer digits hold n.

@@ -9,11 +9,11 @@ use Rattle.code.specs.declared.SymbolCount.{SymbolCount}
 use Rattle.code.specs.declared.WordCount.{WordCount}
 use Rattle.code.specs.declared.Verdict.the-variants.{Ambiguous as Two-ways}
 use Rattle.code.specs.declared.Judgement.the-variants.{Judged}
+use Rattle.code.specs.Definitions.Lists.{join}
 use Rattle.table.specs.Digits.{digitOf}
-use Rattle.table.specs.Join.{join}
 use Rattle.printing.specs.Printed.{decimal, recordOf, ambiguous}
 use Rattle.printing.specs.Lengths.{length-pair, decimal-word}
-use Rattle.printing.specs.Puts.{Puts, Starts, puts-then, puts-length, starts}
+use Rattle.writing.specs.Puts.{Puts, Starts, puts-then, puts-length, starts}
 use Rattle.printing.specs.Prints.{Symbols, Printable, result}
 
 -- A word and a number

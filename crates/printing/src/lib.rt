@@ -7,10 +7,10 @@ use code::SymbolCount;
 use code::Verdict;
 use code::Word;
 use code::WordCount;
-use puts::put;
 use puts::put_decimal;
 use puts::put_digits;
 use puts::put_reading;
+use writing::put;
 ghost use mathlib.Core.Path.{_≡_};
 ghost use mathlib.Core.List.{[], _∷_, _++_, map};
 ghost use Prim.Native.Nat.{_+_, _≤_};
@@ -20,7 +20,7 @@ ghost use Rattle.code.specs.declared.Judgement.the-variants.{Judged};
 ghost use Rattle.table.specs.Digits.{digitOf};
 ghost use Rattle.table.specs.Exactly.{Exactly};
 ghost use Rattle.printing.specs.Printed.{decimal, recordOf, ambiguous};
-ghost use Rattle.printing.specs.Puts.{Puts, Starts};
+ghost use Rattle.writing.specs.Puts.{Puts, Starts};
 ghost use Rattle.printing.specs.Prints.{lengthsOf, needed, Symbols, Printable, result, Prints};
 
 // How much of the verdict's three buffers a judgement shows: symbols of the message, words of the first reading and of the second.

@@ -1,24 +1,16 @@
 // Texts put into a buffer one after another. Each function takes the place to put its text at and gives the place after it.
 
-use copying::copy_at;
+use writing::put;
 ghost use mathlib.Core.Path.{_≡_};
-ghost use mathlib.Core.List.{[], _∷_, map};
+ghost use mathlib.Core.List.{map};
 ghost use Prim.Native.Nat.{_+_, _*_, _≤_, _<_};
 ghost use lib.ListN.{length};
+ghost use Rattle.code.specs.Definitions.Lists.{join};
 ghost use Rattle.table.specs.Digits.{digitOf};
-ghost use Rattle.table.specs.Join.{join};
 ghost use Rattle.printing.specs.Printed.{decimal, recordOf};
-ghost use Rattle.printing.specs.Puts.{Puts};
-ghost use Rattle.printing.specs.Fields.{following};
+ghost use Rattle.writing.specs.Puts.{Puts};
+ghost use Rattle.writing.specs.Fields.{following};
 ghost use Rattle.printing.specs.Prints.{Symbols};
-
-pub fn put(out: &mut [u8], at: usize, bytes: &[u8]) -> usize
-    requires { ⌜ at + length (now bytes) ≤ length (now out) ⌝ }
-    ensures { λ r. ⌜ Puts at (now (bytes .entry)) (now (out .entry)) (now (out .exit)) r ⌝ }
-{
-    copy_at(out, at, bytes, bytes.len());
-    at + bytes.len()
-}
 
 // The digit of a symbol, as in a sheet.
 fn digit(symbol: u8) -> u8

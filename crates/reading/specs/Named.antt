@@ -2,24 +2,22 @@
 -- of original words (Matches); where there are no copies, each number is its own name.
 use mathlib.Core.Path.{_≡_, refl, sym, ap, ap₂, _∙_, subst, subst₂}
 use mathlib.Core.List.{List, [], _∷_, _++_, map}
-use Prim.Native.Nat.{ℕ, zero, suc, _≤_, _<_}
+use Prim.Native.Nat.{ℕ, _≤_, _<_}
 use native.Mathlib.Omega.{arith}
-use lib.ListN.{length, take, drop, getD, length-append, length-map, List·getD-append}
+use lib.ListN.{length, take, drop, getD, length-map}
 use lib.Seq.{take-at, drop-at}
 use Rattle.code.specs.declared.Code.{Code}
 use Rattle.code.specs.declared.Enlarged.{Enlarged}
 use Rattle.code.specs.declared.Limits.{Limits}
 use Rattle.code.specs.declared.Reading.{Reading}
-use Rattle.code.specs.declared.Reading.the-variants.{One, Two, Refused}
 use Rattle.code.specs.Definitions.Bans.{nextWord}
 use Rattle.code.specs.Definitions.Enlarged.{copiesIn, originalTable}
 use Rattle.code.specs.Definitions.Operations.{written}
 use Rattle.code.specs.Definitions.Readings.{Reads, OnlyReading, FirstTwo}
 use Rattle.code.specs.Definitions.Renumbering.{oldNumber, reordered, renumberedCode}
-use Rattle.code.specs.Definitions.Tables.{Table, size, tableOf}
+use Rattle.code.specs.Definitions.Tables.{size, tableOf}
 use Rattle.code.specs.Laws.Finite.{Within}
 use Rattle.code.specs.Laws.Lists.{getD-table}
-use Rattle.code.specs.Laws.Sequences.{linked-within, permitted-linked}
 use Rattle.copies.specs.Covers.{Cover}
 use Rattle.copies.specs.CoversSame.{cover-same}
 use Rattle.copies.specs.Matches.{named-none, named-only, named-first-two}
@@ -27,21 +25,11 @@ use Rattle.copies.specs.Renumbered.{Order, renumbered-covers}
 use Rattle.enlargements.specs.Meaning.{value-covers}
 use Rattle.enlargements.specs.WellEnlarged.{WellEnlarged}
 use Rattle.finding.specs.Core.{Finds, unreadable, one, two, FindsAll}
+use Rattle.finding.specs.Counts.{firstCount, secondCount, reads-within}
 use Rattle.renumbering.specs.Origins.{Origins, ByOrigin}
 use Rattle.renumbering.specs.Renumberings.{number-in, renumbered-fits, renumbered-agrees}
 use Rattle.table.specs.WellFormed.{WellFormed}
 use Rattle.table.specs.Words.{size-count}
-
--- how many words were read into the first buffer, and into the second
-abbrev pub firstCount : Reading → ℕ
-firstCount (One c) = c .0
-firstCount (Two c d) = c .0
-firstCount (Refused r) = 0
-
-abbrev pub secondCount : Reading → ℕ
-secondCount (One c) = 0
-secondCount (Two c d) = d .0
-secondCount (Refused r) = 0
 
 -- A buffer whose first n words have their names.
 abbrev pub renamed : List ℕ → ℕ → List ℕ → List ℕ
@@ -55,37 +43,6 @@ map-within n f g same (x ∷ s) w = ap₂ _∷_ (same x (w .0)) (map-within n f 
 map-own : (n : ℕ) (f : ℕ → ℕ) → ((x : ℕ) → x < n → f x ≡ x) → (s : List ℕ) → Within n s → map f s ≡ s
 map-own n f same [] w = refl
 map-own n f same (x ∷ s) w = ap₂ _∷_ (same x (w .0)) (map-own n f same s (w .1))
-
-within-at : (n : ℕ) (s : List ℕ) → Within n s → (i : ℕ) → i < length s → getD s i 0 < n
-within-at n [] w i h = absurd (omega arith)
-within-at n (x ∷ s) w zero h = w .0
-within-at n (x ∷ s) w (suc i) h = within-at n s (w .1) i (omega arith)
-
-reads-within : {t : Table} {m s : List ℕ} → Reads t m s → Within (size t) s
-reads-within r = linked-within (permitted-linked (r .permitted))
-
--- The first c entries of a buffer are numbers below n.
-abbrev pub WordsTo : ℕ → ℕ → List ℕ → Type 0
-WordsTo n c b = (c ≤ length b) × ((i : ℕ) → i < c → getD b i 0 < n)
-
-module _ {t : Table} (n : ℕ) (known : size t ≤ n) where
-  words-written : {m b′ : List ℕ} {c : ℕ} (s b : List ℕ) → Reads t m s → c ≡ length s → b′ ≡ written s b → WordsTo n c b′
-  words-written s b r e p =
-      rw p (
-        omega (arith, length-append s (drop (length s) b)),
-        λ i h. rw (List·getD-append s (drop (length s) b) 0 i (omega arith)) (omega (arith, within-at (size t) s (reads-within r) i (omega arith))),
-      )
-
-  -- What was read stands in the buffers.
-  pub first-words : {m f g f′ g′ : List ℕ} {r : Reading} → Finds t m f g f′ g′ r → WordsTo n (firstCount r) f′
-  first-words (unreadable o p q) = (omega arith, λ i h. absurd (omega arith))
-  first-words {f = f} (one {s = s} o e p q) = words-written s f (o .reads) e p
-  first-words {f = f} (two {s = s} o e d p q) = words-written s f (o .first) e p
-
-  pub second-words : {m f g f′ g′ : List ℕ} {r : Reading} → Finds t m f g f′ g′ r → WordsTo n (secondCount r) g′
-  second-words (unreadable o p q) = (omega arith, λ i h. absurd (omega arith))
-  second-words (one o e p q) = (omega arith, λ i h. absurd (omega arith))
-  second-words {g = g} (two {u = u} o e d p q) = words-written u g (o .second) d q
 
 -- Names in place of the words of a reading
 renamed-written : (names : List ℕ) {c : ℕ} {b′ b″ : List ℕ} (s b : List ℕ) → c ≡ length s → b′ ≡ written s b → b″ ≡ renamed names c b′ → b″ ≡ written (map (λ (x : ℕ). getD names x 0) s) b

@@ -15,7 +15,7 @@ ghost use Rattle.code.specs.Definitions.Enlarged.{originalTable};
 ghost use Rattle.code.specs.Definitions.Sheets.{limits};
 ghost use Rattle.enlargements.specs.WellEnlarged.{WellEnlarged};
 ghost use Rattle.finding.specs.Core.{FindsAll};
-ghost use Rattle.reading.specs.Named.{firstCount, secondCount};
+ghost use Rattle.finding.specs.Counts.{firstCount, secondCount};
 
 // How many words of the first buffer were read.
 fn first_count(r: Reading) -> usize

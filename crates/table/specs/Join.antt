@@ -7,14 +7,9 @@ use native.Mathlib.Omega.{arith}
 use lib.Dec.{eqb}
 use lib.ListN.{length, length-append}
 use borrow.Author.Tests.{eqb-true}
-use Rattle.code.specs.Definitions.Lists.{every, sum}
+use Rattle.code.specs.Definitions.Lists.{every, sum, join}
 use Rattle.code.specs.Definitions.Sheets.{isDigit, push, records, fields, badBytes}
 use Rattle.code.specs.Laws.Clean.{digit-other, records-digit, records-comma, records-line, fields-digit, fields-comma}
-
-unfoldable pub join : List ℕ → List (List ℕ) → List ℕ
-join sep [] = []
-join sep (f ∷ []) = f
-join sep (f ∷ g ∷ fs) = f ++ (sep ++ join sep (g ∷ fs))
 
 module _ (part : List ℕ → List (List ℕ)) (sep : List ℕ) (good : ℕ → Bool) (none : part [] ≡ [] ∷ []) (cut : (s : List ℕ) → part (sep ++ s) ≡ [] ∷ part s)
     (grow : (a : ℕ) (s : List ℕ) → good a ≡ true → part (a ∷ s) ≡ push a (part s)) where

@@ -3,10 +3,9 @@ use mathlib.Core.List.{List, [], _∷_, _++_, map}
 use Prim.Native.Nat.{ℕ}
 use lib.ListN.{getD}
 use Rattle.code.specs.declared.Code.{Code}
-use Rattle.code.specs.Definitions.Lists.{table}
+use Rattle.code.specs.Definitions.Lists.{table, join}
 use Rattle.code.specs.Definitions.Tables.{noWord, symbolsOf, entryOf}
 use Rattle.table.specs.Digits.{digitOf}
-use Rattle.table.specs.Join.{join}
 
 module _ (c : Code) where
   abbrev pub wordField : ℕ → List ℕ

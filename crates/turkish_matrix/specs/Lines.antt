@@ -6,12 +6,11 @@ use Prim.Native.Nat.{ℕ, _+_, _≤_, _<_}
 use native.Mathlib.Omega.{arith}
 use lib.Dec.{eqb}
 use lib.ListN.{length, getD, length-append}
-use Rattle.code.specs.Definitions.Lists.{if_then_else_, table}
+use Rattle.code.specs.Definitions.Lists.{if_then_else_, table, join}
 use Rattle.code.specs.Laws.Lists.{length-table, getD-table}
-use Rattle.table.specs.Join.{join}
 use Rattle.printing.specs.Printed.{places}
-use Rattle.printing.specs.Puts.{Puts, Starts, starts}
-use Rattle.printing.specs.Fields.{following, fieldsTo, field-fits, field-put, all-put}
+use Rattle.writing.specs.Puts.{Puts, Starts, starts}
+use Rattle.writing.specs.Fields.{following, fieldsTo, field-fits, field-put, all-put}
 use Rattle.turkish.specs.Types.{types, matrix}
 use Rattle.turkish_matrix.specs.Printed.{lineOf, lineAt, lines, opening, closing, printed}
 use Rattle.turkish_matrix.specs.Printing.{second-fits, third-fits, three-put}

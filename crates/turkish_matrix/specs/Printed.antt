@@ -2,8 +2,7 @@
 use mathlib.Core.List.{List, [], _∷_, _++_, map}
 use Prim.Native.Nat.{ℕ, _+_}
 use lib.ListN.{length, getD}
-use Rattle.code.specs.Definitions.Lists.{table}
-use Rattle.table.specs.Join.{join}
+use Rattle.code.specs.Definitions.Lists.{table, join}
 use Rattle.printing.specs.Printed.{decimal}
 use Rattle.turkish.specs.Types.{types, matrix}
 

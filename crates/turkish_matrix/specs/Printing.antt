@@ -3,7 +3,7 @@ use mathlib.Core.List.{List, _++_}
 use Prim.Native.Nat.{ℕ, _+_, _≤_}
 use native.Mathlib.Omega.{arith}
 use lib.ListN.{length, length-append}
-use Rattle.printing.specs.Puts.{Puts, puts-then, puts-length}
+use Rattle.writing.specs.Puts.{Puts, puts-then, puts-length}
 
 module _ (x y z : List ℕ) {at : ℕ} {o : List ℕ} (room : at + length (x ++ y ++ z) ≤ length o) where
   module _ {k : ℕ} {p : List ℕ} (first : Puts at x o p k) where

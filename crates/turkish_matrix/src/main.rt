@@ -3,13 +3,13 @@
 mod rules;
 
 use libc::STDOUT_FILENO;
-use printing::puts::put;
 use printing::puts::put_numbers;
 use rules::row_of;
 use turkish::Types;
+use writing::put;
 ghost use Prim.Native.Nat.{_+_, _≤_, _<_};
 ghost use lib.ListN.{length};
-ghost use Rattle.printing.specs.Puts.{Puts, Starts};
+ghost use Rattle.writing.specs.Puts.{Puts, Starts};
 ghost use Rattle.turkish.specs.Types.{types};
 ghost use Rattle.turkish_matrix.specs.Printed.{endOf, lineOf, lines, printed};
 

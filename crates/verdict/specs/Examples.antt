@@ -14,7 +14,7 @@ use Rattle.code.specs.declared.Taken.{Taken}
 use Rattle.code.specs.declared.Verdict.the-variants.{Ambiguous as Two-ways, Finite}
 use Rattle.code.specs.declared.Judgement.{Judgement}
 use Rattle.code.specs.declared.Judgement.the-variants.{Judged}
-use Rattle.code.specs.Definitions.Lists.{any, every, table, sum}
+use Rattle.code.specs.Definitions.Lists.{any, every, table, sum, join}
 use Rattle.code.specs.Definitions.Bans.{Ban, hasCopy, copiesFrom}
 use Rattle.code.specs.Definitions.BanLists.{decimal, numberOf, isNumber, badBan, banRecords, refused16, bansOf}
 use Rattle.code.specs.Definitions.Enlarged.{plainOf, enlargedCode, refused17}
@@ -24,7 +24,6 @@ use Rattle.code.specs.Definitions.Tables.{tableOf}
 use Rattle.code.specs.Laws.Sequences.{Plain}
 use Rattle.table.specs.Given.{well}
 use Rattle.table.specs.Digits.{digitOf}
-use Rattle.table.specs.Join.{join}
 use Rattle.places.specs.Codes.{code-fits}
 use Rattle.cases.specs.Banned.{checkWith, sound-with}
 use Rattle.cases.specs.Cases.{delay}

@@ -28,7 +28,8 @@ use Rattle.decipher.specs.Buffers.{marksRoom}
 use Rattle.table.specs.Given.{well}
 use Rattle.places.specs.Codes.{code-fits}
 use Rattle.printing.specs.Printed.{printed}
-use Rattle.printing.specs.Puts.{Starts, starts-counts}
+use Rattle.printing.specs.Starts.{starts-counts}
+use Rattle.writing.specs.Puts.{Starts}
 use Rattle.printing.specs.Prints.{lengthsOf, Symbols, Printable, Prints, all, none, result}
 use Rattle.meaning.specs.Alike.{same-reads}
 use Rattle.meaning.specs.Given.{tableWith, lists-alike}

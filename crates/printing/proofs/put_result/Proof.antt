@@ -1,6 +1,6 @@
 -- A verdict has its records, a refusal its number.
-use Rattle.table.specs.Join.{join}
 use borrow.Author.Needs.{needs}
+use Rattle.code.specs.Definitions.Lists.{join}
 use Rattle.printing.proofs.put_result.Statement.{statement}
 use Rattle.printing.proofs.put_result.Tie as tie
 

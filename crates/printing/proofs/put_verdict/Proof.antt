@@ -1,7 +1,7 @@
 -- Each kind of verdict has its records.
 use native.Mathlib.Omega.{arith}
-use Rattle.table.specs.Join.{join}
-use Rattle.printing.specs.Puts.{starts}
+use Rattle.code.specs.Definitions.Lists.{join}
+use Rattle.writing.specs.Puts.{starts}
 use borrow.Author.Needs.{needs}
 use Rattle.printing.proofs.put_verdict.Statement.{statement}
 use Rattle.printing.proofs.put_verdict.Tie as tie

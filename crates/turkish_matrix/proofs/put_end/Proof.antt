@@ -1,5 +1,5 @@
 -- What closes the entries, and the letter with a line end.
-use Rattle.printing.specs.Puts.{puts-then}
+use Rattle.writing.specs.Puts.{puts-then}
 use borrow.Author.Needs.{needs}
 use Rattle.turkish_matrix.proofs.put_end.Statement.{statement}
 use Rattle.turkish_matrix.proofs.put_end.Tie as tie

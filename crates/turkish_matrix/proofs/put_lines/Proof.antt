@@ -3,8 +3,8 @@ use mathlib.Core.Path.{_≡_, refl}
 use mathlib.Core.List.{[]}
 use Prim.Native.Nat.{_-_, _≤_}
 use lib.ListN.{length}
-use Rattle.printing.specs.Fields.{fieldsTo, none-put}
-use Rattle.printing.specs.Puts.{Puts, puts-length}
+use Rattle.writing.specs.Fields.{fieldsTo, none-put}
+use Rattle.writing.specs.Puts.{Puts, puts-length}
 use Rattle.turkish.specs.Types.{types}
 use Rattle.turkish_matrix.specs.Lines.{allLines, line-fits, line-more, lines-all}
 use borrow.Author.Needs.{needs}

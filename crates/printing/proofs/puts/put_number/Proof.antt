@@ -3,7 +3,7 @@ use native.Mathlib.Omega.{arith}
 use lib.ListN.{length-append}
 use borrow.Author.Tests.{eq-eqb, ne-eqb}
 use Rattle.printing.specs.Printed.{decimal}
-use Rattle.printing.specs.Puts.{puts-then, puts-length}
+use Rattle.writing.specs.Puts.{puts-then, puts-length}
 use borrow.Author.Needs.{needs}
 use Rattle.printing.proofs.puts.put_number.Statement.{statement}
 use Rattle.printing.proofs.puts.put_number.Tie as tie

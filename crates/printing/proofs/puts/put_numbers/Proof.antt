@@ -6,8 +6,9 @@ use mathlib.Core.List.{map}
 use Prim.Native.Nat.{_≤_, _-_}
 use lib.ListN.{length, length-map}
 use Rattle.printing.specs.Printed.{decimal}
-use Rattle.printing.specs.Puts.{Puts}
-use Rattle.printing.specs.Fields.{fieldsTo, none-put, field-fits, field-put, all-put, number-at}
+use Rattle.writing.specs.Puts.{Puts}
+use Rattle.writing.specs.Fields.{fieldsTo, none-put, field-fits, field-put, all-put}
+use Rattle.printing.specs.Numbers.{number-at}
 use Rattle.printing.proofs.puts.put_numbers.Statement.{statement}
 use Rattle.printing.proofs.puts.put_numbers.Tie as tie
 

@@ -2,7 +2,7 @@
 use borrow.Author.Needs.{needs}
 use native.Mathlib.Omega.{arith}
 use Rattle.printing.specs.Lengths.{length-numbers}
-use Rattle.printing.specs.Puts.{puts-then, puts-length}
+use Rattle.writing.specs.Puts.{puts-then, puts-length}
 use Rattle.printing.proofs.puts.put_reading.Statement.{statement}
 use Rattle.printing.proofs.puts.put_reading.Tie as tie
 

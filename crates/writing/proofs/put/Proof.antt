@@ -2,8 +2,8 @@
 use borrow.Author.Needs.{needs}
 use mathlib.Core.Path.{refl, _∙_}
 use Rattle.copying.specs.Copies.{paste-all}
-use Rattle.printing.proofs.puts.put.Statement.{statement}
-use Rattle.printing.proofs.puts.put.Tie as tie
+use Rattle.writing.proofs.put.Statement.{statement}
+use Rattle.writing.proofs.put.Tie as tie
 
 returns : tie.Need-returns
 returns c =

@@ -1,6 +1,6 @@
 -- Fields written one by one: each but the first follows what parts them.
 use mathlib.Core.Path.{_≡_, refl, ap, _∙_}
-use mathlib.Core.List.{List, [], _∷_, _++_, map, append-assoc, append-nil}
+use mathlib.Core.List.{List, [], _∷_, _++_, append-assoc, append-nil}
 use Prim.Native.Nat.{ℕ, suc, _+_, _≤_, _<_}
 use native.Mathlib.Omega.{arith}
 use native.Mathlib.Numerals.{add-one}
@@ -8,11 +8,8 @@ use lib.Dec.{eqb}
 use lib.ListN.{length, take, drop, getD, length-append, take-append-drop}
 use lib.Seq.{length-take-le, take-suc, take-all}
 use borrow.Author.Tests.{ne-eqb}
-use Rattle.code.specs.Definitions.Lists.{if_then_else_}
-use Rattle.code.specs.Laws.Lists.{map-at}
-use Rattle.table.specs.Join.{join}
-use Rattle.printing.specs.Printed.{decimal}
-use Rattle.printing.specs.Puts.{Puts, puts-then, puts-none, puts-length}
+use Rattle.code.specs.Definitions.Lists.{if_then_else_, join}
+use Rattle.writing.specs.Puts.{Puts, puts-then, puts-none, puts-length}
 
 -- field i of a record, with what parts it from the field before
 abbrev pub following : (sep : List ℕ) → ℕ → List ℕ → List ℕ
@@ -62,7 +59,3 @@ module _ (sep : List ℕ) where
 
     pub all-put : length fs ≤ i → Puts at (join sep fs) o p next
     all-put h = rw (take-all i fs h) at before
-
--- number i of some, in decimal
-pub number-at : (s : List ℕ) (i : ℕ) → i < length s → getD (map decimal s) i [] ≡ decimal (getD s i 0)
-number-at s i h = map-at decimal s i [] 0 h

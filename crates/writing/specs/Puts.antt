@@ -1,11 +1,10 @@
 -- Bytes put into a buffer from a place on: what two puts after one another store, and what a put at the start leaves.
-use mathlib.Core.Path.{_≡_, refl, sym, ap, _∙_}
-use mathlib.Core.List.{List, [], _++_}
+use mathlib.Core.Path.{_≡_, refl, ap, _∙_}
+use mathlib.Core.List.{List, [], _∷_, _++_}
 use Prim.Native.Nat.{ℕ, _+_, _≤_}
 use native.Mathlib.Omega.{arith}
-use lib.ListN.{length, drop, length-append}
-use lib.Seq.{sets, length-sets, length-take-le}
-use Rattle.io.specs.Counts.{Counts}
+use lib.ListN.{length, set, length-append}
+use lib.Seq.{sets, length-sets}
 use Rattle.code.specs.Definitions.Operations.{written}
 use Rattle.copying.specs.Runs.{sets-behind, sets-front}
 
@@ -21,6 +20,10 @@ puts-then {at} {m} {r} {x} {y} {o} {p} {q} f g = record {
   out = g .out ∙ rw (f .out) (sets-behind x y o at m (f .end));
 }
 
+-- one byte stored
+pub puts-one : (at a : ℕ) (o : List ℕ) → Puts at (a ∷ []) o (set o at a) (at + 1)
+puts-one at a o = record { end = omega arith; out = refl }
+
 pub puts-none : (at : ℕ) (o : List ℕ) → Puts at [] o o at
 puts-none at o = record { end = omega arith; out = refl }
 
@@ -35,9 +38,3 @@ pub record Starts (text o o′ : List ℕ) (r : ℕ) : Type 0 where
 
 pub starts : {r : ℕ} {text o p : List ℕ} → Puts 0 text o p r → length text ≤ length o → Starts text o p r
 starts {r} {text} {o} {p} f h = record { count = omega (arith, f .end); out = f .out ∙ sets-front text o h }
-
--- These bytes lie within the buffer.
-pub starts-counts : {r : ℕ} {text o p : List ℕ} → Starts text o p r → Counts r p
-starts-counts {r} {text} {o} {p} s =
-    let within : r ≤ length p = omega (arith, s .count, ap length (s .out), length-append text (drop (length text) o)) in
-    (within, sym (length-take-le r p within))

@@ -1,0 +1,1 @@
+// What the definition of splitting a text implies: theorems alone, in specs/.
