@@ -8,12 +8,13 @@ use lib.Seq.{length-take-le}
 use Rattle.code.specs.declared.WordCount.{WordCount}
 use Rattle.code.specs.Definitions.Lists.{join}
 use Rattle.code.specs.Definitions.Texts.{syllableBreak, syllables}
-use Rattle.texts.specs.Lengths.{joined-most}
+use Rattle.texts.specs.Lengths.{joined-most, bracketed-length}
 use Rattle.writing.specs.Puts.{Puts}
+use Rattle.syllables.specs.declared.Kind.{Kind}
 use Rattle.syllables.specs.declared.Kind.the-variants.{Split, None, Several}
 use Rattle.syllables.specs.declared.TextWord.{TextWord}
 use Rattle.syllables.specs.Lengths.{lengthsIn, lengths-count}
-use Rattle.syllables.specs.Words.{lettersOf, shownAs, Syllabled, ReadAs, Showable}
+use Rattle.syllables.specs.Words.{lettersOf, shownAs, Syllabled, ReadAs, KindFits, Showable}
 
 -- the letters as the code takes them, from the word's offset to its end
 abbrev pub stretch : List ℕ → TextWord → List ℕ
@@ -50,6 +51,15 @@ module _ {w : TextWord} {lengths reading s : List ℕ} (h : Showable w lengths r
     pub split-shown : {at r : ℕ} {o p : List ℕ} → Puts at (join (syllableBreak ∷ []) (syllables (lengthsIn lengths (take (c .0) reading)) (stretch s w))) o p r
         → Puts at (shownAs lengths reading (w .kind) (lettersOf s w)) o p r
     split-shown f = rw e (rw (stretch-letters s w) at f)
+
+  -- A word takes at most one byte more than twice its length.
+  pub shown-length : length (shownAs lengths reading (w .kind) (lettersOf s w)) ≤ 2 * w .length + 1
+  shown-length = by (w .kind) (h .fits)
+    where
+      by : (k : Kind) → KindFits lengths reading (lettersOf s w) k → length (shownAs lengths reading k (lettersOf s w)) ≤ 2 * w .length + 1
+      by (Split c) f = omega (arith, letters-long, read-room lengths reading (lettersOf s w) (c .0) (omega (arith, letters-long, h .some)) f)
+      by None f = omega (arith, letters-long, h .some, bracketed-length 40 41 (lettersOf s w))
+      by Several f = omega (arith, letters-long, h .some, bracketed-length 91 93 (lettersOf s w))
 
   pub bracket-room : (at room : ℕ) → at + 2 * w .length + 1 ≤ room → at + length (stretch s w) + 2 ≤ room
   bracket-room at room k = rw (stretch-letters s w) (omega (arith, letters-long, h .some))

@@ -1,0 +1,5 @@
+pub mod Rooms
+pub mod Kinds
+pub mod Records
+pub mod Outputs
+pub mod Public
