@@ -8,7 +8,7 @@ pub const CONSONANTS: &str = "bcçdfgğhjklmnprsştvyz";
 
 /// The symbol that each byte stands for in a text; none for a byte that is no letter.
 #[derive(Clone, PartialEq, Eq, Debug)]
-pub struct Classes([Option<u8>; 256]);
+pub struct Classes(pub [Option<u8>; 256]);
 
 impl Classes {
     pub fn symbol(&self, byte: u8) -> Option<u8> {
