@@ -30,14 +30,14 @@ fn main() {
     println!("start {start}, {rounds} rounds");
     let clock = Instant::now();
     let met = compare(&mut Linked, start, rounds).unwrap_or_else(|difference| fail(&difference));
-    println!("sheets, ban lists, sequences, messages and tables: {}", told(&met));
+    println!("sheets, ban lists, sequences, messages, texts and tables: {}", told(&met));
     let met = images(start, rounds).unwrap_or_else(|difference| fail(&difference));
     println!("damaged images: {}", told(&met));
     short_buffers(start, rounds).unwrap_or_else(|difference| fail(&difference));
     println!("short images and answers: refused, nothing changed");
-    // A round has a sheet, a ban list and three inputs for a table, a ban list and three inputs for a damaged image,
-    // and four inputs with short buffers. The built-in code has no input and is not counted.
-    println!("all the same: {} inputs in {} s, start {start}", 13 * rounds, clock.elapsed().as_secs());
+    // A round has a sheet, a ban list and four inputs for a table, a ban list and four inputs for a damaged image,
+    // and five inputs with short buffers. The built-in code has no input and is not counted.
+    println!("all the same: {} inputs in {} s, start {start}", 16 * rounds, clock.elapsed().as_secs());
 }
 
 fn fail<T>(difference: &str) -> T {
@@ -54,6 +54,10 @@ fn told(met: &Met) -> String {
         encoded,
         one_reading,
         two_readings,
+        split,
+        words_split,
+        words_without_reading,
+        words_with_several,
         ambiguous,
         delayed,
         unbounded,
@@ -62,8 +66,9 @@ fn told(met: &Met) -> String {
     let refused: Vec<String> = (1..refused.len()).map(|number| format!("{number}: {}", refused[number])).collect();
     format!(
         "{accepted} sheets and {enlarged} ban lists accepted, {built_in} times the built-in code, {encoded} encoded, \
-         {one_reading} with one reading, {two_readings} with more, {ambiguous} ambiguous, {delayed} with a delay, \
-         {unbounded} without bound; refused {}",
+         {one_reading} with one reading, {two_readings} with more, {split} texts with {words_split} words split, \
+         {words_without_reading} without a reading and {words_with_several} with several, {ambiguous} ambiguous, \
+         {delayed} with a delay, {unbounded} without bound; refused {}",
         refused.join(", ")
     )
 }
@@ -122,7 +127,7 @@ fn list_number(image: &[u8], list: &[u8]) -> u64 {
 
 /// Lent buffers that are long enough, all filled with a mark.
 struct Lent {
-    bytes: [Vec<u8>; 3],
+    bytes: [Vec<u8>; 4],
     work: Vec<u64>,
     answer: Vec<u64>,
 }
@@ -132,7 +137,7 @@ const MARK: u8 = 0x5A;
 impl Lent {
     fn new() -> Lent {
         Lent {
-            bytes: [(); 3].map(|()| vec![MARK; VERDICT_ENTRIES]),
+            bytes: [(); 4].map(|()| vec![MARK; VERDICT_ENTRIES]),
             work: vec![u64::from(MARK); VERDICT_WORKING],
             answer: vec![u64::from(MARK); ANSWER_ENTRIES + 2],
         }
@@ -144,12 +149,15 @@ impl Lent {
         let joined = encode::joined(code, &sequence);
         let sheet = if random.one_in(2) { generate::sheet(random) } else { generate::damaged_sheet(random) };
         let list = generate::list(random, code);
-        let [message, first, second] = &mut self.bytes;
+        // Few enough letters for every buffer.
+        let text: Vec<u8> = generate::text(random, code).into_iter().take(1_000).collect();
+        let [message, first, second, out] = &mut self.bytes;
         let (work, answer) = (&mut self.work, &mut self.answer[..answer]);
         let short = u64::from(Refusal::BufferTooShort.number());
         let numbers = [
             furlazon::encode(image, &sequence, message, answer),
             furlazon::read(image, &joined, first, second, work, answer),
+            furlazon::split(image, &text, out, message, first, second, work, answer),
             furlazon::verdict(image, message, first, second, work, answer),
         ];
         // Of a sheet's own refusal and that of the short image the lower is returned.
@@ -159,7 +167,7 @@ impl Lent {
         let room = random.below(TABLE_BYTES);
         let enlarged = furlazon::enlarge(image, &list, &mut message[..room]) == list_number(image, &list);
         let given = furlazon::turkish(&mut message[..room]) == short;
-        numbers == [short; 3] && taken && enlarged && given && self.unchanged()
+        numbers == [short; 4] && taken && enlarged && given && self.unchanged()
     }
 
     fn unchanged(&self) -> bool {
