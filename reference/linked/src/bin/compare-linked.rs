@@ -8,6 +8,7 @@ use reference::code::{Code, Refusal};
 use reference::compare::{compare, on_list, on_table, Met};
 use reference::operations::{Operations, Reference, VERDICT_ENTRIES, VERDICT_WORKING};
 use reference::random::Random;
+use reference::split::MAX_TEXT_BYTES;
 use reference::table::Table;
 use reference::{encode, generate};
 use std::process::exit;
@@ -149,17 +150,19 @@ impl Lent {
         let joined = encode::joined(code, &sequence);
         let sheet = if random.one_in(2) { generate::sheet(random) } else { generate::damaged_sheet(random) };
         let list = generate::list(random, code);
-        // Few enough letters for every buffer.
-        let text: Vec<u8> = generate::text(random, code).into_iter().take(1_000).collect();
+        let text = generate::text(random, code);
         let [message, first, second, out] = &mut self.bytes;
         let (work, answer) = (&mut self.work, &mut self.answer[..answer]);
         let short = u64::from(Refusal::BufferTooShort.number());
         let numbers = [
             furlazon::encode(image, &sequence, message, answer),
             furlazon::read(image, &joined, first, second, work, answer),
-            furlazon::split(image, &text, out, message, first, second, work, answer),
             furlazon::verdict(image, message, first, second, work, answer),
         ];
+        // That a text is too long comes before a short answer, but after a short image.
+        let too_long = image.len() == TABLE_BYTES && text.len() > MAX_TEXT_BYTES;
+        let text_number = if too_long { u64::from(Refusal::MessageTooLong.number()) } else { short };
+        let split = furlazon::split(image, &text, out, message, first, second, work, answer) == text_number;
         // Of a sheet's own refusal and that of the short image the lower is returned.
         let sheet_number = Reference.take_in(&sheet).0.map_or(short, |refusal| u64::from(refusal.number()).min(short));
         let taken =
@@ -167,7 +170,7 @@ impl Lent {
         let room = random.below(TABLE_BYTES);
         let enlarged = furlazon::enlarge(image, &list, &mut message[..room]) == list_number(image, &list);
         let given = furlazon::turkish(&mut message[..room]) == short;
-        numbers == [short; 4] && taken && enlarged && given && self.unchanged()
+        numbers == [short; 3] && split && taken && enlarged && given && self.unchanged()
     }
 
     fn unchanged(&self) -> bool {
