@@ -13,7 +13,7 @@ use crate::table::Table;
 use crate::verdict::{verdict, Verdict};
 
 mod texts;
-pub use texts::{splitting_buffers, text};
+pub use texts::{spelled, splitting_buffers, text};
 
 /// A code of any size within the limits. In half of the codes every word may begin.
 pub fn code(random: &mut Random) -> Code {

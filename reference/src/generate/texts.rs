@@ -79,7 +79,7 @@ fn spellable(code: &Code) -> Code {
 }
 
 /// Letters for the symbols of a message. For a symbol that is neither 0 nor 1 any letter stands.
-fn spelled(random: &mut Random, message: &[u8]) -> Vec<u8> {
+pub fn spelled(random: &mut Random, message: &[u8]) -> Vec<u8> {
     let letters = [0, 1].map(|symbol| TURKISH.bytes(Some(symbol)));
     let mut letter = |symbol: u8| {
         let kind = if symbol > 1 { random.below(2) } else { symbol as usize };
