@@ -16,7 +16,7 @@ use reference::split::{split, words, Kind, Word, DOT, MAX_TEXT_BYTES};
 use reference::table::Table;
 use reference::turkish;
 
-/// The letters of the scope paper's request, small and capital, by their bytes.
+/// The letters that the papers list, small and capital, by their bytes.
 const VOWEL_BYTES: &[u8] = b"aeiouAEIOU\xFD\xF6\xFC\xDD\xD6\xDC";
 const CONSONANT_BYTES: &[u8] = b"bcdfghjklmnprstvyzBCDFGHJKLMNPRSTVYZ\xE7\xC7\xF0\xD0\xFE\xDE";
 
