@@ -1,5 +1,5 @@
 /* Codes with forbidden successors: taking in a sheet, the built-in code of the twelve Turkish types, enlarging a code by a ban
- * list, encoding, reading, and the verdict.
+ * list, encoding, reading, splitting the words of a text, and the verdict.
  *
  * The functions are proved for every input that this file allows: pointers to as many entries as the length beside them says,
  * no two of them overlapping where one is written, and 8-byte alignment for uint64_t. Nothing else is asked. Where a length is 0
@@ -11,7 +11,8 @@
  * too short, `answer` too, gets that number in its place among the others.
  *
  * A refusal changes no buffer, except that FURLAZON_REFUSED_NO_READING leaves `work` all zero. A result leaves the whole of `work`
- * zero, and in every other buffer what stands past the written part as it was.
+ * zero, and in every other buffer what stands past the written part as it was; but splitting leaves `message`, `first` and `second`
+ * zero, each whole.
  *
  * A ban says that word X never follows word Y and then word Z. A code with such bans has copies of words; a table with copies is
  * taken wherever one without is. Words are always named by their original numbers, never by the number of a copy.
@@ -34,6 +35,7 @@ extern "C" {
 #define FURLAZON_SHEET_BYTES 4096      /* bytes of a sheet */
 #define FURLAZON_BANS_BYTES 4096       /* bytes of a ban list */
 #define FURLAZON_MESSAGE_SYMBOLS 16384 /* symbols of a message, for encoding and reading */
+#define FURLAZON_TEXT_BYTES 16384      /* bytes of a text, for splitting */
 
 /* Refusals. */
 #define FURLAZON_REFUSED_SHEET_LENGTH 1    /* a sheet of 0 bytes or over FURLAZON_SHEET_BYTES; a ban list over FURLAZON_BANS_BYTES */
@@ -46,7 +48,7 @@ extern "C" {
 #define FURLAZON_REFUSED_NOT_FROM_SHEET 8  /* a table that no accepted sheet gives, nor one with an accepted ban list */
 #define FURLAZON_REFUSED_UNKNOWN_WORD 9    /* a word number that is not in the table; the number of a copy is none */
 #define FURLAZON_REFUSED_FORBIDDEN_PAIR 10 /* a neighbouring pair that is not permitted; a first word that may not begin; a banned triple */
-#define FURLAZON_REFUSED_MESSAGE_LENGTH 11 /* a message of over FURLAZON_MESSAGE_SYMBOLS symbols */
+#define FURLAZON_REFUSED_MESSAGE_LENGTH 11 /* a message of over FURLAZON_MESSAGE_SYMBOLS symbols; a text of over FURLAZON_TEXT_BYTES */
 #define FURLAZON_REFUSED_MESSAGE_SYMBOL 12 /* a message symbol that is not below FURLAZON_ALPHABET */
 #define FURLAZON_REFUSED_SHORT_BUFFER 13   /* a buffer that is too short */
 #define FURLAZON_REFUSED_NO_READING 14     /* no permitted sequence has this message */
@@ -118,6 +120,23 @@ uint64_t furlazon_read(const uint8_t *table, size_t table_length,
                        uint8_t *second, size_t second_length,
                        uint64_t *work, size_t work_length,
                        uint64_t *answer, size_t answer_length);
+
+/* Splits the words of a text of any bytes, taken for ISO 8859-9, into syllables. The letters are those of Turkish, small and capital,
+ * which docs/LINKING.md lists: a vowel is symbol 0 and a consonant is symbol 1. A word is a longest run of letters and has the
+ * readings of the message that they stand for.
+ * Needs: `table` of FURLAZON_TABLE_BYTES; `out` of twice the text's length and one byte more; `message`, `first` and `second` as long
+ * as the text; `work` one entry longer; `answer` of FURLAZON_ANSWER_ENTRIES. Refusals: 8, 11, 13.
+ * Result: the text stands at the start of `out`, a word with one reading with the byte B7 (hexadecimal) between its syllables, a
+ * word without a reading between ( and ), a word with several between [ and ], and every other byte as it is; answer = { the length
+ * of all this, 0, 0, 0 }. `message`, `first`, `second` and `work` are zero, each whole. */
+uint64_t furlazon_split(const uint8_t *table, size_t table_length,
+                        const uint8_t *text, size_t text_length,
+                        uint8_t *out, size_t out_length,
+                        uint8_t *message, size_t message_length,
+                        uint8_t *first, size_t first_length,
+                        uint8_t *second, size_t second_length,
+                        uint64_t *work, size_t work_length,
+                        uint64_t *answer, size_t answer_length);
 
 /* Gives the verdict on a table.
  * Needs: `table` of FURLAZON_TABLE_BYTES; `message`, `first` and `second` of FURLAZON_VERDICT_ENTRIES each; `work` of

@@ -1,6 +1,6 @@
 //! Codes, messages and sheets of the scope paper's cases, of codes with start
-//! marks, of codes with ban lists, and of figures 2 and 3 of Gönenç, for the
-//! tests of both packages.
+//! marks, of codes with ban lists, of figures 2 and 3 of Gönenç, and the words
+//! that he splits, for the tests of both packages.
 
 use crate::bans::{self, Ban};
 use crate::code::{Code, Refusal};
@@ -260,3 +260,21 @@ pub fn figure_2() -> [(&'static [u8], [u8; 2], [u8; 2]); 4] {
 
 /// Figure 3: steps of the longest path of code U, the step to a first pair included.
 pub const FIGURE_3_LONGEST_PATH: usize = 3;
+
+/// Words of Gönenç's table 1, section 5 and figure 5 that the twelve types read
+/// in one way, with a dot between the syllables.
+pub const SPLIT_WORDS: &str = "\
+    a·çık ba·ba ek·mek al·tın erk türk kra·li·çe stra·te·ji stron·si·yum \
+    HE·CE A·YIR·MA PROG·RA·MI GE·LE·NEK A·KAR·YA·KIT UY·GU·LA·MA TOR·TU KOR·KAK TAN·JANT STE·RE·OS·KOP AH·MET RI·ZA O \
+    A·NI IS·FENKS KAN·DIR·MA·CA MA·YIS GU·SUL·HA·NE SA·AT TA·TAR AM·FI·TE·ATR TE·LEKS KRE·O·ZOT FLA·MA FLU·OR \
+    A·E·RO·DI·NA·MIK A·IT A·RAP A·ORT A·VURT AR·KE·O·LOG BA·BA TRA·HOM FRE·KANS STRA·TE·JI STRA·TOS·FER AR·TI";
+
+/// Words that he splits as here, telling r from the other consonants; the twelve types read them in several ways.
+pub const AMBIGUOUS_WORDS: &str = "\
+    kon·trol trenç·kot kontr·bas \
+    em·pri·me is·pri·tiz·ma ens·ti·tü esk·ka·va·tör kon·gre kom·pra·dor fark·lı kürk·çü is·tran·ca ak·tris eks·per \
+    kan·gren kon·trat tabl·dot teks·til \
+    KON·GRE KAN·GREN TABL·DOT KON·TRAT EM·PRI·ME ENS·TI·TU EKS·PER IS·TRAN·CA IS·TRON·GI·LOS KON·TRAST EKS·KA·VA·TOR";
+
+/// Words that he prints in brackets: no types make them.
+pub const UNREAD_WORDS: &str = "STRC BB FBRKET";

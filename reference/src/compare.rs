@@ -3,8 +3,10 @@
 
 use crate::code::{Code, Refusal};
 use crate::generate;
+use crate::letters::TURKISH;
 use crate::operations::{Operations, ReadingLengths, Reference, VerdictLengths};
 use crate::random::Random;
+use crate::split::{self, Kind};
 use crate::table::Table;
 use crate::turkish;
 use std::fmt::Debug;
@@ -18,6 +20,11 @@ pub struct Met {
     pub encoded: usize,
     pub one_reading: usize,
     pub two_readings: usize,
+    /// Texts, and the words in them by their kinds.
+    pub split: usize,
+    pub words_split: usize,
+    pub words_without_reading: usize,
+    pub words_with_several: usize,
     pub ambiguous: usize,
     pub delayed: usize,
     pub unbounded: usize,
@@ -82,8 +89,9 @@ pub fn on_list(subject: &mut impl Operations, met: &mut Met, table: &Table, list
     Ok(())
 }
 
-/// Compares encoding, reading and the verdict on one table. The code, from
-/// which sequences and messages are made, need not be that of the table.
+/// Compares encoding, reading, splitting and the verdict on one table. The code,
+/// from which sequences, messages and texts are made, need not be that of the
+/// table.
 pub fn on_table(
     subject: &mut impl Operations,
     random: &mut Random,
@@ -93,6 +101,7 @@ pub fn on_table(
 ) -> Result<(), String> {
     encoding(subject, random, met, code, table)?;
     reading(subject, random, met, code, table)?;
+    splitting(subject, random, met, code, table)?;
     verdict(subject, random, met, table)
 }
 
@@ -130,6 +139,33 @@ fn reading(
     count(met, answer.err(), |met| match answer {
         Ok(ReadingLengths::Two(..)) => met.two_readings += 1,
         _ => met.one_reading += 1,
+    });
+    Ok(())
+}
+
+fn splitting(
+    subject: &mut impl Operations,
+    random: &mut Random,
+    met: &mut Met,
+    code: &Code,
+    table: &Table,
+) -> Result<(), String> {
+    let text = generate::text(random, code);
+    let mut expected = generate::splitting_buffers(random, &text);
+    let mut actual = expected.clone();
+    let answer = Reference.split(table, &text, &mut expected.0, &mut expected.1);
+    let answered = subject.split(table, &text, &mut actual.0, &mut actual.1);
+    same("splitting", &(table, &text), &(answer, expected), &(answered, actual))?;
+    count(met, answer.err(), |met| {
+        met.split += 1;
+        let code = table.code().expect("a table that is not refused");
+        for word in split::words(&code, &TURKISH, &text) {
+            match word.kind {
+                Kind::Split(_) => met.words_split += 1,
+                Kind::None => met.words_without_reading += 1,
+                Kind::Several => met.words_with_several += 1,
+            }
+        }
     });
     Ok(())
 }

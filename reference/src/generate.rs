@@ -1,5 +1,5 @@
-//! Random and damaged sheets, ban lists, tables, sequences, messages and
-//! buffers. The same start of the generator gives the same inputs.
+//! Random and damaged sheets, ban lists, tables, sequences, messages, texts
+//! and buffers. The same start of the generator gives the same inputs.
 
 use crate::bans::{self, Ban};
 use crate::code::Code;
@@ -11,6 +11,9 @@ use crate::random::Random;
 use crate::sheet;
 use crate::table::Table;
 use crate::verdict::{verdict, Verdict};
+
+mod texts;
+pub use texts::{spelled, splitting_buffers, text};
 
 /// A code of any size within the limits. In half of the codes every word may begin.
 pub fn code(random: &mut Random) -> Code {
@@ -585,6 +588,11 @@ pub fn message(random: &mut Random, code: &Code) -> Vec<u8> {
         message.truncate(length);
         return message;
     }
+    short_message(random, code)
+}
+
+/// A message that is not near the limit.
+fn short_message(random: &mut Random, code: &Code) -> Vec<u8> {
     let mut message = joined(code, &short_sequence(random, code));
     let at = random.below(message.len() + 1);
     match random.below(6) {

@@ -10,6 +10,8 @@
 //! way as they stand; for the second [`copies`] turns them into copies of
 //! words.
 //!
+//! [`split`] reads the words of a text, whose [`letters`] stand for symbols.
+//!
 //! [`generate`] makes random and damaged inputs, and [`compare`] holds another
 //! program's [`operations`] against the reference on them. [`cases`] has the
 //! codes that the papers give, and [`turkish`] the built-in one.
@@ -22,7 +24,9 @@ pub mod compare;
 pub mod copies;
 pub mod encode;
 pub mod generate;
+pub mod input;
 pub mod largest;
+pub mod letters;
 pub mod operations;
 pub mod pairs;
 pub mod print;
@@ -30,6 +34,7 @@ pub mod random;
 pub mod read;
 pub mod rivals;
 pub mod sheet;
+pub mod split;
 pub mod table;
 pub mod turkish;
 pub mod verdict;

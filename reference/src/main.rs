@@ -2,8 +2,9 @@
 //! named, and prints the result.
 
 use reference::code::Code;
+use reference::input::read;
 use std::fs::File;
-use std::io::{self, Read, Write};
+use std::io::{self, Write};
 
 fn main() -> io::Result<()> {
     let arguments: Vec<_> = std::env::args_os().skip(1).collect();
@@ -17,11 +18,4 @@ fn main() -> io::Result<()> {
         None => Vec::new(),
     };
     io::stdout().write_all(&reference::print::result(&sheet, &list))
-}
-
-/// One byte past the limit is enough to see that an input is too long.
-fn read(input: impl Read, limit: usize) -> io::Result<Vec<u8>> {
-    let mut bytes = Vec::new();
-    input.take(limit as u64 + 1).read_to_end(&mut bytes)?;
-    Ok(bytes)
 }

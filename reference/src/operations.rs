@@ -6,7 +6,7 @@ use crate::code::{Code, Refusal};
 use crate::read::{self, Readings};
 use crate::table::Table;
 use crate::verdict::{self, Verdict};
-use crate::{bans, copies, turkish};
+use crate::{bans, copies, letters, split, turkish};
 
 /// Entries of a verdict's message buffer and of each of its reading buffers.
 pub const VERDICT_ENTRIES: usize = 8_384;
@@ -28,7 +28,7 @@ pub enum VerdictLengths {
     Unbounded,
 }
 
-/// Buffers lent to a reading or a verdict. A reading leaves `message` alone.
+/// Buffers lent to a reading, a splitting or a verdict. A reading leaves `message` alone.
 #[derive(Clone, PartialEq, Eq, Debug)]
 pub struct Buffers {
     pub message: Vec<u8>,
@@ -37,7 +37,7 @@ pub struct Buffers {
     pub working: Vec<u64>,
 }
 
-/// A program that offers the six operations. The reference is one; a linked
+/// A program that offers the seven operations. The reference is one; a linked
 /// library becomes another by wrapping its functions.
 pub trait Operations {
     /// The table of a sheet, the blank one with a refusal.
@@ -50,6 +50,9 @@ pub trait Operations {
     fn encode(&mut self, table: &Table, sequence: &[u8], message: &mut [u8]) -> Result<usize, Refusal>;
     /// Writes the readings of a message and gives their lengths.
     fn read(&mut self, table: &Table, message: &[u8], buffers: &mut Buffers) -> Result<ReadingLengths, Refusal>;
+    /// Writes a text with its words split and gives its new length.
+    fn split(&mut self, table: &Table, text: &[u8], output: &mut [u8], buffers: &mut Buffers)
+        -> Result<usize, Refusal>;
     /// Gives the verdict; an ambiguous one writes its message and readings.
     fn verdict(&mut self, table: &Table, buffers: &mut Buffers) -> Result<VerdictLengths, Refusal>;
 }
@@ -101,6 +104,28 @@ impl Operations for Reference {
                 ReadingLengths::Two(put(&first, &mut buffers.first), put(&second, &mut buffers.second))
             }
         })
+    }
+
+    fn split(
+        &mut self,
+        table: &Table,
+        text: &[u8],
+        output: &mut [u8],
+        buffers: &mut Buffers,
+    ) -> Result<usize, Refusal> {
+        let code = table.code().ok_or(Refusal::NotFromSheet)?;
+        let split = split::split(&code, &letters::TURKISH, text)?;
+        let Buffers { message, first, second, working } = buffers;
+        let bytes = [message, first, second];
+        let too_short = output.len() < 2 * text.len() + 1
+            || bytes.iter().any(|buffer| buffer.len() < text.len())
+            || working.len() < text.len() + 1;
+        if too_short {
+            return Err(Refusal::BufferTooShort);
+        }
+        bytes.into_iter().for_each(|buffer| buffer.fill(0));
+        working.fill(0);
+        Ok(put(&split, output))
     }
 
     fn verdict(&mut self, table: &Table, buffers: &mut Buffers) -> Result<VerdictLengths, Refusal> {

@@ -1,8 +1,8 @@
-//! The printed result: records ended by CR LF.
+//! The printed result: records ended by CR LF, or a text that is split.
 
 use crate::code::{Code, Refusal};
 use crate::verdict::{verdict, Verdict};
-use crate::{bans, copies, sheet};
+use crate::{bans, copies, letters, sheet, turkish};
 
 /// The hexadecimal digit of a symbol.
 pub fn digit(symbol: u8) -> u8 {
@@ -11,10 +11,18 @@ pub fn digit(symbol: u8) -> u8 {
 
 /// What the program prints for a sheet and a ban list, whole. A list of 0 bytes is as good as none.
 pub fn result(sheet: &[u8], list: &[u8]) -> Vec<u8> {
-    match take_in(sheet, list) {
-        Err(refusal) => format!("refused,{}\r\n", refusal.number()).into_bytes(),
-        Ok(code) => printed(&verdict(&code)),
-    }
+    take_in(sheet, list).map_or_else(refused, |code| printed(&verdict(&code)))
+}
+
+/// What is printed for a text, whole. The code is that of the sheet, whose refusal comes first; without one the built-in code.
+pub fn split(sheet: Option<&[u8]>, text: &[u8]) -> Vec<u8> {
+    let code = sheet.map_or_else(|| Ok(turkish::code()), sheet::take_in);
+    code.and_then(|code| crate::split::split(&code, &letters::TURKISH, text)).unwrap_or_else(refused)
+}
+
+/// The record of a refusal.
+fn refused(refusal: Refusal) -> Vec<u8> {
+    format!("refused,{}\r\n", refusal.number()).into_bytes()
 }
 
 /// The code of a sheet, enlarged by a ban list; the sheet's refusal comes first.

@@ -5,9 +5,12 @@ use reference::code::{Code, Refusal};
 use reference::compare::compare;
 use reference::copies::{enlarge, without_copies};
 use reference::encode::joined;
+use reference::letters::{Classes, TURKISH};
 use reference::operations::{Buffers, Operations, ReadingLengths, Reference, VerdictLengths};
 use reference::pairs::walk;
+use reference::read::{first_two, Readings};
 use reference::rivals::Rivals;
+use reference::split::{words, Kind, Word, DOT, MAX_TEXT_BYTES};
 use reference::table::Table;
 
 #[test]
@@ -16,8 +19,9 @@ fn every_answer_is_met() {
     println!("{met:?}");
     assert!(met.refused[1..].iter().all(|&times| times >= 20), "{met:?}");
     let answers = [met.accepted, met.built_in, met.enlarged, met.encoded, met.one_reading, met.two_readings];
+    let texts = [met.split, met.words_split, met.words_without_reading, met.words_with_several];
     let verdicts = [met.ambiguous, met.delayed, met.unbounded];
-    assert!(answers.iter().chain(&verdicts).all(|&times| times >= 20), "{met:?}");
+    assert!(answers.iter().chain(&texts).chain(&verdicts).all(|&times| times >= 20), "{met:?}");
 }
 
 /// The reference with one slip.
@@ -61,6 +65,25 @@ enum Slip {
     ReadingsNameCopies,
     OrderByCopies,
     BansIgnoredByReading,
+    DotBeforeFirstSyllable,
+    BracketsExchanged,
+    SeveralSplitByTheFirst,
+    LastWordLost,
+    DotsOfTheTextLost,
+    CapitalTakenAsOther,
+    AccentTakenAsLetter,
+    MarksIgnoredBySplitting,
+    BansIgnoredBySplitting,
+    MessageLeftBySplitting,
+    ReadingLeftBySplitting,
+    WorkingBufferLeftBySplitting,
+    ClearedAsFarAsTheText,
+    OutputOneLonger,
+    ClearedBeforeRefusal,
+    TextOneByteLonger,
+    ShortBufferBeforeLongText,
+    LongTextBeforeTable,
+    OutputAsLongAsWritten,
     DelayOneLess,
     WorkingBufferLeftByVerdict,
     MarksIgnoredByVerdict,
@@ -192,6 +215,63 @@ impl Operations for Wrong {
         answer
     }
 
+    fn split(
+        &mut self,
+        table: &Table,
+        text: &[u8],
+        output: &mut [u8],
+        buffers: &mut Buffers,
+    ) -> Result<usize, Refusal> {
+        match self.0 {
+            Slip::MarksIgnoredBySplitting => return Reference.split(&without_marks(table), text, output, buffers),
+            Slip::BansIgnoredBySplitting => {
+                let words = without_bans(table).unwrap_or_else(|| table.clone());
+                return Reference.split(&words, text, output, buffers);
+            }
+            Slip::LongTextBeforeTable if text.len() > MAX_TEXT_BYTES => return Err(Refusal::MessageTooLong),
+            _ => {}
+        }
+        let before = (output.to_vec(), buffers.clone());
+        let answer = Reference.split(table, text, output, buffers);
+        match (self.0, answer) {
+            (Slip::ClearedBeforeRefusal, Err(Refusal::BufferTooShort)) => buffers.message.fill(0),
+            (Slip::TextOneByteLonger, Err(Refusal::MessageTooLong)) if text.len() == MAX_TEXT_BYTES + 1 => {
+                return Reference.split(table, &text[..MAX_TEXT_BYTES], output, buffers)
+            }
+            (Slip::ShortBufferBeforeLongText, Err(Refusal::MessageTooLong)) if output.len() <= 2 * text.len() => {
+                return Err(Refusal::BufferTooShort)
+            }
+            (Slip::OutputAsLongAsWritten, Err(Refusal::BufferTooShort)) => {
+                let mut longer = vec![0; 2 * text.len() + 1];
+                let length = Reference.split(table, text, &mut longer, buffers)?;
+                let room = output.get_mut(..length).ok_or(Refusal::BufferTooShort)?;
+                room.copy_from_slice(&longer[..length]);
+                return Ok(length);
+            }
+            _ => {}
+        }
+        let length = answer?;
+        match self.0 {
+            Slip::MessageLeftBySplitting => buffers.message = before.1.message,
+            Slip::ReadingLeftBySplitting => buffers.second = before.1.second,
+            Slip::WorkingBufferLeftBySplitting => buffers.working = before.1.working,
+            Slip::ClearedAsFarAsTheText => {
+                buffers.first[text.len()..].copy_from_slice(&before.1.first[text.len()..]);
+                buffers.working[text.len() + 1..].copy_from_slice(&before.1.working[text.len() + 1..]);
+            }
+            Slip::OutputOneLonger => output.iter_mut().skip(length).take(1).for_each(|byte| *byte = 0),
+            slip => {
+                let written = split_with(slip, &table.code().expect("the table is not refused"), text);
+                output.copy_from_slice(&before.0);
+                // Where a dot too much finds no room the output ends.
+                let written = &written[..written.len().min(output.len())];
+                output[..written.len()].copy_from_slice(written);
+                return Ok(written.len());
+            }
+        }
+        answer
+    }
+
     fn verdict(&mut self, table: &Table, buffers: &mut Buffers) -> Result<VerdictLengths, Refusal> {
         if self.0 == Slip::MarksIgnoredByVerdict {
             return Reference.verdict(&without_marks(table), buffers);
@@ -234,6 +314,62 @@ impl Operations for Wrong {
             _ => answer,
         })
     }
+}
+
+/// A text as a program with a slip splits it, written once more from where its words stand.
+fn split_with(slip: Slip, code: &Code, text: &[u8]) -> Vec<u8> {
+    let classes = classes_with(slip);
+    let mut output = Vec::new();
+    let mut end = 0;
+    let copy = |output: &mut Vec<u8>, others: &[u8]| {
+        output.extend(others.iter().filter(|&&byte| slip != Slip::DotsOfTheTextLost || byte != DOT))
+    };
+    for Word { place, kind } in words(code, &classes, text) {
+        copy(&mut output, &text[end..place.start]);
+        end = place.end;
+        if slip == Slip::LastWordLost && end == text.len() {
+            continue;
+        }
+        let letters = &text[place];
+        let kind = match kind {
+            Kind::Several if slip == Slip::SeveralSplitByTheFirst => first_split(code, &classes, letters),
+            kind => kind,
+        };
+        let (round, square) = (*b"()", *b"[]");
+        let (none, several) = if slip == Slip::BracketsExchanged { (square, round) } else { (round, square) };
+        match kind {
+            Kind::None => output.extend([&none[..1], letters, &none[1..]].concat()),
+            Kind::Several => output.extend([&several[..1], letters, &several[1..]].concat()),
+            Kind::Split(lengths) => {
+                let mut letters = letters.iter();
+                for (number, length) in lengths.into_iter().enumerate() {
+                    let dot = number > 0 || slip == Slip::DotBeforeFirstSyllable;
+                    output.extend(dot.then_some(DOT));
+                    output.extend(letters.by_ref().take(length));
+                }
+            }
+        }
+    }
+    copy(&mut output, &text[end..]);
+    output
+}
+
+/// The classes, with a slip in one byte: the capital of i, or a with a circumflex.
+fn classes_with(slip: Slip) -> Classes {
+    let mut classes = TURKISH.clone();
+    match slip {
+        Slip::CapitalTakenAsOther => classes.0[0xDD] = None,
+        Slip::AccentTakenAsLetter => classes.0[0xE2] = Some(0),
+        _ => {}
+    }
+    classes
+}
+
+/// The first reading of an ambiguous word as its kind.
+fn first_split(code: &Code, classes: &Classes, letters: &[u8]) -> Kind {
+    let message: Vec<u8> = letters.iter().filter_map(|&letter| classes.symbol(letter)).collect();
+    let Some(Readings::Two(first, _)) = first_two(code, &message) else { unreachable!("an ambiguous word") };
+    Kind::Split(first.iter().map(|&word| code.words[word as usize].len()).collect())
 }
 
 /// The fields of each record of a sheet that is not refused 2.
@@ -473,6 +609,25 @@ fn slips_are_caught() {
         ("reading", Slip::ReadingsNameCopies),
         ("reading", Slip::OrderByCopies),
         ("reading", Slip::BansIgnoredByReading),
+        ("splitting", Slip::DotBeforeFirstSyllable),
+        ("splitting", Slip::BracketsExchanged),
+        ("splitting", Slip::SeveralSplitByTheFirst),
+        ("splitting", Slip::LastWordLost),
+        ("splitting", Slip::DotsOfTheTextLost),
+        ("splitting", Slip::CapitalTakenAsOther),
+        ("splitting", Slip::AccentTakenAsLetter),
+        ("splitting", Slip::MarksIgnoredBySplitting),
+        ("splitting", Slip::BansIgnoredBySplitting),
+        ("splitting", Slip::MessageLeftBySplitting),
+        ("splitting", Slip::ReadingLeftBySplitting),
+        ("splitting", Slip::WorkingBufferLeftBySplitting),
+        ("splitting", Slip::ClearedAsFarAsTheText),
+        ("splitting", Slip::OutputOneLonger),
+        ("splitting", Slip::ClearedBeforeRefusal),
+        ("splitting", Slip::TextOneByteLonger),
+        ("splitting", Slip::ShortBufferBeforeLongText),
+        ("splitting", Slip::LongTextBeforeTable),
+        ("splitting", Slip::OutputAsLongAsWritten),
         ("verdict", Slip::DelayOneLess),
         ("verdict", Slip::WorkingBufferLeftByVerdict),
         ("verdict", Slip::MarksIgnoredByVerdict),

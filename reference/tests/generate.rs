@@ -4,11 +4,15 @@ use reference::bans;
 use reference::code::{Code, Refusal};
 use reference::copies::{enlarge, without_copies};
 use reference::generate;
+use reference::letters::TURKISH;
+use reference::operations::{Operations, Reference};
 use reference::random::Random;
 use reference::rivals::Rivals;
 use reference::sheet::{take_in, write};
+use reference::split::{DOT, MAX_TEXT_BYTES};
 use reference::table::Table;
 use reference::verdict::verdict;
+use std::cmp::Ordering;
 use std::collections::BTreeSet;
 
 #[test]
@@ -129,4 +133,61 @@ fn some_damages_leave_a_code_with_copies() {
     }
     println!("{given} damaged and given, in {chains} a copy follows a copy, in {differ} the bans change the verdict");
     assert!((300..2_700).contains(&given) && chains > 500 && differ > 200);
+}
+
+/// Texts of every kind are among those generated, also texts as long as may be, a single word among them, and longer ones.
+#[test]
+fn texts_of_every_kind() {
+    let mut random = Random(8);
+    let [mut empty, mut letters, mut others, mut all, mut signs, mut longest, mut one_word, mut too_long] = [0; 8];
+    for _ in 0..20_000 {
+        let code = generate::code(&mut random);
+        let mut again = random.clone();
+        let text = generate::text(&mut random, &code);
+        assert_eq!(generate::text(&mut again, &code), text);
+        let is_letter = |&byte: &u8| TURKISH.symbol(byte).is_some();
+        empty += usize::from(text.is_empty());
+        letters += usize::from(!text.is_empty() && text.iter().all(is_letter));
+        others += usize::from(!text.is_empty() && !text.iter().any(is_letter));
+        all += usize::from((0..=255).all(|byte| text.contains(&byte)));
+        signs += usize::from([DOT, b'(', b')', b'[', b']'].iter().any(|sign| text.contains(sign)));
+        longest += usize::from(text.len() == MAX_TEXT_BYTES);
+        one_word += usize::from(text.len() == MAX_TEXT_BYTES && text.iter().all(is_letter));
+        too_long += usize::from(text.len() == MAX_TEXT_BYTES + 1);
+        assert!(text.len() <= MAX_TEXT_BYTES + 1);
+    }
+    let met = [empty, letters, others, all, signs, longest, one_word, too_long];
+    println!("{met:?}");
+    assert!(met.iter().all(|&times| times >= 20), "{met:?}");
+}
+
+/// Each of the five buffers of a splitting is sometimes too short, exact and longer, and holds entries that are not zero.
+#[test]
+fn buffers_of_splitting() {
+    let mut random = Random(9);
+    let table = Reference.turkish();
+    let text = b"kongre baba bb";
+    let needed = [2 * text.len() + 1, text.len(), text.len(), text.len(), text.len() + 1];
+    let (mut met, mut dirty) = ([[0; 5]; 3], [0; 5]);
+    for _ in 0..10_000 {
+        let (mut output, mut buffers) = generate::splitting_buffers(&mut random, text);
+        let bytes = [&output, &buffers.message, &buffers.first, &buffers.second];
+        let lengths = [bytes[0].len(), bytes[1].len(), bytes[2].len(), bytes[3].len(), buffers.working.len()];
+        for buffer in 0..5 {
+            met[match lengths[buffer].cmp(&needed[buffer]) {
+                Ordering::Less => 0,
+                Ordering::Equal => 1,
+                Ordering::Greater => 2,
+            }][buffer] += 1;
+        }
+        for (buffer, bytes) in bytes.iter().enumerate() {
+            dirty[buffer] += usize::from(bytes.iter().any(|&byte| byte != 0));
+        }
+        dirty[4] += usize::from(buffers.working.iter().any(|&entry| entry != 0));
+        let short = lengths.iter().zip(&needed).any(|(length, needed)| length < needed);
+        let refused = Reference.split(&table, text, &mut output, &mut buffers).err();
+        assert_eq!(refused, short.then_some(Refusal::BufferTooShort));
+    }
+    assert!(met.iter().flatten().all(|&times| times >= 100), "{met:?}");
+    assert!(dirty.iter().all(|&times| times > 9_000), "{dirty:?}");
 }

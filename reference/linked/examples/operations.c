@@ -1,7 +1,7 @@
 /* Code U from a sheet in memory: its verdict, the only reading of a message, the message again from the reading, a sequence that is
  * refused, and the empty message. Then the same code with a ban on 0 after 01 and 10: its verdict, and what the ban forbids. Last the
- * built-in code of the twelve Turkish types: its verdict, with the message and both readings. Prints what examples/operations.rs
- * prints. */
+ * built-in code of the twelve Turkish types: its verdict, with the message and both readings, and words that it splits. Prints what
+ * examples/operations.rs prints. */
 #include "furlazon.h"
 
 #include <inttypes.h>
@@ -9,9 +9,12 @@
 
 static const char sheet[] = "0,1,1,0,0\r\n10,1,1,1,1\r\n01,1,1,0,0\r\n101,1,1,1,1\r\n";
 static const char bans[] = "0,2,1\r\n";
+/* One reading, several, none. The E7 of ISO 8859-9 is a c with cedilla. */
+static const char text[] = "krali\xE7" "e, kongre, bb";
 static uint8_t table[FURLAZON_TABLE_BYTES];
 static uint8_t enlarged[FURLAZON_TABLE_BYTES];
 static uint8_t message[FURLAZON_VERDICT_ENTRIES];
+static uint8_t out[2 * (sizeof text - 1) + 1];
 static uint8_t first[FURLAZON_VERDICT_ENTRIES];
 static uint8_t second[FURLAZON_VERDICT_ENTRIES];
 static uint64_t work[FURLAZON_VERDICT_WORK];
@@ -28,6 +31,19 @@ static void print_entries(const char *name, const uint8_t *entries, uint64_t cou
 static void print_answer(const char *name, uint64_t refused) {
     printf("%s: refusal %" PRIu64 ", answer [%" PRIu64 ", %" PRIu64 ", %" PRIu64 ", %" PRIu64 "]", name, refused, answer[0], answer[1],
            answer[2], answer[3]);
+}
+
+/* Prints a text as UTF-8. Six letters of Turkish would need a case of their own: all others have their numbers in Unicode too. */
+static void print_text(const uint8_t *bytes, uint64_t count) {
+    for (uint64_t i = 0; i < count; i++) {
+        if (bytes[i] < 0x80) {
+            putchar(bytes[i]);
+        } else {
+            putchar(0xC0 | bytes[i] >> 6);
+            putchar(0x80 | (bytes[i] & 0x3F));
+        }
+    }
+    printf("\n");
 }
 
 int main(void) {
@@ -88,5 +104,11 @@ int main(void) {
     print_entries("words", first, answer[2]);
     printf("its second reading");
     print_entries("words", second, answer[3]);
+
+    refused = furlazon_split(table, sizeof table, (const uint8_t *)text, sizeof text - 1, out, sizeof out, message, sizeof message, first,
+                             sizeof first, second, sizeof second, work, FURLAZON_VERDICT_WORK, answer, FURLAZON_ANSWER_ENTRIES);
+    print_answer("text split by the Turkish types", refused);
+    printf(": ");
+    print_text(out, answer[0]);
     return 0;
 }

@@ -2,8 +2,8 @@
 //! the message again from the reading, a sequence that is refused, and the
 //! empty message. Then the same code with a ban on 0 after 01 and 10: its
 //! verdict, and what the ban forbids. Last the built-in code of the twelve
-//! Turkish types: its verdict, with the message and both readings. Prints what
-//! `operations.c` prints.
+//! Turkish types: its verdict, with the message and both readings, and words
+//! that it splits. Prints what `operations.c` prints.
 
 use furlazon::{ANSWER_ENTRIES, TABLE_BYTES};
 use reference::code::Refusal;
@@ -55,4 +55,13 @@ fn main() {
     println!("verdict on the Turkish types: refusal {refused}, answer {answer:?}, message {:?}", &message[..symbols]);
     println!("its first reading, words {:?}", &first[..words]);
     println!("its second reading, words {:?}", &second[..others]);
+
+    // One reading, several, none. The E7 of ISO 8859-9 is a c with cedilla.
+    let text = b"krali\xE7e, kongre, bb";
+    let mut out = vec![0; 2 * text.len() + 1];
+    let refused =
+        furlazon::split(&table, text, &mut out, &mut message, &mut first, &mut second, &mut work, &mut answer);
+    // Six letters of Turkish would need a case of their own: all others have their numbers in Unicode too.
+    let shown: String = out[..answer[0] as usize].iter().map(|&byte| byte as char).collect();
+    println!("text split by the Turkish types: refusal {refused}, answer {answer:?}: {shown}");
 }

@@ -49,6 +49,24 @@ extern "C" {
         answer: *mut u64,
         answer_length: usize,
     ) -> u64;
+    fn furlazon_split(
+        table: *const u8,
+        table_length: usize,
+        text: *const u8,
+        text_length: usize,
+        out: *mut u8,
+        out_length: usize,
+        message: *mut u8,
+        message_length: usize,
+        first: *mut u8,
+        first_length: usize,
+        second: *mut u8,
+        second_length: usize,
+        work: *mut u64,
+        work_length: usize,
+        answer: *mut u64,
+        answer_length: usize,
+    ) -> u64;
     fn furlazon_verdict(
         table: *const u8,
         table_length: usize,
@@ -117,6 +135,41 @@ pub fn read(
             table.as_ptr(),
             table.len(),
             message.as_ptr(),
+            message.len(),
+            first.as_mut_ptr(),
+            first.len(),
+            second.as_mut_ptr(),
+            second.len(),
+            work.as_mut_ptr(),
+            work.len(),
+            answer.as_mut_ptr(),
+            answer.len(),
+        )
+    }
+}
+
+/// Splits the words of a text. 0, or the refusal's number.
+#[allow(clippy::too_many_arguments)]
+pub fn split(
+    table: &[u8],
+    text: &[u8],
+    out: &mut [u8],
+    message: &mut [u8],
+    first: &mut [u8],
+    second: &mut [u8],
+    work: &mut [u64],
+    answer: &mut [u64],
+) -> u64 {
+    // SAFETY: as above.
+    unsafe {
+        furlazon_split(
+            table.as_ptr(),
+            table.len(),
+            text.as_ptr(),
+            text.len(),
+            out.as_mut_ptr(),
+            out.len(),
+            message.as_mut_ptr(),
             message.len(),
             first.as_mut_ptr(),
             first.len(),

@@ -98,6 +98,21 @@ impl Operations for Linked {
         }
     }
 
+    fn split(
+        &mut self,
+        table: &Table,
+        text: &[u8],
+        output: &mut [u8],
+        buffers: &mut Buffers,
+    ) -> Result<usize, Refusal> {
+        let table = image::pack(table);
+        let Buffers { message, first, second, working } = buffers;
+        match answer(|entries| crate::split(&table, text, output, message, first, second, working, entries))? {
+            [length, 0, 0, 0] => Ok(length),
+            other => panic!("not the answer to a splitting: {other:?}"),
+        }
+    }
+
     fn verdict(&mut self, table: &Table, buffers: &mut Buffers) -> Result<VerdictLengths, Refusal> {
         let table = image::pack(table);
         let Buffers { message, first, second, working } = buffers;

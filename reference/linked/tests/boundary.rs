@@ -1,12 +1,15 @@
 //! What belongs to the boundary alone: the numbers of the header, the image of
 //! a table, that of the built-in code, a table too short to be read, an
-//! enlarged one too short to be written, and an answer too short to be told.
+//! enlarged one too short to be written, and an answer too short to be told;
+//! and splitting with buffers of every length.
 
 use furlazon::linked::refusal;
 use furlazon::{image, ANSWER_ENTRIES, TABLE_BYTES};
 use reference::code::{Code, Refusal};
+use reference::letters::bytes;
 use reference::operations::{Operations, Reference, VERDICT_ENTRIES, VERDICT_WORKING};
 use reference::sheet::write;
+use reference::split::MAX_TEXT_BYTES;
 
 const MARK: u8 = 0x5A;
 const WORD_MARK: u64 = 0x5A5A;
@@ -32,6 +35,7 @@ fn limits_of_the_header() {
         ("SHEET_BYTES", Code::MAX_SHEET_BYTES),
         ("BANS_BYTES", Code::MAX_BANS_BYTES),
         ("MESSAGE_SYMBOLS", Code::MAX_MESSAGE_SYMBOLS),
+        ("TEXT_BYTES", MAX_TEXT_BYTES),
         ("TABLE_BYTES", TABLE_BYTES),
         ("ANSWER_ENTRIES", ANSWER_ENTRIES),
         ("VERDICT_ENTRIES", VERDICT_ENTRIES),
@@ -250,6 +254,28 @@ fn short_answers() {
                 let refused = furlazon::read(table, symbols, &mut first, &mut second, &mut work, &mut answer);
                 assert_eq!(refusal(refused), Some(expected), "reading with {entries} entries");
             }
+            let splittings: [(&[u8], &[u8], Refusal); 6] = [
+                (&none, b"a", Refusal::NotFromSheet),
+                (&none, &too_long, Refusal::NotFromSheet),
+                (&table, &too_long, Refusal::MessageTooLong),
+                (&table, b"a", Refusal::BufferTooShort),
+                (&table, b"", Refusal::BufferTooShort),
+                (&table[..TABLE_BYTES - 1], &too_long, Refusal::BufferTooShort),
+            ];
+            let mut out = vec![MARK; room];
+            for (table, text, expected) in splittings {
+                let refused = furlazon::split(
+                    table,
+                    text,
+                    &mut out,
+                    &mut message,
+                    &mut first,
+                    &mut second,
+                    &mut work,
+                    &mut answer,
+                );
+                assert_eq!(refusal(refused), Some(expected), "splitting with {entries} entries");
+            }
             let verdicts: [(&[u8], Refusal); 3] = [
                 (&none, Refusal::NotFromSheet),
                 (&table, Refusal::BufferTooShort),
@@ -259,8 +285,165 @@ fn short_answers() {
                 let refused = furlazon::verdict(table, &mut message, &mut first, &mut second, &mut work, &mut answer);
                 assert_eq!(refusal(refused), Some(expected), "verdict with {entries} entries");
             }
-            assert!([&message, &first, &second].into_iter().flatten().all(|&entry| entry == MARK));
+            assert!([&out, &message, &first, &second].into_iter().flatten().all(|&entry| entry == MARK));
             assert!([&work, &answer].into_iter().flatten().all(|&entry| entry == WORD_MARK));
+        }
+    }
+}
+
+/// The buffers of a splitting, each full of a mark.
+#[derive(Clone, PartialEq, Debug)]
+struct Lent {
+    /// `out`, `message`, `first` and `second`.
+    bytes: [Vec<u8>; 4],
+    work: Vec<u64>,
+    answer: Vec<u64>,
+}
+
+impl Lent {
+    /// As many entries as a text of this length needs, and so many more.
+    fn new(length: usize, more: usize) -> Lent {
+        let needed = [2 * length + 1, length, length, length];
+        Lent {
+            bytes: needed.map(|entries| vec![MARK; entries + more]),
+            work: vec![WORD_MARK; length + 1 + more],
+            answer: vec![WORD_MARK; ANSWER_ENTRIES + more],
+        }
+    }
+
+    /// Takes the last entry from one of the six buffers; false where it has none.
+    fn shorten(&mut self, buffer: usize) -> bool {
+        match buffer {
+            0..=3 => self.bytes[buffer].pop().is_some(),
+            4 => self.work.pop().is_some(),
+            _ => self.answer.pop().is_some(),
+        }
+    }
+
+    fn split(&mut self, table: &[u8], text: &[u8]) -> Option<Refusal> {
+        let [out, message, first, second] = &mut self.bytes;
+        refusal(furlazon::split(table, text, out, message, first, second, &mut self.work, &mut self.answer))
+    }
+
+    /// What a splitting with this output leaves.
+    fn after(mut self, output: &[u8]) -> Lent {
+        let [out, zero @ ..] = &mut self.bytes;
+        out[..output.len()].copy_from_slice(output);
+        zero.iter_mut().for_each(|buffer| buffer.fill(0));
+        self.work.fill(0);
+        self.answer[..ANSWER_ENTRIES].copy_from_slice(&[output.len() as u64, 0, 0, 0]);
+        self
+    }
+}
+
+/// Texts, and what the twelve Turkish types make of them.
+const TEXTS: [(&str, &str); 9] = [
+    ("", ""),
+    ("o", "o"),
+    ("b", "(b)"),
+    ("baba", "ba·ba"),
+    ("kongre", "[kongre]"),
+    ("12/5 ·()[]", "12/5 ·()[]"),
+    ("Kraliçe, KONGRE!\r\n", "Kra·li·çe, [KONGRE]!\r\n"),
+    ("b b b", "(b) (b) (b)"),
+    ("ığdır İĞDIR taxi", "ığ·dır İĞ·DIR taxi"),
+];
+
+/// With buffers of the lengths that are needed and longer ones, the output, and zero in each of the other buffers whole.
+#[test]
+fn texts_are_split() {
+    let mut table = [0; TABLE_BYTES + 1];
+    assert_eq!(furlazon::turkish(&mut table), 0);
+    for (text, expected) in TEXTS {
+        let (text, expected) = (bytes(text), bytes(expected));
+        for more in [0, 1, 20] {
+            for room in [TABLE_BYTES, TABLE_BYTES + 1] {
+                let mut lent = Lent::new(text.len(), more);
+                let after = lent.clone().after(&expected);
+                assert_eq!(lent.split(&table[..room], &text), None);
+                assert_eq!(lent, after, "{more} entries more");
+            }
+        }
+    }
+}
+
+/// Each buffer one entry too short by itself, and all of them empty; nothing may change.
+#[test]
+fn short_buffers_of_splitting() {
+    let mut table = [0; TABLE_BYTES];
+    assert_eq!(furlazon::turkish(&mut table), 0);
+    for (text, _) in TEXTS {
+        let text = bytes(text);
+        for buffer in 0..6 {
+            let mut lent = Lent::new(text.len(), 0);
+            if !lent.shorten(buffer) {
+                continue;
+            }
+            let before = lent.clone();
+            assert_eq!(lent.split(&table, &text), Some(Refusal::BufferTooShort), "buffer {buffer}");
+            assert_eq!(lent, before, "buffer {buffer}");
+        }
+        let mut none = Lent { bytes: [(); 4].map(|()| Vec::new()), work: Vec::new(), answer: Vec::new() };
+        assert_eq!(none.split(&table, &text), Some(Refusal::BufferTooShort));
+    }
+}
+
+/// Refusal 8 comes before 11 and 11 before 13; an image that is too short gets
+/// 13 before all. With room for everything, without, and with one buffer too
+/// short, nothing changes.
+#[test]
+fn order_of_the_refusals_of_splitting() {
+    let (table, none) = tables();
+    let mut copies = vec![0; TABLE_BYTES];
+    assert_eq!(furlazon::enlarge(&table, b"0,0,1", &mut copies), 0);
+    let mut wrong_copies = copies.clone();
+    wrong_copies[1_634 + 4] = 4;
+    let too_long = vec![b'a'; MAX_TEXT_BYTES + 1];
+    let short_image = &none[..TABLE_BYTES - 1];
+    let cases: [(&[u8], &[u8], Refusal); 10] = [
+        (&none, b"", Refusal::NotFromSheet),
+        (&none, b"baba", Refusal::NotFromSheet),
+        (&none, &too_long, Refusal::NotFromSheet),
+        (&wrong_copies, b"1", Refusal::NotFromSheet),
+        (&wrong_copies, &too_long, Refusal::NotFromSheet),
+        (&table, &too_long, Refusal::MessageTooLong),
+        (&copies, &too_long, Refusal::MessageTooLong),
+        (short_image, b"", Refusal::BufferTooShort),
+        (short_image, &too_long, Refusal::BufferTooShort),
+        (&[], &too_long, Refusal::BufferTooShort),
+    ];
+    for (table, text, expected) in cases {
+        for room in [0, text.len()] {
+            for short in (0..6).map(Some).chain([None]) {
+                let mut lent = Lent::new(room, 0);
+                short.map(|buffer| lent.shorten(buffer));
+                let before = lent.clone();
+                assert_eq!(lent.split(table, text), Some(expected), "{} bytes, room of {room}", text.len());
+                assert_eq!(lent, before);
+            }
+        }
+    }
+}
+
+/// A text as long as may be, with exact buffers and with each one entry too short.
+#[test]
+fn the_longest_text() {
+    let mut table = [0; TABLE_BYTES];
+    assert_eq!(furlazon::turkish(&mut table), 0);
+    let words = b"b ".repeat(MAX_TEXT_BYTES / 2);
+    let vowels = vec![b'a'; MAX_TEXT_BYTES];
+    let dotted: Vec<u8> = b"a\xB7".repeat(MAX_TEXT_BYTES)[..2 * MAX_TEXT_BYTES - 1].to_vec();
+    for (text, expected) in [(words, b"(b) ".repeat(MAX_TEXT_BYTES / 2)), (vowels, dotted)] {
+        let mut lent = Lent::new(text.len(), 0);
+        let after = lent.clone().after(&expected);
+        assert_eq!(lent.split(&table, &text), None);
+        assert!(lent == after);
+        for buffer in 0..6 {
+            let mut lent = Lent::new(text.len(), 0);
+            lent.shorten(buffer);
+            let before = lent.clone();
+            assert_eq!(lent.split(&table, &text), Some(Refusal::BufferTooShort));
+            assert!(lent == before, "buffer {buffer}");
         }
     }
 }

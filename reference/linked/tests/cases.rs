@@ -1,17 +1,18 @@
 //! Cases 11 to 14 of the scope paper, codes with start marks, codes with ban
-//! lists, and figures 2 and 3 of Gönenç, run by the proved library and by the
-//! reference: both give the same, lent buffers included, and it is what the
-//! papers say.
+//! lists, and figures 2 and 3 of Gönenç and the words that he splits, run by
+//! the proved library and by the reference: both give the same, lent buffers
+//! included, and it is what the papers say.
 
 use furlazon::linked::Linked;
 use furlazon::{image, TABLE_BYTES};
 use reference::bans;
 use reference::cases::{
     banned, code_t, code_u, codes_for_the_empty_message, figure_2, limit_sheets, openings, refused_lists, shortening,
-    turkish_six, turkish_twelve, FIGURE_3_LONGEST_PATH,
+    turkish_six, turkish_twelve, AMBIGUOUS_WORDS, FIGURE_3_LONGEST_PATH, SPLIT_WORDS, UNREAD_WORDS,
 };
 use reference::code::{Code, Refusal};
 use reference::copies::enlarge;
+use reference::letters::bytes;
 use reference::operations::{
     Buffers, Operations, ReadingLengths, Reference, VerdictLengths, VERDICT_ENTRIES, VERDICT_WORKING,
 };
@@ -299,4 +300,49 @@ fn figure_2_ambiguous_messages_of_code_t() {
 #[test]
 fn figure_3_verdict_on_code_u() {
     gives(&Table::of(&code_u()), VerdictLengths::Delay(FIGURE_3_LONGEST_PATH + 1), &[], &[], &[]);
+}
+
+/// Both split the text so.
+fn splits(table: &Table, text: &str, expected: &str) {
+    let (text, expected) = (bytes(text), bytes(expected));
+    for spare in SPARE {
+        let before = (vec![MARK; 2 * text.len() + 1 + spare], lent(text.len() + spare, text.len() + 1 + spare));
+        let (mut ours, mut theirs) = (before.clone(), before.clone());
+        let answer = Linked.split(table, &text, &mut ours.0, &mut ours.1);
+        assert_eq!(answer, Reference.split(table, &text, &mut theirs.0, &mut theirs.1));
+        assert_eq!(ours, theirs);
+        assert_eq!(answer, Ok(expected.len()));
+        assert_eq!(ours.0[..expected.len()], expected);
+        assert_eq!(ours.0[expected.len()..], before.0[expected.len()..]);
+        let Buffers { message, first, second, working } = ours.1;
+        assert!([message, first, second].iter().flatten().all(|&entry| entry == 0));
+        assert!(working.iter().all(|&entry| entry == 0));
+    }
+}
+
+/// Each by itself, and all in one text.
+#[test]
+fn words_that_are_printed() {
+    let table = Linked.turkish();
+    let mut words: Vec<(String, String)> = Vec::new();
+    for word in SPLIT_WORDS.split_whitespace() {
+        words.push((word.replace('·', ""), word.to_string()));
+    }
+    for (list, open, close) in [(AMBIGUOUS_WORDS, '[', ']'), (UNREAD_WORDS, '(', ')')] {
+        for letters in list.split_whitespace().map(|word| word.replace('·', "")) {
+            words.push((letters.clone(), format!("{open}{letters}{close}")));
+        }
+    }
+    words.iter().for_each(|(text, expected)| splits(&table, text, expected));
+    let (texts, expected): (Vec<String>, Vec<String>) = words.into_iter().unzip();
+    splits(&table, &texts.join(" "), &expected.join(" "));
+    splits(&Table::of(&turkish_six()), "kraliçe baba kongre farklı", "(kraliçe) ba·ba kong·re fark·lı");
+}
+
+/// After 0 and 1 come neither 0 nor 010: of the two readings of aba one is left.
+#[test]
+fn ban_lists_in_splitting() {
+    let table = Table::of(&Code::free(&["0", "1", "010"]));
+    splits(&table, "aba abba", "[aba] a·b·b·a");
+    splits(&enlarged_by(&table, b"0,0,1\r\n2,0,1\r\n", None), "aba abba", "aba a·b·b·a");
 }

@@ -8,6 +8,7 @@ use reference::code::{Code, Refusal};
 use reference::compare::{compare, on_list, on_table, Met};
 use reference::operations::{Operations, Reference, VERDICT_ENTRIES, VERDICT_WORKING};
 use reference::random::Random;
+use reference::split::MAX_TEXT_BYTES;
 use reference::table::Table;
 use reference::{encode, generate};
 use std::process::exit;
@@ -30,14 +31,14 @@ fn main() {
     println!("start {start}, {rounds} rounds");
     let clock = Instant::now();
     let met = compare(&mut Linked, start, rounds).unwrap_or_else(|difference| fail(&difference));
-    println!("sheets, ban lists, sequences, messages and tables: {}", told(&met));
+    println!("sheets, ban lists, sequences, messages, texts and tables: {}", told(&met));
     let met = images(start, rounds).unwrap_or_else(|difference| fail(&difference));
     println!("damaged images: {}", told(&met));
     short_buffers(start, rounds).unwrap_or_else(|difference| fail(&difference));
     println!("short images and answers: refused, nothing changed");
-    // A round has a sheet, a ban list and three inputs for a table, a ban list and three inputs for a damaged image,
-    // and four inputs with short buffers. The built-in code has no input and is not counted.
-    println!("all the same: {} inputs in {} s, start {start}", 13 * rounds, clock.elapsed().as_secs());
+    // A round has a sheet, a ban list and four inputs for a table, a ban list and four inputs for a damaged image,
+    // and five inputs with short buffers. The built-in code has no input and is not counted.
+    println!("all the same: {} inputs in {} s, start {start}", 16 * rounds, clock.elapsed().as_secs());
 }
 
 fn fail<T>(difference: &str) -> T {
@@ -54,6 +55,10 @@ fn told(met: &Met) -> String {
         encoded,
         one_reading,
         two_readings,
+        split,
+        words_split,
+        words_without_reading,
+        words_with_several,
         ambiguous,
         delayed,
         unbounded,
@@ -62,8 +67,9 @@ fn told(met: &Met) -> String {
     let refused: Vec<String> = (1..refused.len()).map(|number| format!("{number}: {}", refused[number])).collect();
     format!(
         "{accepted} sheets and {enlarged} ban lists accepted, {built_in} times the built-in code, {encoded} encoded, \
-         {one_reading} with one reading, {two_readings} with more, {ambiguous} ambiguous, {delayed} with a delay, \
-         {unbounded} without bound; refused {}",
+         {one_reading} with one reading, {two_readings} with more, {split} texts with {words_split} words split, \
+         {words_without_reading} without a reading and {words_with_several} with several, {ambiguous} ambiguous, \
+         {delayed} with a delay, {unbounded} without bound; refused {}",
         refused.join(", ")
     )
 }
@@ -122,7 +128,7 @@ fn list_number(image: &[u8], list: &[u8]) -> u64 {
 
 /// Lent buffers that are long enough, all filled with a mark.
 struct Lent {
-    bytes: [Vec<u8>; 3],
+    bytes: [Vec<u8>; 4],
     work: Vec<u64>,
     answer: Vec<u64>,
 }
@@ -132,7 +138,7 @@ const MARK: u8 = 0x5A;
 impl Lent {
     fn new() -> Lent {
         Lent {
-            bytes: [(); 3].map(|()| vec![MARK; VERDICT_ENTRIES]),
+            bytes: [(); 4].map(|()| vec![MARK; VERDICT_ENTRIES]),
             work: vec![u64::from(MARK); VERDICT_WORKING],
             answer: vec![u64::from(MARK); ANSWER_ENTRIES + 2],
         }
@@ -144,7 +150,8 @@ impl Lent {
         let joined = encode::joined(code, &sequence);
         let sheet = if random.one_in(2) { generate::sheet(random) } else { generate::damaged_sheet(random) };
         let list = generate::list(random, code);
-        let [message, first, second] = &mut self.bytes;
+        let text = generate::text(random, code);
+        let [message, first, second, out] = &mut self.bytes;
         let (work, answer) = (&mut self.work, &mut self.answer[..answer]);
         let short = u64::from(Refusal::BufferTooShort.number());
         let numbers = [
@@ -152,6 +159,10 @@ impl Lent {
             furlazon::read(image, &joined, first, second, work, answer),
             furlazon::verdict(image, message, first, second, work, answer),
         ];
+        // That a text is too long comes before a short answer, but after a short image.
+        let too_long = image.len() == TABLE_BYTES && text.len() > MAX_TEXT_BYTES;
+        let text_number = if too_long { u64::from(Refusal::MessageTooLong.number()) } else { short };
+        let split = furlazon::split(image, &text, out, message, first, second, work, answer) == text_number;
         // Of a sheet's own refusal and that of the short image the lower is returned.
         let sheet_number = Reference.take_in(&sheet).0.map_or(short, |refusal| u64::from(refusal.number()).min(short));
         let taken =
@@ -159,7 +170,7 @@ impl Lent {
         let room = random.below(TABLE_BYTES);
         let enlarged = furlazon::enlarge(image, &list, &mut message[..room]) == list_number(image, &list);
         let given = furlazon::turkish(&mut message[..room]) == short;
-        numbers == [short; 3] && taken && enlarged && given && self.unchanged()
+        numbers == [short; 3] && split && taken && enlarged && given && self.unchanged()
     }
 
     fn unchanged(&self) -> bool {

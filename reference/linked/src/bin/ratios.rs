@@ -3,16 +3,20 @@
 //! buffers are cleared before it, outside the time. A run is nine calls of each
 //! side, in turn, and counts with its fastest call, so that a call which the
 //! system interrupts does not count. The medians of the runs are printed, and
-//! their quotient.
+//! their quotient; for splitting also the bytes of the text in a second.
 
 use furlazon::{image, plain, ANSWER_ENTRIES, TABLE_BYTES};
+use reference::cases::{AMBIGUOUS_WORDS, SPLIT_WORDS, UNREAD_WORDS};
 use reference::code::Code;
 use reference::encode::joined;
-use reference::generate::permitted_sequence;
+use reference::generate::{permitted_sequence, spelled};
+use reference::letters::bytes;
 use reference::operations::{Buffers, Operations, Reference, VERDICT_ENTRIES, VERDICT_WORKING};
 use reference::random::Random;
 use reference::sheet;
+use reference::split::MAX_TEXT_BYTES;
 use reference::table::Table;
+use reference::turkish;
 use std::hint::black_box;
 use std::path::{Path, PathBuf};
 use std::time::{Duration, Instant};
@@ -57,6 +61,14 @@ fn main() {
     for (kind, name) in verdicts {
         bench.verdict(kind, name, &read_code(&sheets, name));
     }
+    println!();
+    println!("| Split by | Text | Plain Rust | Proved, µs | Plain, µs | Ratio | Proved, MB/s | Plain, MB/s |");
+    println!("|---|---|---|---|---|---|---|---|");
+    for (name, code) in [("built-in code", turkish::code()), ("`turkish-six`", read_code(&sheets, "turkish-six"))] {
+        bench.split(name, "Turkish words", &code, &turkish_words());
+        bench.split(name, "3000 short words", &code, &short_words(&code));
+        bench.split(name, "one word", &code, &long_word(&code));
+    }
 }
 
 fn read_file(sheets: &Path, name: &str, kind: &str) -> Vec<u8> {
@@ -84,6 +96,43 @@ fn sequence_of(code: &Code, symbols: usize) -> Vec<u8> {
     }
 }
 
+/// Words of Gönenç's paper over and over, as many as a text may have.
+fn turkish_words() -> Vec<u8> {
+    let words = [SPLIT_WORDS, AMBIGUOUS_WORDS, UNREAD_WORDS].join(" ").replace('·', "");
+    let words: Vec<Vec<u8>> = words.split_whitespace().map(bytes).collect();
+    let mut text = Vec::new();
+    for word in words.iter().cycle() {
+        if text.len() + word.len() + 1 > MAX_TEXT_BYTES {
+            return text;
+        }
+        text.extend(word);
+        text.push(b' ');
+    }
+    unreachable!("words over and over")
+}
+
+/// Three thousand words of up to four letters that the code reads.
+fn short_words(code: &Code) -> Vec<u8> {
+    let mut random = Random(1);
+    let mut text = Vec::new();
+    for _ in 0..3_000 {
+        let message = loop {
+            let message = joined(code, &permitted_sequence(&mut random, code, 2));
+            if message.len() <= 4 {
+                break message;
+            }
+        };
+        text.extend(spelled(&mut random, &message));
+        text.push(b' ');
+    }
+    text
+}
+
+/// One word that is as long as a text may be.
+fn long_word(code: &Code) -> Vec<u8> {
+    spelled(&mut Random(1), &joined(code, &sequence_of(code, MAX_TEXT_BYTES)))
+}
+
 fn cleared() -> Buffers {
     Buffers {
         message: vec![0; VERDICT_ENTRIES],
@@ -98,6 +147,13 @@ fn clear(buffers: &mut Buffers) {
         buffer.fill(0);
     }
     buffers.working.fill(0);
+}
+
+/// Buffers of a splitting, no longer than it needs.
+fn splitting(text: &[u8]) -> (Vec<u8>, Buffers) {
+    let mut buffers = Buffers { message: vec![0; text.len()], ..cleared() };
+    cut(&mut buffers, text.len());
+    (vec![0; 2 * text.len() + 1], buffers)
 }
 
 /// Buffers of a reading, no longer than it needs.
@@ -205,15 +261,46 @@ impl Bench {
         self.row(&format!("verdict, {kind}"), &format!("`{name}`"), "reference", &mut proved, reference);
     }
 
+    fn split(&self, name: &str, kind: &str, code: &Code, text: &[u8]) {
+        let table = Table::of(code);
+        let packed = image::pack(&table);
+        let ((mut out, mut buffers), (mut other_out, mut other)) = (splitting(text), splitting(text));
+        let mut answer = [0; ANSWER_ENTRIES];
+        let proved = |timer: &mut Timer| {
+            out.fill(0);
+            clear(&mut buffers);
+            let Buffers { message, first, second, working } = &mut buffers;
+            let (packed, text) = (black_box(&packed), black_box(text));
+            timer.time(|| furlazon::split(packed, text, &mut out, message, first, second, working, &mut answer));
+        };
+        let plain = |timer: &mut Timer| {
+            other_out.fill(0);
+            clear(&mut other);
+            timer.time(|| Reference.split(black_box(&table), black_box(text), &mut other_out, &mut other));
+        };
+        let (ours, theirs) = self.medians(proved, plain);
+        let (ratio, length) = (ours / theirs, text.len());
+        // Bytes in a microsecond are megabytes in a second.
+        let [our_rate, their_rate] = [ours, theirs].map(|time| length as f64 / time);
+        print!("| {name} | {kind}, {length} bytes | reference | {ours:.2} | {theirs:.2} | {ratio:.2} ");
+        println!("| {our_rate:.1} | {their_rate:.1} |");
+    }
+
     /// Times both sides in turn and prints a row.
     fn row(
         &self,
         operation: &str,
         input: &str,
         side: &str,
-        mut proved: impl FnMut(&mut Timer),
-        mut plain: impl FnMut(&mut Timer),
+        proved: impl FnMut(&mut Timer),
+        plain: impl FnMut(&mut Timer),
     ) {
+        let (ours, theirs) = self.medians(proved, plain);
+        println!("| {operation} | {input} | {side} | {ours:.2} | {theirs:.2} | {:.2} |", ours / theirs);
+    }
+
+    /// Times both sides in turn. The medians in microseconds.
+    fn medians(&self, mut proved: impl FnMut(&mut Timer), mut plain: impl FnMut(&mut Timer)) -> (f64, f64) {
         let (mut ours, mut theirs) = (Timer::default(), Timer::default());
         let start = Instant::now();
         while start.elapsed() < self.span || ours.runs.len() < RUNS {
@@ -224,8 +311,7 @@ impl Bench {
             ours.end_run();
             theirs.end_run();
         }
-        let (ours, theirs) = (ours.median(), theirs.median());
-        println!("| {operation} | {input} | {side} | {ours:.2} | {theirs:.2} | {:.2} |", ours / theirs);
+        (ours.median(), theirs.median())
     }
 }
 
