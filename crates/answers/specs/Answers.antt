@@ -10,6 +10,8 @@ use Rattle.code.specs.declared.Verdict.{Verdict}
 use Rattle.code.specs.declared.Verdict.the-variants.{Ambiguous, Finite, Unbounded}
 use Rattle.code.specs.declared.Judgement.{Judgement}
 use Rattle.code.specs.declared.Judgement.the-variants.{Judged, Refused as Not-judged}
+use Rattle.code.specs.declared.Splitting.{Splitting}
+use Rattle.code.specs.declared.Splitting.the-variants.{Split, Refused as Not-split}
 use Rattle.code.specs.Definitions.Answers.{refusalNumber}
 
 -- entries of an answer
@@ -24,6 +26,15 @@ encodingNumber (Not-encoded r) = refusalNumber r
 abbrev pub encodingEntries : Encoding → List ℕ
 encodingEntries (Encoded n) = n .0 ∷ 0 ∷ 0 ∷ 0 ∷ []
 encodingEntries (Not-encoded r) = []
+
+abbrev pub splittingNumber : Splitting → ℕ
+splittingNumber (Split n) = 0
+splittingNumber (Not-split r) = refusalNumber r
+
+-- the length of the output
+abbrev pub splittingEntries : Splitting → List ℕ
+splittingEntries (Split n) = n .0 ∷ 0 ∷ 0 ∷ 0 ∷ []
+splittingEntries (Not-split r) = []
 
 abbrev pub readingNumber : Reading → ℕ
 readingNumber (One n) = 0

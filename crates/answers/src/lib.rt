@@ -4,6 +4,7 @@ use code::Encoding;
 use code::Judgement;
 use code::Reading;
 use code::Refusal;
+use code::Splitting;
 use code::Verdict;
 ghost use mathlib.Core.Path.{_≡_};
 ghost use mathlib.Core.List.{[], _∷_};
@@ -12,7 +13,7 @@ ghost use lib.Dec.{ltb};
 ghost use lib.ListN.{length};
 ghost use Rattle.code.specs.Definitions.Answers.{refusalNumber};
 ghost use Rattle.code.specs.Definitions.Operations.{written};
-ghost use Rattle.answers.specs.Answers.{answerLength, encodingNumber, encodingEntries, readingNumber, readingEntries, verdictEntries, judgementNumber, judgementEntries};
+ghost use Rattle.answers.specs.Answers.{answerLength, encodingNumber, encodingEntries, splittingNumber, splittingEntries, readingNumber, readingEntries, verdictEntries, judgementNumber, judgementEntries};
 
 pub struct Answer {}
 
@@ -54,6 +55,19 @@ pub fn put_encoding(e: Encoding, answer: &mut [u64]) -> u64
             0
         }
         Encoding::Refused(r) => number(r),
+    }
+}
+
+pub fn put_splitting(e: Splitting, answer: &mut [u64]) -> u64
+    requires { ⌜ answerLength ≤ length (now answer) ⌝ }
+    ensures { λ r. ⌜ (r ≡ splittingNumber e) × (now (answer .exit) ≡ written (splittingEntries e) (now (answer .entry))) ⌝ }
+{
+    match e {
+        Splitting::Split(n) => {
+            put_entries(answer, n.0 as u64, 0, 0, 0);
+            0
+        }
+        Splitting::Refused(r) => number(r),
     }
 }
 

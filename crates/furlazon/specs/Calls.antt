@@ -12,15 +12,18 @@ use Rattle.code.specs.declared.SheetAnswer.the-variants.{Accepted, Refused}
 use Rattle.code.specs.declared.Encoding.{Encoding}
 use Rattle.code.specs.declared.Reading.{Reading}
 use Rattle.code.specs.declared.Judgement.{Judgement}
+use Rattle.code.specs.declared.Splitting.{Splitting}
 use Rattle.code.specs.Definitions.Answers.{refusalNumber}
 use Rattle.code.specs.Definitions.Enlarged.{plainOf}
 use Rattle.code.specs.Definitions.Lists.{if_then_else_}
 use Rattle.code.specs.Definitions.Operations.{written, encodingConditions, readingConditions, verdictConditions, Enlarges, Encodes, ReadsMessage, Judges}
 use Rattle.code.specs.Definitions.Sheets.{limits, taken}
+use Rattle.code.specs.Definitions.Texts.{splittingConditions, SplitsText}
 use Rattle.image.specs.Image.{imageLength, imageOf, enlargedIn}
+use Rattle.letters.specs.Letters.{turkishClasses}
 use Rattle.turkish.specs.Types.{types, codeOfTypes}
 use Rattle.untold.specs.Untold.{shortNumber, Untold}
-use Rattle.answers.specs.Answers.{answerLength, encodingNumber, encodingEntries, readingNumber, readingEntries, judgementNumber, judgementEntries}
+use Rattle.answers.specs.Answers.{answerLength, encodingNumber, encodingEntries, splittingNumber, splittingEntries, readingNumber, readingEntries, judgementNumber, judgementEntries}
 
 -- Where the buffer for the table is too short, 13 holds beside the own refusal of a sheet or a ban list, which is below it or, from 15 on, above.
 abbrev pub sheetNumber : SheetAnswer → List ℕ → ℕ
@@ -72,3 +75,11 @@ pub data VerdictCall (t m f g w a m′ f′ g′ w′ a′ : List ℕ) (r : ℕ)
       → VerdictCall t m f g w a m′ f′ g′ w′ a′ r
   answered : {e : Judgement} → imageLength ≤ length t → answerLength ≤ length a → Judges limits (enlargedIn t) m f g w m′ f′ g′ w′ e → r ≡ judgementNumber e
       → a′ ≡ written (judgementEntries e) a → VerdictCall t m f g w a m′ f′ g′ w′ a′ r
+
+-- Splitting the text s by the table in t into the buffer b, with the message buffer m, the reading buffers f and g, the working buffer w and the buffer a for the answer.
+pub data SplitCall (t s b m f g w a b′ m′ f′ g′ w′ a′ : List ℕ) (r : ℕ) : Type 0 where
+  unread : length t < imageLength → r ≡ shortNumber → b′ ≡ b → m′ ≡ m → f′ ≡ f → g′ ≡ g → w′ ≡ w → a′ ≡ a → SplitCall t s b m f g w a b′ m′ f′ g′ w′ a′ r
+  untold : imageLength ≤ length t → length a < answerLength → Untold (splittingConditions limits turkishClasses (enlargedIn t) s [] [] [] [] []) r → b′ ≡ b → m′ ≡ m → f′ ≡ f
+      → g′ ≡ g → w′ ≡ w → a′ ≡ a → SplitCall t s b m f g w a b′ m′ f′ g′ w′ a′ r
+  answered : {e : Splitting} → imageLength ≤ length t → answerLength ≤ length a → SplitsText limits turkishClasses (enlargedIn t) s b m f g w b′ m′ f′ g′ w′ e
+      → r ≡ splittingNumber e → a′ ≡ written (splittingEntries e) a → SplitCall t s b m f g w a b′ m′ f′ g′ w′ a′ r

@@ -17,16 +17,19 @@ use Rattle.code.specs.declared.SheetAnswer.the-variants.{Accepted, Refused}
 use Rattle.code.specs.declared.Encoding.{Encoding}
 use Rattle.code.specs.declared.Reading.{Reading}
 use Rattle.code.specs.declared.Judgement.{Judgement}
+use Rattle.code.specs.declared.Splitting.{Splitting}
 use Rattle.code.specs.Definitions.Answers.{refusalNumber}
 use Rattle.code.specs.Definitions.Enlarged.{plainOf}
 use Rattle.code.specs.Definitions.Lists.{if_then_else_}
 use Rattle.code.specs.Definitions.Operations.{written, encodingConditions, readingConditions, verdictConditions, Enlarges, Encodes, ReadsMessage, Judges}
 use Rattle.code.specs.Definitions.Sheets.{limits, taken}
+use Rattle.code.specs.Definitions.Texts.{splittingConditions, SplitsText}
 use Rattle.image.specs.Image.{imageLength, imageOf, enlargedIn}
+use Rattle.letters.specs.Letters.{turkishClasses}
 use Rattle.turkish.specs.Types.{types, codeOfTypes}
-use Rattle.answers.specs.Answers.{answerLength, encodingNumber, encodingEntries, readingNumber, readingEntries, judgementNumber, judgementEntries}
+use Rattle.answers.specs.Answers.{answerLength, encodingNumber, encodingEntries, splittingNumber, splittingEntries, readingNumber, readingEntries, judgementNumber, judgementEntries}
 use Rattle.untold.specs.Untold.{shortNumber, Untold}
-use Rattle.furlazon.specs.Calls.{Answered, TakesIn, TurkishCall, EnlargeCall, EncodeCall, ReadCall, VerdictCall}
+use Rattle.furlazon.specs.Calls.{Answered, TakesIn, TurkishCall, EnlargeCall, EncodeCall, ReadCall, VerdictCall, SplitCall}
 
 -- Answering a sheet or a ban list
 
@@ -109,3 +112,16 @@ module _ {t m f g w a : List ℕ} where
   pub verdict-answered : {m′ f′ g′ w′ a′ : List ℕ} {n : ℕ} {e : Judgement} {v : Enlarged} → imageLength ≤ length t → answerLength ≤ length a → v ≡ enlargedIn t
       → Judges limits v m f g w m′ f′ g′ w′ e → (n ≡ judgementNumber e) × (a′ ≡ written (judgementEntries e) a) → VerdictCall t m f g w a m′ f′ g′ w′ a′ n
   verdict-answered h l u r e = VerdictCall.answered h l (rw u at r) (e .0) (e .1)
+
+module _ {t s b m f g w a : List ℕ} where
+  pub split-unread : {n : ℕ} → length t < imageLength → n ≡ shortNumber → SplitCall t s b m f g w a b m f g w a n
+  split-unread h e = SplitCall.unread h e refl refl refl refl refl refl
+
+  pub split-untold : {n : ℕ} {v : Enlarged} → imageLength ≤ length t → length a < answerLength → v ≡ enlargedIn t
+      → Untold (splittingConditions limits turkishClasses v s [] [] [] [] []) n → SplitCall t s b m f g w a b m f g w a n
+  split-untold h l u e = SplitCall.untold h l (rw u at e) refl refl refl refl refl refl
+
+  pub split-answered : {b′ m′ f′ g′ w′ a′ : List ℕ} {n : ℕ} {e : Splitting} {v : Enlarged} → imageLength ≤ length t → answerLength ≤ length a → v ≡ enlargedIn t
+      → SplitsText limits turkishClasses v s b m f g w b′ m′ f′ g′ w′ e → (n ≡ splittingNumber e) × (a′ ≡ written (splittingEntries e) a)
+      → SplitCall t s b m f g w a b′ m′ f′ g′ w′ a′ n
+  split-answered h l u r e = SplitCall.answered h l (rw u at r) (e .0) (e .1)

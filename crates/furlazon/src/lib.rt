@@ -6,6 +6,7 @@ use answers::number;
 use answers::put_encoding;
 use answers::put_judgement;
 use answers::put_reading;
+use answers::put_splitting;
 use code::Enlarged;
 use code::Refusal;
 use code::SheetAnswer;
@@ -15,6 +16,7 @@ use image::pack;
 use image::unpack;
 use untold::untold_encoding;
 use untold::untold_reading;
+use untold::untold_splitting;
 use untold::untold_verdict;
 ghost use mathlib.Core.Path.{_≡_};
 ghost use Prim.Native.Nat.{min};
@@ -23,7 +25,7 @@ ghost use Rattle.code.specs.declared.SheetAnswer.the-variants.{Accepted};
 ghost use Rattle.code.specs.Definitions.Lists.{if_then_else_};
 ghost use Rattle.image.specs.Image.{imageLength, Packable};
 ghost use Rattle.untold.specs.Untold.{shortNumber};
-ghost use Rattle.furlazon.specs.Calls.{Answered, TakesIn, TurkishCall, EnlargeCall, EncodeCall, ReadCall, VerdictCall};
+ghost use Rattle.furlazon.specs.Calls.{Answered, TakesIn, TurkishCall, EnlargeCall, EncodeCall, ReadCall, SplitCall, VerdictCall};
 
 // The lower of the refusal of a sheet or a ban list and 13, where a buffer of this length is too short for a table.
 fn lower(refusal: u64, table: usize) -> u64
@@ -163,4 +165,32 @@ pub extern "C" fn furlazon_verdict(
     }
     let e = decipher::verdict(value, message, first, second, work);
     put_judgement(e, answer)
+}
+
+// Splits a text of Turkish letters into syllables. 0: the output stands at the start of `out`, `answer` has its length, and `message`, `first`, `second` and `work`
+// are all zero. Else the refusal's number, and nothing is changed.
+#[no_mangle]
+pub extern "C" fn furlazon_split(
+    table: &[u8],
+    text: &[u8],
+    out: &mut [u8],
+    message: &mut [u8],
+    first: &mut [u8],
+    second: &mut [u8],
+    work: &mut [u64],
+    answer: &mut [u64],
+) -> u64
+    ensures { λ r. ⌜ SplitCall (now (table .entry)) (now (text .entry)) (now (out .entry)) (now (message .entry)) (now (first .entry)) (now (second .entry))
+        (now (work .entry)) (now (answer .entry)) (now (out .exit)) (now (message .exit)) (now (first .exit)) (now (second .exit)) (now (work .exit))
+        (now (answer .exit)) r ⌝ }
+{
+    if table.len() < Image::LENGTH {
+        return number(Refusal::ShortBuffer);
+    }
+    let value = unpack(table);
+    if is_short(answer.len()) {
+        return untold_splitting(value, text);
+    }
+    let e = splitting::split(value, text, out, message, first, second, work);
+    put_splitting(e, answer)
 }

@@ -18,7 +18,7 @@ use Rattle.code.specs.Definitions.Sheets.{badBytes, FromSheet}
 use Rattle.code.specs.Definitions.Bans.{bannedBy, copiesFrom, copiesOf, origin, mayCome, enlarged}
 use Rattle.code.specs.Definitions.BanLists.{banRecords, refused16, bansOf}
 use Rattle.code.specs.Definitions.Enlarged.{plainOf, enlargedWord, enlargedEntry, behindOf, enlargedCode, refused17}
-use Rattle.code.specs.Definitions.Operations.{Enlarges, enlarged as accepted}
+use Rattle.code.specs.Definitions.Operations.{Enlarges, enlarged as accepted, FromLists}
 use Rattle.code.specs.Laws.Lists.{table-list, table-same, sum-past}
 use Rattle.copies.specs.CopyLists.{origin-word}
 use Rattle.copies.specs.BanLists.{no-ban, copies-serve}
@@ -111,3 +111,7 @@ empty-list {l} {c} given =
 
 pub empty-gives : {l : Limits} {c : Code} {x : Enlargement} → FromSheet l c → Enlarges l (plainOf l c) [] x → x ≡ record { answer = Accepted; enlarged = plainOf l c }
 empty-gives given e = enlarges-unique e (empty-list given)
+
+-- So the value without copies of a sheet's code is one that a sheet and a list give.
+pub plain-lists : {l : Limits} {c : Code} → FromSheet l c → FromLists l (plainOf l c)
+plain-lists {c = c} given = record { table = c; given = given; list = []; gives = empty-list given }

@@ -1,13 +1,13 @@
 -- The loop over the letters that a text begins with: all of the first i bytes are letters, and their symbols are laid.
 use mathlib.Core.Path.{_≡_, refl, sym, ap, _∙_}
-use mathlib.Core.Bool.{true, false}
-use mathlib.Core.List.{List, [], _++_, map}
+use mathlib.Core.Bool.{true}
+use mathlib.Core.List.{List}
 use Prim.Native.Nat.{ℕ, _+_, _≤_, _<_}
 use native.Mathlib.Decide.{decLt}
 use native.Mathlib.Nat.{zero-add}
 use native.Mathlib.Omega.{arith}
 use borrow.Author.Tests.{lt-ltb, le-ltb}
-use lib.ListN.{length, take, drop, getD, set, length-map, length-set, take-append-drop, drop-of-length-le}
+use lib.ListN.{length, take, drop, getD, set, length-map, take-append-drop, drop-of-length-le}
 use lib.Seq.{sets, length-sets, length-take-le, getD-take, drop-cons}
 use Rattle.code.specs.Definitions.Lists.{every}
 use Rattle.code.specs.Definitions.Operations.{written}

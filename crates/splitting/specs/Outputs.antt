@@ -1,6 +1,6 @@
 -- The loop over a text. What is written so far is said by what it does to the output of what is left: put before it, it is the output of the whole text. The output is
 -- never longer than twice the bytes passed and one more, and it is only so long right behind a word, where no letter stands.
-use mathlib.Core.Path.{_≡_, refl, sym, ap, _∙_, subst}
+use mathlib.Core.Path.{_≡_, refl, sym, _∙_, subst}
 use mathlib.Core.Bool.{true, false}
 use mathlib.Core.List.{List, [], _∷_, _++_, append-nil, append-assoc}
 use mathlib.Core.Logic.{_⊎_, inl, inr}

@@ -1,11 +1,10 @@
 -- The public operation: which refusal holds first, and how the output where none holds is what splitting promises.
-use mathlib.Core.Path.{_≡_, refl, sym, _∙_}
+use mathlib.Core.Path.{_≡_, refl, _∙_}
 use mathlib.Core.List.{List}
 use mathlib.Core.Logic.{inl, inr}
 use Prim.Native.Nat.{ℕ, _≤_, _<_}
 use native.Mathlib.Omega.{arith}
 use lib.ListN.{length, replicate}
-use Rattle.code.specs.declared.ByteCount.{ByteCount}
 use Rattle.code.specs.declared.Enlarged.{Enlarged}
 use Rattle.code.specs.declared.Refusal.the-variants.{NotFromSheet, MessageLength, ShortBuffer}
 use Rattle.code.specs.declared.Splitting.the-variants.{Split, Refused}

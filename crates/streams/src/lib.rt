@@ -2,7 +2,7 @@
 
 use libc::EINTR;
 ghost use lib.ListN.{length};
-ghost use Rattle.streams.specs.Inputs.{Holds, Within};
+ghost use Rattle.streams.specs.Inputs.{Holds, Named, Within};
 
 // The bytes at the start of a buffer, which are the whole input or fill the buffer; or an open or a read failed, and errno says why.
 pub enum Input {
@@ -84,4 +84,14 @@ pub fn read_argument(i: usize, bytes: &mut [u8]) -> Input
         return Input::Failed;
     }
     read_file(&path[..n], bytes)
+}
+
+// The same for argument i of a program that has so many, its own name among them. Where it has no such argument, there are 0 bytes.
+pub fn read_named(i: usize, arguments: usize, bytes: &mut [u8]) -> Input
+    ensures { λ r. ⌜ Named i arguments (now (bytes .exit)) r ⌝ }
+{
+    if arguments <= i {
+        return Input::Bytes(0);
+    }
+    read_argument(i, bytes)
 }

@@ -1,10 +1,10 @@
 -- The loop over the syllables of a word: the first i stand in the buffer with breaks between them, and the next begins behind them.
-use mathlib.Core.Path.{_≡_, refl, sym, ap, _∙_}
+use mathlib.Core.Path.{_≡_, _∙_}
 use mathlib.Core.List.{List, [], _∷_}
 use Prim.Native.Nat.{ℕ, _+_, _-_, _≤_, _<_}
 use native.Mathlib.Omega.{arith}
 use lib.ListN.{length, take, drop, getD}
-use Rattle.code.specs.Definitions.Lists.{sum, join}
+use Rattle.code.specs.Definitions.Lists.{join}
 use Rattle.code.specs.Definitions.Texts.{syllableBreak, syllables}
 use Rattle.writing.specs.Puts.{Puts, puts-length}
 use Rattle.writing.specs.Fields.{following, fieldsTo, none-put, field-fits, field-put, all-put}

@@ -1,7 +1,7 @@
 -- How long the output is. 02, request 4: "The output buffer needs twice the input plus one": a word with a reading gets one byte less than it has syllables, and
 -- these are no more than its letters; brackets are two. Only a word of one letter in brackets takes one byte more than twice its length, and behind a word comes
 -- the end or another byte.
-use mathlib.Core.Path.{_≡_, sym, ap}
+use mathlib.Core.Path.{_≡_, ap}
 use mathlib.Core.List.{List, [], _∷_, _++_}
 use Prim.Native.Nat.{ℕ, _+_, _*_, _≤_}
 use native.Mathlib.Omega.{arith}

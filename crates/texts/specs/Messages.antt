@@ -1,5 +1,5 @@
 -- The letters of an encoded message. Where the message has one reading, splitting them puts the breaks exactly between the words of the sequence.
-use mathlib.Core.Path.{_≡_, sym, ap, _∙_}
+use mathlib.Core.Path.{_≡_, sym}
 use mathlib.Core.Bool.{true, and-eq-true-iff}
 use mathlib.Core.List.{List, [], _∷_, _++_, map, append-nil}
 use Prim.Native.Nat.{ℕ, _≤_}

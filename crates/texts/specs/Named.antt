@@ -1,11 +1,9 @@
 -- Splitting by a code with copies is splitting by the table of original words that it covers: a word has no, one or several readings by both, and the words of a
 -- reading are as long by both.
-use mathlib.Core.Path.{_≡_, refl, ap, ap₂, subst}
+use mathlib.Core.Path.{_≡_, refl, subst}
 use mathlib.Core.List.{List, [], _∷_, map}
 use Prim.Native.Nat.{ℕ}
-use lib.ListN.{length}
 use Rattle.code.specs.Definitions.Lists.{join}
-use Rattle.code.specs.Definitions.Readings.{Reads}
 use Rattle.code.specs.Definitions.Tables.{Table, size}
 use Rattle.code.specs.Definitions.Texts.{syllableBreak, syllables, lengthsOf, Shows, split, none, several, Splits, end, copied, shown}
 use Rattle.code.specs.Laws.Finite.{Within}

@@ -1,9 +1,9 @@
 -- The syllables of a word: where their lengths add up to its length, they joined are the word, and each spells the word of the code that it was read as.
 use mathlib.Core.Path.{_≡_, refl, sym, ap, _∙_}
-use mathlib.Core.List.{List, [], _∷_, _++_, map}
-use Prim.Native.Nat.{ℕ, zero, suc, _+_, _*_, _≤_}
+use mathlib.Core.List.{List, [], _∷_, map}
+use Prim.Native.Nat.{ℕ, zero, suc, _+_, _≤_}
 use native.Mathlib.Omega.{arith}
-use lib.ListN.{length, take, drop, length-append, length-drop, length-map, take-append-drop}
+use lib.ListN.{length, take, drop, length-append, length-drop, length-map}
 use lib.Seq.{length-take-le, take-append-seam, drop-append-seam}
 use Rattle.code.specs.Definitions.Lists.{sum, join}
 use Rattle.code.specs.Definitions.Readings.{Reads}

@@ -1,6 +1,6 @@
 -- What `decipher::verdict` answers for the twelve types, in buffers that are long enough, and what these then begin with.
 use mathlib.Core.Path.{_≡_, refl}
-use mathlib.Core.List.{List, []}
+use mathlib.Core.List.{List}
 use Prim.Native.Nat.{ℕ}
 use lib.ListN.{length, take}
 use Rattle.code.specs.declared.Judgement.{Judgement}
@@ -14,7 +14,7 @@ use Rattle.code.specs.Laws.Readings.{ambiguous-unique}
 use Rattle.decipher.specs.Buffers.{Room}
 use Rattle.decipher.specs.Kinds.{verdict-answered}
 use Rattle.decipher.specs.Shown.{judged-ambiguous}
-use Rattle.meaning.specs.Empty.{empty-list}
+use Rattle.meaning.specs.Empty.{plain-lists}
 use Rattle.meaning.specs.Given.{plain-original}
 use Rattle.turkish.specs.Given.{twelve-from-sheet}
 use Rattle.turkish_verdicts.specs.Cases.{twelve, messageTwelve, firstTwelve, secondTwelve, twelve-ambiguous}
@@ -24,7 +24,7 @@ verdictTwelve = Two-ways (record { 0 = 5 }) (record { 0 = 2 }) (record { 0 = 2 }
 
 -- The built-in code is a value that a sheet gives, without a ban.
 pub twelve-lists : FromLists limits (plainOf limits twelve)
-twelve-lists = record { table = twelve; given = twelve-from-sheet; list = []; gives = empty-list twelve-from-sheet }
+twelve-lists = plain-lists twelve-from-sheet
 
 module _ {m f g w m′ f′ g′ w′ : List ℕ} (room : Room (length m) (length f) (length g) (length w)) {r : Judgement}
     (judges : Judges limits (plainOf limits twelve) m f g w m′ f′ g′ w′ r) where

@@ -13,9 +13,12 @@ use Rattle.code.specs.declared.Reading.{Reading}
 use Rattle.code.specs.declared.Reading.the-variants.{One, Two, Refused as Not-read}
 use Rattle.code.specs.declared.Judgement.{Judgement}
 use Rattle.code.specs.declared.Judgement.the-variants.{Judged, Refused as Not-judged}
+use Rattle.code.specs.declared.Splitting.{Splitting}
+use Rattle.code.specs.declared.Splitting.the-variants.{Split, Refused as Not-split}
 use Rattle.code.specs.Definitions.Answers.{refusalNumber}
 use Rattle.code.specs.Definitions.Operations.{Condition, Lowest, NoneHolds, encodingConditions, readingConditions, verdictConditions, Encodes, ReadsMessage, Judges}
 use Rattle.code.specs.Definitions.Sheets.{limits}
+use Rattle.code.specs.Definitions.Texts.{splittingConditions, SplitsText}
 
 abbrev pub shortNumber : ℕ
 shortNumber = refusalNumber ShortBuffer
@@ -53,6 +56,15 @@ untoldEncoding (Not-encoded r) = refusalNumber r
 pub untold-encoding : {v : Enlarged} {s b : List ℕ} {e : Encoding} {n : ℕ} → Encodes limits v s [] b e → n ≡ untoldEncoding e → Untold (encodingConditions limits v s []) n
 untold-encoding (Encodes.refused {r} h k) = untold-refused r _ h
 untold-encoding (Encodes.encoded h k w) = untold-none _ h
+
+abbrev untoldSplitting : Splitting → ℕ
+untoldSplitting (Split k) = shortNumber
+untoldSplitting (Not-split r) = refusalNumber r
+
+pub untold-splitting : {classes : List ℕ} {v : Enlarged} {s b m f g w : List ℕ} {e : Splitting} {n : ℕ} → SplitsText limits classes v s [] [] [] [] [] b m f g w e
+    → n ≡ untoldSplitting e → Untold (splittingConditions limits classes v s [] [] [] [] []) n
+untold-splitting (SplitsText.refused {r} h i j k l m) = untold-refused r _ h
+untold-splitting (SplitsText.split h d c o i j k l) = untold-none _ h
 
 abbrev untoldReading : Reading → ℕ
 untoldReading (One k) = shortNumber

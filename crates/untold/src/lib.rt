@@ -7,9 +7,12 @@ use code::Enlarged;
 use code::Judgement;
 use code::Reading;
 use code::Refusal;
+use code::Splitting;
 ghost use mathlib.Core.List.{[]};
 ghost use Rattle.code.specs.Definitions.Operations.{encodingConditions, readingConditions, verdictConditions};
 ghost use Rattle.code.specs.Definitions.Sheets.{limits};
+ghost use Rattle.code.specs.Definitions.Texts.{splittingConditions};
+ghost use Rattle.letters.specs.Letters.{turkishClasses};
 ghost use Rattle.untold.specs.Untold.{Untold};
 
 pub fn untold_encoding(value: Enlarged, words: &[u8]) -> u64
@@ -48,5 +51,28 @@ pub fn untold_verdict(value: Enlarged) -> u64
     match e {
         Judgement::Refused(r) => number(r),
         Judgement::Judged(_) => number(Refusal::ShortBuffer),
+    }
+}
+
+pub fn untold_splitting(value: Enlarged, text: &[u8]) -> u64
+    ensures { λ r. ⌜ Untold (splittingConditions limits turkishClasses value (now (text .entry)) [] [] [] [] []) r ⌝ }
+{
+    let mut out = [0u8; 0];
+    let mut message = [0u8; 0];
+    let mut first = [0u8; 0];
+    let mut second = [0u8; 0];
+    let mut work = [0u64; 0];
+    let e = splitting::split(
+        value,
+        text,
+        &mut out,
+        &mut message,
+        &mut first,
+        &mut second,
+        &mut work,
+    );
+    match e {
+        Splitting::Refused(r) => number(r),
+        Splitting::Split(_) => number(Refusal::ShortBuffer),
     }
 }

@@ -1,11 +1,8 @@
 -- What the program answers for a sheet and a ban list, whole: the printed result of their refusal, or of the verdict on what they give.
 use mathlib.Core.Path.{_≡_}
 use mathlib.Core.List.{List}
-use Prim.Native.Nat.{ℕ, _+_, _*_, _<_}
+use Prim.Native.Nat.{ℕ, _+_, _*_}
 use lib.ListN.{length, take}
-use Rattle.streams.specs.Inputs.{Holds}
-use Rattle.streams.specs.declared.Input.{Input}
-use Rattle.streams.specs.declared.Input.the-variants.{Bytes}
 use Rattle.code.specs.declared.Enlargement.{Enlargement}
 use Rattle.code.specs.declared.Refusal.{Refusal}
 use Rattle.code.specs.declared.Refusal.the-variants.{SheetLength}
@@ -65,8 +62,3 @@ pub record Shows (sheet list m f g : List ℕ) (j : Judgement) : Type 0 where
   pub right : RightFor sheet list message first second j
   pub printable : Printable j m f g outputRoom
   pub same : result j m f g ≡ printed j message first second
-
--- The ban list of a program with so many arguments, its own name among them, at the start of a buffer. 02, request 2: "0 bytes hold no ban"
-pub record Listed (arguments : ℕ) (bytes : List ℕ) (i : Input) : Type 0 where
-  pub holds : Holds bytes i
-  pub none : arguments < 2 → i ≡ Bytes 0

@@ -17,8 +17,9 @@ use Rattle.code.specs.Definitions.Enlarged.{plainOf, blankEnlarged}
 use Rattle.code.specs.Definitions.Operations.{refused}
 use Rattle.code.specs.Definitions.Sheets.{limits, taken}
 use Rattle.sheet.specs.Taking.{way-long}
+use Rattle.sheet.specs.Either.{not-both}
 use Rattle.verdict.specs.Answers.{Gives, sheet-refused, sheet-accepted, RightOf, RightFor, Answers, AnswersInput}
-use Rattle.verdict.specs.Unique.{not-both, gives-unique}
+use Rattle.verdict.specs.Unique.{gives-unique}
 
 by-kind : (g : Enlargement) (x s u : List ℕ) (j : Judgement) {r : Refusal} → RightOf g x s u j → g .answer ≡ Refused r → j ≡ Not-judged r
 by-kind g x s u (Judged v) right answer = absurd (not-both (right .0) answer)

@@ -33,9 +33,9 @@ use Rattle.writing.specs.Puts.{Starts}
 use Rattle.printing.specs.Prints.{lengthsOf, Symbols, Printable, Prints, all, none, result}
 use Rattle.meaning.specs.Alike.{same-reads}
 use Rattle.meaning.specs.Given.{tableWith, lists-alike}
+use Rattle.sheet.specs.Either.{not-both}
 use Rattle.verdict.specs.Answers.{outputRoom, Gives, sheet-refused, sheet-accepted, Answers, Shows}
 use Rattle.verdict.specs.Symbols.{symbols-message}
-use Rattle.verdict.specs.Unique.{not-both}
 
 -- What shows nothing of the buffers can be printed.
 plain : (j : Judgement) → lengthsOf j ≡ record { message = 0; first = 0; second = 0 } → (m f g : List ℕ) → Printable j m f g outputRoom

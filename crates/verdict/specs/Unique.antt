@@ -2,12 +2,10 @@
 use mathlib.Core.Path.{_≡_, refl, sym, ap, _∙_, subst}
 use mathlib.Core.List.{List}
 use Prim.Native.Nat.{ℕ}
-use native.Mathlib.Omega.{arith}
 use lib.ListN.{length}
 use Rattle.code.specs.declared.Enlargement.{Enlargement}
 use Rattle.code.specs.declared.Refusal.{Refusal}
-use Rattle.code.specs.declared.SheetAnswer.{SheetAnswer}
-use Rattle.code.specs.declared.SheetAnswer.the-variants.{Accepted, Refused}
+use Rattle.code.specs.declared.SheetAnswer.the-variants.{Refused}
 use Rattle.code.specs.declared.Verdict.{Verdict}
 use Rattle.code.specs.declared.Verdict.the-variants.{Ambiguous as Two-ways, Finite, Unbounded}
 use Rattle.code.specs.declared.Judgement.{Judgement}
@@ -21,13 +19,8 @@ use Rattle.code.specs.Laws.Readings.{ambiguous-unique}
 use Rattle.code.specs.Laws.Verdicts.{verdict-unique}
 use Rattle.meaning.specs.Answered.{enlarges-unique}
 use Rattle.printing.specs.Printed.{printed}
+use Rattle.sheet.specs.Either.{not-both, one-refusal}
 use Rattle.verdict.specs.Answers.{Gives, sheet-refused, sheet-accepted, RightOf, RightFor, Answers}
-
-pub not-both : {a : SheetAnswer} {r : Refusal} → a ≡ Accepted → a ≡ Refused r → ⊥
-not-both p q = let z : _≡_ {A = ℕ} 0 1 = cc in omega arith
-
-one-refusal : {a : SheetAnswer} {r i : Refusal} → a ≡ Refused r → a ≡ Refused i → r ≡ i
-one-refusal p q = cc
 
 -- A sheet and a list give one thing.
 pub gives-unique : {sheet list : List ℕ} {x y : Enlargement} → Gives sheet list x → Gives sheet list y → x ≡ y

@@ -16,7 +16,7 @@ ghost use lib.ListN.{length};
 ghost use Rattle.code.specs.Definitions.Operations.{verdictRoom};
 ghost use Rattle.code.specs.Definitions.Sheets.{limits};
 ghost use Rattle.io.specs.Counts.{Counts};
-ghost use Rattle.verdict.specs.Answers.{outputRoom, Gives, Shows, Answers, AnswersInput, Listed};
+ghost use Rattle.verdict.specs.Answers.{outputRoom, Gives, Shows, Answers, AnswersInput};
 
 pub struct Output {}
 
@@ -88,16 +88,6 @@ fn answer_input(input: &[u8], n: usize, file: &[u8], k: usize, out: &mut [u8]) -
     answer(&input[..n], &file[..k], out)
 }
 
-// The ban list of a program with so many arguments, its own name among them. Without a name of a list it has 0 bytes.
-fn read_list(arguments: usize, bytes: &mut [u8]) -> Input
-    ensures { λ r. ⌜ Listed arguments (now (bytes .exit)) r ⌝ }
-{
-    if arguments < 2 {
-        return Input::Bytes(0);
-    }
-    streams::read_argument(1, bytes)
-}
-
 // The answer to standard input, and to the file that the argument names, on standard output. What cannot be read or written is told on standard error, and a
 // sheet or a list that was not read whole gets no answer.
 fn main() {
@@ -110,7 +100,8 @@ fn main() {
         return;
     }
     let mut file = [0u8; Sheet::BYTES + 1];
-    let listed = read_list(arguments, &mut file);
+    // Without an argument the list has 0 bytes, which hold no ban.
+    let listed = streams::read_named(1, arguments, &mut file);
     let Input::Bytes(k) = listed else {
         os::fail(b"verdict: cannot read the ban list");
         return;

@@ -1,7 +1,6 @@
 -- The first four buffers by a return for each, then the working buffer (`short-work`).
 use borrow.Author.Needs.{needs}
 use mathlib.Core.Logic.{inl, inr}
-use native.Mathlib.Omega.{arith}
 use Rattle.table.specs.Exactly.{exactly-true}
 use Rattle.splitting.specs.Rooms.{short-work}
 use Rattle.splitting.proofs.is_short.Statement.{statement}

@@ -10,7 +10,7 @@ answer-input-requires c κs =
     let told = c .before .before .before .before in
     let counts = holds-bytes _ (told .read .given .1) (told .before .before .before .read-input .ensures) in
     let list-told = told .before .before .before .before .before .before in
-    let list-counts = holds-bytes _ (list-told .listed .given .1) (list-told .before .before .before .read-list .ensures .holds) in
+    let list-counts = holds-bytes _ (list-told .listed .given .1) (list-told .before .before .before .read-named .ensures .holds) in
     search (needs, counts, list-counts)
 
 array-share-prefix-out : tie.Need-array-share-prefix-out

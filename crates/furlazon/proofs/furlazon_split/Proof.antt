@@ -1,0 +1,34 @@
+-- An image too short to be read is found first, then an answer too short to be told; then the operation answers, and its answer is written as numbers.
+use Rattle.furlazon.specs.Ways.{answer-short, answer-room, split-unread, split-untold, split-answered}
+use borrow.Author.Needs.{needs}
+use Rattle.furlazon.proofs.furlazon_split.Statement.{statement}
+use Rattle.furlazon.proofs.furlazon_split.Tie as tie
+
+returns : tie.Need-returns
+returns c = search split-unread
+
+returns-2 : tie.Need-returns-2
+returns-2 c = search (split-untold, answer-short)
+
+returns-3 : tie.Need-returns-3
+returns-3 c = search (split-answered, answer-room)
+
+pub furlazon-split-spec : {M : Type 1} → statement M
+furlazon-split-spec =
+    tie.close
+    (tie.spec
+    (λ c κs. search needs)
+    returns
+    (λ c κs. search needs)
+    (λ c κs. search needs)
+    (λ c κs. search needs)
+    returns-2
+    (λ c κs. search needs)
+    (λ c κs. search answer-room)
+    (λ c. search needs)
+    (λ c. search needs)
+    (λ c. search needs)
+    (λ c. search needs)
+    (λ c. search needs)
+    (λ c. search needs)
+    returns-3)
