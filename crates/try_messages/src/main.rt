@@ -1,13 +1,15 @@
 // Each argument is a trial, in fields with a blank between:
 //     encode SHEET WORDS ROOM
 //     read SHEET MESSAGE ROOM ROOM ROOM
-// SHEET is a file, or two with a plus sign between, a sheet and a ban list; a ROOM is the length of a lent buffer. After the rooms the code may be changed by one of
+//     split SHEET TEXT ROOM ROOM ROOM ROOM ROOM
+// TEXT is a list of bytes, or the bytes themselves behind an apostrophe. SHEET is a file, or two with a plus sign between, a sheet and a ban list; a ROOM is the length of a lent buffer. After the rooms the code may be changed by one of
 //     count N    length X N    symbol X K N    entry X Y N    originals N    origin X N    behind X N
 // The program writes the trial, its answer, and what the lent buffers then hold.
 
 mod buffers;
 mod lists;
 mod tables;
+mod texts;
 mod trials;
 
 use libc::STDOUT_FILENO;
@@ -18,6 +20,8 @@ fn try_line(line: &[u8]) {
     io::write_all(STDOUT_FILENO, b": ");
     if fields::is(line, 0, b"encode") {
         trials::encode(line);
+    } else if fields::is(line, 0, b"split") {
+        texts::split(line);
     } else {
         trials::read(line);
     }

@@ -87,7 +87,7 @@ fn with_entry(mut code: Code, x: usize, y: usize, entry: u8) -> Code
 
 // The table with the change that fields k to k + 3 name, if any.
 fn changed(code: Code, line: &[u8], k: usize) -> Code
-    requires { ⌜ k < 8 ⌝ }
+    requires { ⌜ k < 16 ⌝ }
 {
     let n = fields::number(line, k + 1);
     if fields::is(line, k, b"count") {
@@ -132,7 +132,7 @@ fn with_behind(mut value: Enlarged, x: usize, after: u8) -> Enlarged
 
 // The same for a code with copies.
 fn value_changed(mut value: Enlarged, line: &[u8], k: usize) -> Enlarged
-    requires { ⌜ k < 8 ⌝ }
+    requires { ⌜ k < 16 ⌝ }
 {
     if fields::is(line, k, b"originals") {
         value.originals = fields::number(line, k + 1);
@@ -151,7 +151,7 @@ fn value_changed(mut value: Enlarged, line: &[u8], k: usize) -> Enlarged
 
 // The code of a trial: field 1 names its files, and a change may stand from field k on.
 pub fn of_trial(line: &[u8], k: usize) -> Enlarged
-    requires { ⌜ k < 8 ⌝ }
+    requires { ⌜ k < 16 ⌝ }
 {
     let f = fields::field(line, 1);
     let a = f.from;

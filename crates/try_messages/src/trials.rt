@@ -13,10 +13,10 @@ ghost use Prim.Native.Nat.{_≤_};
 ghost use lib.ListN.{length};
 
 // The entries that there are for the words or the message of a trial.
-const ENTRIES: usize = 100000;
+pub const ENTRIES: usize = 100000;
 
 // Puts the list in field 2 at the start of `out`, and gives how many entries it has.
-fn put_list(line: &[u8], out: &mut [u8]) -> usize
+pub fn put_list(line: &[u8], out: &mut [u8]) -> usize
     ensures { λ r. ⌜ r ≤ length (now (out .exit)) ⌝ }
 {
     let f = fields::field(line, 2);
@@ -25,7 +25,7 @@ fn put_list(line: &[u8], out: &mut [u8]) -> usize
     lists::put(&line[a..e], out)
 }
 
-fn write_refusal(r: Refusal) {
+pub fn write_refusal(r: Refusal) {
     io::write_all(STDOUT_FILENO, b"refused ");
     io::print_decimal(STDOUT_FILENO, r.number() as u64);
 }

@@ -2,17 +2,17 @@
 use borrow.Author.Needs.{needs}
 use Prim.Native.Nat.{_≤_, _-_}
 use lib.ListN.{length}
-use Rattle.try_messages.proofs.buffers.is_kept.Statement.{statement}
-use Rattle.try_messages.proofs.buffers.is_kept.Tie as tie
+use Rattle.try_messages.proofs.buffers.holds.Statement.{statement}
+use Rattle.try_messages.proofs.buffers.holds.Tie as tie
 
 abbrev Inv-loop : tie.InvT-loop
-Inv-loop buffer from i₀ i = from ≤ i
+Inv-loop buffer from value i₀ i = from ≤ i
 
 abbrev μ-loop : tie.MeasureT-loop
-μ-loop buffer from i₀ i = length buffer - i
+μ-loop buffer from value i₀ i = length buffer - i
 
-pub is-kept-spec : {M : Type 1} → statement M
-is-kept-spec =
+pub holds-spec : {M : Type 1} → statement M
+holds-spec =
     tie.close
     (tie.spec
     Inv-loop
