@@ -76,5 +76,7 @@ module _ (classes s : List ℕ) where
     pub run-stops : {c : ℕ} → length s ≤ length m → i < length s → c ≡ classOf classes (getD s i 0) → other ≤ c → LaysRun m m′ i
     run-stops {c} room h e high = laid-run room (rw (drop-cons s i 0 h) (Runs.other {a = getD s i 0} (rw (← e) (le-ltb c other high))))
 
-    pub run-ends : length s ≤ length m → length s ≤ i → LaysRun m m′ i
-    run-ends room h = laid-run room (rw (drop-of-length-le s h) Runs.none)
+    pub run-ends : length s ≤ length m → length s ≤ i → LaysRun m m′ (length s)
+    run-ends room h =
+        let all : i ≡ length s = omega (arith, l .within) in
+        rw all at (laid-run room (rw (drop-of-length-le s h) Runs.none))

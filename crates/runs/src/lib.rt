@@ -33,5 +33,5 @@ pub fn lay_run(classes: &[u8; Classes::BYTES], text: &[u8], message: &mut [u8]) 
         message[i] = class;
         i += 1;
     }
-    i
+    text.len()
 }

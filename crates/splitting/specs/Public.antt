@@ -1,9 +1,11 @@
 -- The public operation: which refusal holds first, and how the output where none holds is what splitting promises.
 use mathlib.Core.Path.{_≡_, refl, _∙_}
+use mathlib.Core.Bool.{Bool, true, false, not}
 use mathlib.Core.List.{List}
 use mathlib.Core.Logic.{inl, inr}
 use Prim.Native.Nat.{ℕ, _≤_, _<_}
 use native.Mathlib.Omega.{arith}
+use borrow.Author.Tests.{not-true, not-false}
 use lib.ListN.{length, replicate}
 use Rattle.code.specs.declared.Enlarged.{Enlarged}
 use Rattle.code.specs.declared.Refusal.the-variants.{NotFromSheet, MessageLength, ShortBuffer}
@@ -14,30 +16,41 @@ use Rattle.code.specs.Definitions.Tables.{tableOf}
 use Rattle.code.specs.Definitions.Texts.{SplitsText, refused, split}
 use Rattle.enlargements.specs.Listed.{from-lists}
 use Rattle.enlargements.specs.Meaning.{value-covers}
+use Rattle.table.specs.Exactly.{Exactly}
+use Rattle.table.specs.WellFormed.{WellFormed}
 use Rattle.texts.specs.Named.{named-splits}
 use Rattle.splitting.specs.Outputs.{SplitsInto}
-use Rattle.splitting.specs.Rooms.{Short}
+use Rattle.splitting.specs.Rooms.{Short, Rooms, enough-room}
 
 -- A buffer that kept its length, and was then cleared.
 pub zero-same : (b : List ℕ) {b′ : List ℕ} {n : ℕ} → b′ ≡ replicate n 0 → n ≡ length b → b′ ≡ zeroed b
 zero-same b p h = p ∙ rw h
 
-module _ {classes : List ℕ} {e : Enlarged} {s b m f g w : List ℕ} where
+module _ {e : Enlarged} {a : Bool} (given : Exactly a (FromLists limits e)) (kept : not a ≡ false) where
+  from : FromLists limits e
+  from = given .yes (not-false a kept)
+
+  pub split-rooms : {s b m f g w : List ℕ} {d : Bool} → length s ≤ limits .text → Exactly d (Short (length s) (length b) (length m) (length f) (length g) (length w)) → d ≡ false
+      → WellFormed limits (e .code) × Rooms s b m f g w
+  split-rooms short shortage long = (from-lists from .code, enough-room short (shortage .no long))
+
+module _ {classes : List ℕ} {e : Enlarged} {s b m f g w : List ℕ} {a : Bool} (given : Exactly a (FromLists limits e)) where
   -- Each refusal, where it is the first that holds.
-  pub refuse-table : (FromLists limits e → ⊥) → SplitsText limits classes e s b m f g w b m f g w (Refused NotFromSheet)
-  refuse-table h = refused (inl (h, refl)) refl refl refl refl refl
+  pub way-8 : not a ≡ true → SplitsText limits classes e s b m f g w b m f g w (Refused NotFromSheet)
+  way-8 h = refused (inl (given .no (not-true a h), refl)) refl refl refl refl refl
 
-  module _ (from : FromLists limits e) where
-    pub refuse-length : limits .text < length s → SplitsText limits classes e s b m f g w b m f g w (Refused MessageLength)
-    refuse-length h = refused (inr (λ n. n from, inl (h, refl))) refl refl refl refl refl
+  module _ (kept : not a ≡ false) where
+    pub way-11 : limits .text < length s → SplitsText limits classes e s b m f g w b m f g w (Refused MessageLength)
+    way-11 h = refused (inr (λ n. n (from given kept), inl (h, refl))) refl refl refl refl refl
 
-    module _ (short : length s ≤ limits .text) where
-      pub refuse-buffer : Short (length s) (length b) (length m) (length f) (length g) (length w) → SplitsText limits classes e s b m f g w b m f g w (Refused ShortBuffer)
-      refuse-buffer h = refused (inr (λ n. n from, inr (λ n. omega arith, inl (h, refl)))) refl refl refl refl refl
+    module _ (short : length s ≤ limits .text) {d : Bool} (shortage : Exactly d (Short (length s) (length b) (length m) (length f) (length g) (length w))) where
+      pub way-13 : d ≡ true → SplitsText limits classes e s b m f g w b m f g w (Refused ShortBuffer)
+      way-13 h = refused (inr (λ n. n (from given kept), inr (λ n. omega arith, inl (shortage .yes h, refl)))) refl refl refl refl refl
 
       -- Where none holds: the output by the plain code is that by the table of original words, which it covers.
-      pub split-result : (Short (length s) (length b) (length m) (length f) (length g) (length w) → ⊥) → {b′ m′ f′ g′ w′ : List ℕ} {n : ℕ}
-          → SplitsInto (tableOf (e .code)) classes s b b′ n → m′ ≡ zeroed m → f′ ≡ zeroed f → g′ ≡ zeroed g → w′ ≡ zeroed w
-          → SplitsText limits classes e s b m f g w b′ m′ f′ g′ w′ (Split (record { 0 = n }))
-      split-result none i p q r z =
-          split (λ n. n from, (λ n. omega arith, (none, tt))) (named-splits (value-covers (from-lists from)) (i .splits)) (i .starts .count) (i .starts .out) p q r z
+      pub way-split : d ≡ false → {c b′ m′ f′ g′ w′ : List ℕ} {n : ℕ} → c ≡ classes → SplitsInto (tableOf (e .code)) c s b b′ n → m′ ≡ zeroed m → f′ ≡ zeroed f
+          → g′ ≡ zeroed g → w′ ≡ zeroed w → SplitsText limits classes e s b m f g w b′ m′ f′ g′ w′ (Split (record { 0 = n }))
+      way-split long is i p q r z =
+          let o = rw is at (i .splits) in
+          split (λ n. n (from given kept), (λ n. omega arith, (shortage .no long, tt))) (named-splits (value-covers (from-lists (from given kept))) o)
+          (i .starts .count) (i .starts .out) p q r z

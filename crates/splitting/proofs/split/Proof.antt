@@ -1,32 +1,23 @@
 -- `split` meets its contract: a lemma for each refusal, in their order, and for the output where none holds.
 use borrow.Author.Needs.{needs}
-use borrow.Author.Tests.{not-true, not-false}
-use Rattle.enlargements.specs.Listed.{from-lists}
-use Rattle.splitting.specs.Rooms.{enough-room}
-use Rattle.splitting.specs.Public.{zero-same, refuse-table, refuse-length, refuse-buffer, split-result}
+use Rattle.splitting.specs.Public.{zero-same, way-8, way-11, way-13, split-rooms, way-split}
 use Rattle.splitting.proofs.split.Statement.{statement}
 use Rattle.splitting.proofs.split.Tie as tie
 
 returns : tie.Need-returns
-returns c = refuse-table (c .before .well-enlarged .ensures .no (not-true _ (c .if1 .taken)))
+returns c = search way-8
 
 returns-2 : tie.Need-returns-2
-returns-2 c = refuse-length (c .before .before .well-enlarged .ensures .yes (not-false _ (c .before .if1 .left))) (c .if2 .taken)
-
-is-short-requires : tie.Need-is-short-requires
-is-short-requires c κs = c .if2 .left
+returns-2 c = search way-11
 
 returns-3 : tie.Need-returns-3
-returns-3 c =
-    let at-if1 = c .before .before .before in
-    refuse-buffer (at-if1 .before .well-enlarged .ensures .yes (not-false _ (at-if1 .if1 .left))) (c .before .before .if2 .left) (c .before .is-short .ensures .yes (c .if3 .taken))
+returns-3 c = search way-13
 
 split-by-requires : tie.Need-split-by-requires
 split-by-requires c κs =
     let at-if3 = c .before .before .before .before .before .before .before .before in
     let at-if1 = at-if3 .before .before .before in
-    let from = at-if1 .before .well-enlarged .ensures .yes (not-false _ (at-if1 .if1 .left)) in
-    (from-lists from .code, enough-room (at-if3 .before .before .if2 .left) (at-if3 .before .is-short .ensures .no (at-if3 .if3 .left)))
+    split-rooms (at-if1 .before .well-enlarged .ensures) (at-if1 .if1 .left) (at-if3 .before .before .if2 .left) (at-if3 .before .is-short .ensures) (at-if3 .if3 .left)
 
 returns-4 : tie.Need-returns-4
 returns-4 c =
@@ -37,8 +28,8 @@ returns-4 c =
     let at-if1 = at-if3 .before .before .before in
     let a = at-if1 .before .before .before .before .before .before .before .before .args in
     let zero = after-clear-all .clear-all .ensures in
-    split-result (at-if1 .before .well-enlarged .ensures .yes (not-false _ (at-if1 .if1 .left))) (at-if3 .before .before .if2 .left)
-    (at-if3 .before .is-short .ensures .no (at-if3 .if3 .left)) (rw (after-turkish .turkish .ensures) at (after-split-by .split-by .ensures))
+    way-split (at-if1 .before .well-enlarged .ensures) (at-if1 .if1 .left) (at-if3 .before .before .if2 .left) (at-if3 .before .is-short .ensures) (at-if3 .if3 .left)
+    (after-turkish .turkish .ensures) (after-split-by .split-by .ensures)
     (zero-same (a .message .now) (zero .0) (c .before .before .before .before .before .before .before .before .before .before .before .before .before .before .before .before .before .before .before .before .message .given)) (zero-same (a .first .now) (zero .1) (c .before .before .before .before .before .before .before .before .before .before .before .before .before .before .before .before .before .before .first .given))
     (zero-same (a .second .now) (zero .2) (c .before .before .before .before .before .before .before .before .before .before .before .before .before .before .before .before .second .given)) (zero-same (a .work .now) (zero .3) (c .before .before .before .before .before .before .before .before .before .before .before .before .before .before .work .given))
 
@@ -49,7 +40,7 @@ split-spec =
     (λ c κs. search needs)
     returns
     returns-2
-    is-short-requires
+    (λ c κs. search needs)
     returns-3
     (λ c κs. search needs)
     split-by-requires

@@ -10,20 +10,20 @@ use Rattle.syllables.proofs.put_syllable.Statement.{statement}
 use Rattle.syllables.proofs.put_syllable.Tie as tie
 
 put-requires : tie.Need-put-requires
-put-requires c κs = rw (eq-eqb _ _ (c .before .if1 .taken)) at (c .before .before .before .before .pre)
+put-requires c κs = rw (eq-eqb _ 0 (c .before .if1 .taken)) at (c .before .before .before .before .pre)
 
 returns : tie.Need-returns
-returns c = rw (eq-eqb _ _ (c .before .before .before .before .if1 .taken)) (c .before .before .put .ensures)
+returns c = rw (eq-eqb _ 0 (c .before .before .before .before .if1 .taken)) (c .before .before .put .ensures)
 
 slice-write-out : tie.Need-slice-write-out
 slice-write-out c =
-    let room = rw (ne-eqb _ _ (c .if1 .left)) at (c .before .before .before .pre) in
+    let room = rw (ne-eqb _ 0 (c .if1 .left)) at (c .before .before .before .pre) in
     omega arith
 
 put-requires-2 : tie.Need-put-requires-2
 put-requires-2 c κs =
     let s = c .before .before .before .before in
-    let room = rw (ne-eqb _ _ (c .before .if1 .left)) at (s .pre) in
+    let room = rw (ne-eqb _ 0 (c .before .if1 .left)) at (s .pre) in
     omega (arith, length-set (s .args .out .now) (s .args .at) syllableBreak)
 
 same-length-2 : tie.Need-same-length-2
@@ -34,7 +34,7 @@ same-length-2 c =
 returns-2 : tie.Need-returns-2
 returns-2 c =
     let a = c .before .before .before .before .before .before .before .args in
-    rw (ne-eqb _ _ (c .before .before .before .before .if1 .left)) (puts-then (puts-one (a .at) syllableBreak (a .out .now)) (c .before .before .put2 .ensures))
+    rw (ne-eqb _ 0 (c .before .before .before .before .if1 .left)) (puts-then (puts-one (a .at) syllableBreak (a .out .now)) (c .before .before .put2 .ensures))
 
 pub put-syllable-spec : {M : Type 1} → statement M
 put-syllable-spec =
