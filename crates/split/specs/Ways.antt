@@ -8,6 +8,7 @@ use Prim.Native.Nat.{ℕ, _+_, _<_}
 use native.Mathlib.Omega.{arith}
 use lib.ListN.{length, take}
 use Rattle.io.specs.Counts.{Counts}
+use Rattle.code.specs.declared.Code.{Code}
 use Rattle.code.specs.declared.Refusal.{Refusal}
 use Rattle.code.specs.declared.Refusal.the-variants.{SheetLength, MessageLength}
 use Rattle.code.specs.declared.SheetAnswer.the-variants.{Accepted, Refused}
@@ -17,7 +18,7 @@ use Rattle.code.specs.declared.Judgement.the-variants.{Refused as Not-judged}
 use Rattle.code.specs.declared.Taken.{Taken}
 use Rattle.code.specs.Definitions.Enlarged.{plainOf}
 use Rattle.code.specs.Definitions.Operations.{Lowest}
-use Rattle.code.specs.Definitions.Sheets.{limits, FromSheet}
+use Rattle.code.specs.Definitions.Sheets.{limits, taken, FromSheet}
 use Rattle.code.specs.Definitions.Texts.{splittingConditions, SplitsText, refused, split}
 use Rattle.letters.specs.Letters.{turkishClasses}
 use Rattle.meaning.specs.Empty.{plain-lists}
@@ -26,10 +27,20 @@ use Rattle.printing.specs.Prints.{Prints, all, none}
 use Rattle.printing.specs.Starts.{starts-counts}
 use Rattle.sheet.specs.Either.{not-both, one-refusal}
 use Rattle.sheet.specs.Taking.{way-long}
+use Rattle.turkish.specs.Types.{types, codeOfTypes}
 use Rattle.turkish.specs.Given.{twelve-from-sheet}
 use Rattle.writing.specs.Puts.{Starts}
 use Rattle.split.specs.Answers as Answers
 use Rattle.split.specs.Answers.{codeGiven, refusedRecord, Answer, sheet-refused, text-refused, output, outputRoom, Shown, SplitsGiven, stands, Printed, stays, put, Answers, AnswersInput}
+
+-- The code by whether a sheet is named
+pub given-named : (named : Bool) (sheet : List ℕ) {t : Taken} → named ≡ true → t ≡ taken limits sheet → t ≡ codeGiven named sheet
+unfolding codeGiven
+given-named named sheet e p = p ∙ rw e
+
+pub given-built-in : (named : Bool) (sheet : List ℕ) {c : Code} → named ≡ false → c ≡ codeOfTypes limits types → record { answer = Accepted; code = c } ≡ codeGiven named sheet
+unfolding codeGiven
+given-built-in named sheet e p = rw (e, p)
 
 -- An accepted code comes from a sheet, also where it is built in.
 pub given-sheet : (named : Bool) (sheet : List ℕ) {t : Taken} → t ≡ codeGiven named sheet → t .answer ≡ Accepted → FromSheet limits (t .code)

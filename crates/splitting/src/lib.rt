@@ -111,14 +111,15 @@ pub fn split(
     if Text::BYTES < text.len() {
         return Splitting::Refused(Refusal::MessageLength);
     }
-    if is_short(
+    let short = is_short(
         text.len(),
         out.len(),
         message.len(),
         first.len(),
         second.len(),
         work.len(),
-    ) {
+    );
+    if short {
         return Splitting::Refused(Refusal::ShortBuffer);
     }
     let classes = letters::turkish();

@@ -20,6 +20,11 @@ slice-write-out c =
     let room = rw (ne-eqb _ 0 (c .if1 .left)) at (c .before .before .before .pre) in
     omega arith
 
+returns-2 : tie.Need-returns-2
+returns-2 c =
+    let a = c .before .before .before .before .before .before .before .args in
+    rw (ne-eqb _ 0 (c .before .before .before .before .if1 .left)) (puts-then (puts-one (a .at) syllableBreak (a .out .now)) (c .before .before .put2 .ensures))
+
 put-requires-2 : tie.Need-put-requires-2
 put-requires-2 c κs =
     let s = c .before .before .before .before in
@@ -30,11 +35,6 @@ same-length-2 : tie.Need-same-length-2
 same-length-2 c =
     let a = c .before .before .before .before .before .before .before .args in
     puts-length (c .before .before .put2 .ensures) ∙ length-set (a .out .now) (a .at) syllableBreak
-
-returns-2 : tie.Need-returns-2
-returns-2 c =
-    let a = c .before .before .before .before .before .before .before .args in
-    rw (ne-eqb _ 0 (c .before .before .before .before .if1 .left)) (puts-then (puts-one (a .at) syllableBreak (a .out .now)) (c .before .before .put2 .ensures))
 
 pub put-syllable-spec : {M : Type 1} → statement M
 put-syllable-spec =
