@@ -1,5 +1,2 @@
 pub mod Rooms
-pub mod Kinds
-pub mod Records
-pub mod Outputs
 pub mod Public

@@ -19,8 +19,9 @@ use Rattle.enlargements.specs.Meaning.{value-covers}
 use Rattle.table.specs.Exactly.{Exactly}
 use Rattle.table.specs.WellFormed.{WellFormed}
 use Rattle.texts.specs.Named.{named-splits}
-use Rattle.splitting.specs.Outputs.{SplitsInto}
-use Rattle.splitting.specs.Rooms.{Short, Rooms, enough-room}
+use Rattle.words.specs.Outputs.{SplitsInto}
+use Rattle.words.specs.Rooms.{Rooms}
+use Rattle.splitting.specs.Rooms.{Short, enough-room}
 
 -- A buffer that kept its length, and was then cleared.
 pub zero-same : (b : List ℕ) {b′ : List ℕ} {n : ℕ} → b′ ≡ replicate n 0 → n ≡ length b → b′ ≡ zeroed b

@@ -1,13 +1,13 @@
 -- The lent buffers: when one is too short for a text, and what they have where none is.
-use mathlib.Core.Path.{_≡_}
 use mathlib.Core.List.{List}
 use mathlib.Core.Logic.{_⊎_, inl, inr}
-use Prim.Native.Nat.{ℕ, _+_, _*_, _^_, _≤_, _<_}
+use Prim.Native.Nat.{ℕ, _+_, _*_, _≤_, _<_}
 use native.Mathlib.Omega.{arith}
 use lib.Dec.{leb}
 use lib.ListN.{length}
 use Rattle.code.specs.Definitions.Sheets.{limits}
 use Rattle.code.specs.Laws.Buffers.{long-enough}
+use Rattle.words.specs.Rooms.{Rooms}
 use Rattle.table.specs.Exactly.{Exactly, exactly-iff, exactly-le}
 
 -- 13: a buffer is shorter than splitting n bytes needs. The five numbers are the lengths of the output buffer, the message buffer, the reading buffers and the
@@ -25,30 +25,6 @@ short-work {n} {b} {m} {f} {g} {w} hb hm hf hg = exactly-iff (λ h. inr (inr (in
     back (inr (inr (inl h))) = absurd (omega arith)
     back (inr (inr (inr (inl h)))) = absurd (omega arith)
     back (inr (inr (inr (inr h)))) = omega arith
-
--- Room for the words of the text s.
-pub record WordRooms (s m f g w : List ℕ) : Type 0 where
-  pub near : length s < 2 ^ 32
-  pub message : length s ≤ length m
-  pub first : length s ≤ length f
-  pub second : length s ≤ length g
-  pub work : length s < length w
-
--- Other contents have the same room.
-pub rooms-same : {s m f g w m′ f′ g′ w′ : List ℕ} → WordRooms s m f g w → length m′ ≡ length m → length f′ ≡ length f → length g′ ≡ length g → length w′ ≡ length w
-    → WordRooms s m′ f′ g′ w′
-rooms-same r p q u v = record {
-  near = r .near;
-  message = omega (arith, r .message);
-  first = omega (arith, r .first);
-  second = omega (arith, r .second);
-  work = omega (arith, r .work);
-}
-
--- Room for its output, too.
-pub record Rooms (s b m f g w : List ℕ) : Type 0 where
-  pub words : WordRooms s m f g w
-  pub output : 2 * length s + 1 ≤ length b
 
 -- Where no buffer is short, there is room.
 pub enough-room : {s b m f g w : List ℕ} → length s ≤ limits .text → (Short (length s) (length b) (length m) (length f) (length g) (length w) → ⊥) → Rooms s b m f g w

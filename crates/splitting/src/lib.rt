@@ -1,7 +1,5 @@
 // Splitting a text into syllables: each of its words is read by a code, and shown by what is found.
 
-mod words;
-
 use code::ByteCount;
 use code::Classes;
 use code::Code;
@@ -23,8 +21,9 @@ ghost use Rattle.code.specs.Definitions.Texts.{SplitsText};
 ghost use Rattle.letters.specs.Letters.{turkishClasses};
 ghost use Rattle.table.specs.Exactly.{Exactly};
 ghost use Rattle.table.specs.WellFormed.{WellFormed};
-ghost use Rattle.splitting.specs.Outputs.{SplitsInto};
-ghost use Rattle.splitting.specs.Rooms.{Rooms, Short};
+ghost use Rattle.words.specs.Outputs.{SplitsInto};
+ghost use Rattle.words.specs.Rooms.{Rooms};
+ghost use Rattle.splitting.specs.Rooms.{Short};
 
 // Splits a text by a well-formed code, in buffers that are long enough. Gives the length of the output.
 fn split_by(

@@ -18,7 +18,7 @@ use Rattle.syllables.specs.Words.{lettersOf, shownAs, Showable}
 use Rattle.syllables.specs.Shown.{shown-length}
 use Rattle.texts.specs.Runs.{Apart, letter-apart, rest-apart}
 use Rattle.writing.specs.Puts.{Puts, Starts, puts-then, puts-one, puts-none, puts-length, starts}
-use Rattle.splitting.specs.Records.{Served, Recorded, kind-shows, record-showable}
+use Rattle.words.specs.Records.{Served, Recorded, kind-shows, record-showable}
 
 -- The output of the text s stands at the start of the buffer.
 pub record SplitsInto (t : Table) (classes s b b′ : List ℕ) (r : ℕ) : Type 0 where

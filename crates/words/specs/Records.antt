@@ -23,8 +23,8 @@ use Rattle.syllables.specs.Lengths.{lengthsIn}
 use Rattle.syllables.specs.Words.{lettersOf, shownAs, KindFits, Showable}
 use Rattle.texts.specs.Runs.{run-some}
 use Rattle.texts.specs.Syllables.{reads-length, reads-count}
-use Rattle.splitting.specs.Rooms.{WordRooms}
-use Rattle.splitting.specs.Kinds.{kindOf, IsOfKind, split, none, several, found-kind}
+use Rattle.words.specs.Rooms.{WordRooms}
+use Rattle.words.specs.Kinds.{kindOf, IsOfKind, split, none, several, found-kind}
 
 -- The buffers have room for a run of k letters that is laid.
 pub record RunRooms (m f g w : List ℕ) (k : ℕ) : Type 0 where

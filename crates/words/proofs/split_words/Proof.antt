@@ -4,10 +4,10 @@ use Prim.Native.Nat.{_-_}
 use lib.ListN.{length}
 use mathlib.Core.Path.{_≡_, refl, sym, _∙_}
 use native.Mathlib.Omega.{arith}
-use Rattle.splitting.specs.Outputs.{Going, going-start, word-showable, word-room, word-end, going-word, going-other, going-end}
-use Rattle.splitting.specs.Rooms.{rooms-same}
-use Rattle.splitting.proofs.words.split_words.Statement.{statement}
-use Rattle.splitting.proofs.words.split_words.Tie as tie
+use Rattle.words.specs.Outputs.{Going, going-start, word-showable, word-room, word-end, going-word, going-other, going-end}
+use Rattle.words.specs.Rooms.{rooms-same}
+use Rattle.words.proofs.split_words.Statement.{statement}
+use Rattle.words.proofs.split_words.Tie as tie
 
 abbrev Inv-loop : tie.InvT-loop
 Inv-loop having ends rows lengths n longest classes text out₀ message₀ first₀ second₀ work₀ pos₀ end₀ out message first second work pos end =

@@ -1,7 +1,7 @@
 -- A case for each outcome of reading.
 use borrow.Author.Needs.{needs}
-use Rattle.splitting.proofs.words.kind_of.Statement.{statement}
-use Rattle.splitting.proofs.words.kind_of.Tie as tie
+use Rattle.words.proofs.kind_of.Statement.{statement}
+use Rattle.words.proofs.kind_of.Tie as tie
 
 returns : tie.Need-returns
 returns c = rw (c .before .found .given .1)

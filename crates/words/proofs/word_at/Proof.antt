@@ -3,9 +3,9 @@ use borrow.Author.Needs.{needs}
 use lib.Seq.{length-take-le}
 use mathlib.Core.Path.{sym}
 use native.Mathlib.Omega.{arith}
-use Rattle.splitting.specs.Records.{part-length, run-rooms, core-rooms, recorded}
-use Rattle.splitting.proofs.words.word_at.Statement.{statement}
-use Rattle.splitting.proofs.words.word_at.Tie as tie
+use Rattle.words.specs.Records.{part-length, run-rooms, core-rooms, recorded}
+use Rattle.words.proofs.word_at.Statement.{statement}
+use Rattle.words.proofs.word_at.Tie as tie
 
 lay-run-requires : tie.Need-lay-run-requires
 lay-run-requires c κs =

@@ -11,10 +11,10 @@ use syllables::put_word;
 ghost use mathlib.Core.Path.{_≡_};
 ghost use Prim.Native.Nat.{_<_};
 ghost use lib.ListN.{length};
-ghost use Rattle.splitting.specs.Kinds.{kindOf};
-ghost use Rattle.splitting.specs.Records.{Served, Recorded};
-ghost use Rattle.splitting.specs.Outputs.{SplitsBySets};
-ghost use Rattle.splitting.specs.Rooms.{WordRooms, Rooms};
+ghost use Rattle.words.specs.Kinds.{kindOf};
+ghost use Rattle.words.specs.Records.{Served, Recorded};
+ghost use Rattle.words.specs.Outputs.{SplitsBySets};
+ghost use Rattle.words.specs.Rooms.{WordRooms, Rooms};
 
 fn kind_of(found: Reading) -> Kind
     ensures { λ r. ⌜ r ≡ kindOf found ⌝ }

@@ -1,0 +1,4 @@
+pub mod Rooms
+pub mod Kinds
+pub mod Records
+pub mod Outputs
