@@ -26,7 +26,7 @@ pub record Between (t : Table) (classes w s : List ℕ) : Type 0 where
 
 module _ {t : Table} (classes : List ℕ) where
   -- A text of letters alone is one word.
-  word-splits : (a : ℕ) (w p : List ℕ) → every (isLetter classes) (a ∷ w) ≡ true → Shows t classes (a ∷ w) p → Splits t classes (a ∷ w) p
+  pub word-splits : (a : ℕ) (w p : List ℕ) → every (isLetter classes) (a ∷ w) ≡ true → Shows t classes (a ∷ w) p → Splits t classes (a ∷ w) p
   unfolding every
   word-splits a w p l h =
       let u = run-until classes (a ∷ w) [] l none in
