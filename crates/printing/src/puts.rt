@@ -1,6 +1,7 @@
 // Texts put into a buffer one after another. Each function takes the place to put its text at and gives the place after it.
 
 use writing::put;
+use writing::put_field;
 ghost use mathlib.Core.Path.{_≡_};
 ghost use mathlib.Core.List.{map};
 ghost use Prim.Native.Nat.{_+_, _*_, _≤_, _<_};
@@ -52,11 +53,9 @@ fn put_number(out: &mut [u8], at: usize, sep: &[u8], i: usize, number: u8) -> us
     requires { ⌜ at + length (following (now sep) i (decimal number)) ≤ length (now out) ⌝ }
     ensures { λ r. ⌜ Puts at (following (now (sep .entry)) i (decimal number)) (now (out .entry)) (now (out .exit)) r ⌝ }
 {
-    if i == 0 {
-        return put_decimal(out, at, number as u64);
-    }
-    let next = put(out, at, sep);
-    put_decimal(out, next, number as u64)
+    let mut digits = [0u8; 20];
+    let n = io::decimal(number as u64, &mut digits);
+    put_field(out, at, sep, i, &digits[..n])
 }
 
 // Numbers in decimal, parted by `sep`.

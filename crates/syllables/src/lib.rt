@@ -2,6 +2,7 @@
 
 use code::WordCount;
 use writing::put;
+use writing::put_field;
 ghost use mathlib.Core.List.{[], _∷_, _++_};
 ghost use Prim.Native.Nat.{_+_, _*_, _≤_};
 ghost use lib.ListN.{length};
@@ -31,11 +32,7 @@ fn put_syllable(out: &mut [u8], at: usize, i: usize, syllable: &[u8]) -> usize
     requires { ⌜ at + length (following (syllableBreak ∷ []) i (now syllable)) ≤ length (now out) ⌝ }
     ensures { λ r. ⌜ Puts at (following (syllableBreak ∷ []) i (now (syllable .entry))) (now (out .entry)) (now (out .exit)) r ⌝ }
 {
-    if i == 0 {
-        return put(out, at, syllable);
-    }
-    out[at] = 0xB7;
-    put(out, at + 1, syllable)
+    put_field(out, at, b"\xB7", i, syllable)
 }
 
 // A word's letters by its reading, with breaks between the syllables.
