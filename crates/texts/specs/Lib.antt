@@ -5,3 +5,4 @@ pub mod Marks
 pub mod Lengths
 pub mod Messages
 pub mod Named
+pub mod Total

@@ -4,7 +4,7 @@ use mathlib.Core.Bool.{Bool, true, false, false≢true}
 use mathlib.Core.List.{List, [], _∷_, _++_}
 use Prim.Native.Nat.{ℕ, _≤_}
 use native.Mathlib.Omega.{arith}
-use lib.ListN.{length}
+use lib.ListN.{length, length-append}
 use Rattle.code.specs.Definitions.Lists.{if_then_else_, every}
 use Rattle.code.specs.Definitions.Texts.{isLetter, run, rest}
 
@@ -39,6 +39,12 @@ module _ (classes : List ℕ) where
   pub run-some : (a : ℕ) (s : List ℕ) → isLetter classes a ≡ true → 1 ≤ length (run classes (a ∷ s))
   unfolding run
   run-some a s h = rw h (omega arith)
+
+  -- Behind the run that a letter begins, less is left.
+  pub rest-shorter : (a : ℕ) (s : List ℕ) → isLetter classes a ≡ true → length (rest classes (a ∷ s)) ≤ length s
+  rest-shorter a s h =
+      omega
+      (arith, run-some a s h, length-append (run classes (a ∷ s)) (rest classes (a ∷ s)), ap length (run-rest (a ∷ s)))
 
   -- Letters, and then the end or another byte: these letters are the run.
   pub run-until : (w s : List ℕ) → every (isLetter classes) w ≡ true → Apart s → (run classes (w ++ s) ≡ w) × (rest classes (w ++ s) ≡ s)
