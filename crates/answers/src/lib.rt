@@ -50,8 +50,8 @@ pub fn put_encoding(e: Encoding, answer: &mut [u64]) -> u64
     ensures { λ r. ⌜ (r ≡ encodingNumber e) × (now (answer .exit) ≡ written (encodingEntries e) (now (answer .entry))) ⌝ }
 {
     match e {
-        Encoding::Encoded(n) => {
-            put_entries(answer, n.0 as u64, 0, 0, 0);
+        Encoding::Encoded(symbols) => {
+            put_entries(answer, symbols.0 as u64, 0, 0, 0);
             0
         }
         Encoding::Refused(r) => number(r),
@@ -63,8 +63,8 @@ pub fn put_splitting(e: Splitting, answer: &mut [u64]) -> u64
     ensures { λ r. ⌜ (r ≡ splittingNumber e) × (now (answer .exit) ≡ written (splittingEntries e) (now (answer .entry))) ⌝ }
 {
     match e {
-        Splitting::Split(n) => {
-            put_entries(answer, n.0 as u64, 0, 0, 0);
+        Splitting::Split(bytes) => {
+            put_entries(answer, bytes.0 as u64, 0, 0, 0);
             0
         }
         Splitting::Refused(r) => number(r),
