@@ -13,7 +13,7 @@ use Rattle.code.specs.declared.Refusal.{Refusal}
 use Rattle.code.specs.declared.Refusal.the-variants.{SheetLength, MessageLength}
 use Rattle.code.specs.declared.SheetAnswer.the-variants.{Accepted, Refused}
 use Rattle.code.specs.declared.Splitting.{Splitting}
-use Rattle.code.specs.declared.Splitting.the-variants.{Split, Refused as Not-split}
+use Rattle.code.specs.declared.Splitting.the-variants.{Refused as Not-split}
 use Rattle.code.specs.declared.Judgement.the-variants.{Refused as Not-judged}
 use Rattle.code.specs.declared.Taken.{Taken}
 use Rattle.code.specs.Definitions.Enlarged.{plainOf}
