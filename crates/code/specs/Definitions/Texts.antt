@@ -2,22 +2,12 @@
 use mathlib.Core.Path.{_≡_}
 use mathlib.Core.Bool.{Bool, true, false}
 use mathlib.Core.List.{List, [], _∷_, _++_, map}
-use mathlib.Core.Logic.{_⊎_}
-use Prim.Native.Nat.{ℕ, _+_, _*_, _<_}
+use Prim.Native.Nat.{ℕ}
 use lib.Dec.{ltb}
 use lib.ListN.{length, take, drop, getD}
-use Rattle.code.specs.declared.ByteCount.{ByteCount}
-use Rattle.code.specs.declared.Enlarged.{Enlarged}
-use Rattle.code.specs.declared.Limits.{Limits}
-use Rattle.code.specs.declared.Refusal.{Refusal}
-use Rattle.code.specs.declared.Refusal.the-variants.{NotFromSheet, MessageLength, ShortBuffer}
-use Rattle.code.specs.declared.Splitting.{Splitting}
-use Rattle.code.specs.declared.Splitting.the-variants.{Split, Refused as Not-split}
 use Rattle.code.specs.Definitions.Lists.{if_then_else_, join}
 use Rattle.code.specs.Definitions.Tables.{Table, word}
 use Rattle.code.specs.Definitions.Readings.{NoReading, OnlyReading, TwoReadings}
-use Rattle.code.specs.Definitions.Enlarged.{originalTable}
-use Rattle.code.specs.Definitions.Operations.{Condition, Lowest, NoneHolds, written, zeroed, FromLists}
 
 -- 02, request 4: "A table of 256 entries gives each byte's class: vowel 0, consonant 1, or other". Other is 16, which no symbol is; what is below it is the
 -- symbol of a letter.
@@ -48,6 +38,10 @@ module _ (classes : List ℕ) where
 abbrev pub syllableBreak : ℕ
 syllableBreak = 183
 
+-- The bytes that are put into a text.
+abbrev pub marks : List ℕ
+marks = syllableBreak ∷ 40 ∷ 41 ∷ 91 ∷ 93 ∷ []
+
 -- The syllables of a word, by their lengths.
 unfoldable pub syllables : List ℕ → List ℕ → List (List ℕ)
 syllables [] w = []
@@ -71,24 +65,3 @@ module _ (t : Table) where
       end : Splits [] []
       copied : {a : ℕ} {s o : List ℕ} → isLetter classes a ≡ false → Splits s o → Splits (a ∷ s) (a ∷ o)
       shown : {a : ℕ} {s p o : List ℕ} → isLetter classes a ≡ true → Shows (run classes (a ∷ s)) p → Splits (rest classes (a ∷ s)) o → Splits (a ∷ s) (p ++ o)
-
--- Splitting the text s into the buffer b, with the message buffer m, the reading buffers f and g and the working buffer w, by letters of these classes.
-module _ (l : Limits) (classes : List ℕ) (e : Enlarged) where
-  -- 02, request 4: "up to 16,384 bytes (longer gets 11; a code that reading refuses with 8 gets 8 here, whatever the text)", "The output buffer needs twice the
-  -- input plus one. Splitting also needs a message buffer as long as the text and the three buffers of reading for that length", "13 if any is short"
-  abbrev pub splittingConditions : (s b m f g w : List ℕ) → List Condition
-  splittingConditions s b m f g w =
-      record { refusal = NotFromSheet; holds = FromLists l e → ⊥ }
-      ∷ record { refusal = MessageLength; holds = l .text < length s }
-      ∷ record {
-        refusal = ShortBuffer;
-        holds = (length b < 2 * length s + 1) ⊎ ((length m < length s) ⊎ ((length f < length s) ⊎ ((length g < length s) ⊎ (length w < length s + 1))));
-      }
-      ∷ []
-
-  -- The answer is the output's length. 02, request 4: "all left zero after a result"
-  pub data SplitsText (s b m f g w b′ m′ f′ g′ w′ : List ℕ) : Splitting → Type 0 where
-    refused : {r : Refusal} → Lowest (splittingConditions s b m f g w) r → b′ ≡ b → m′ ≡ m → f′ ≡ f → g′ ≡ g → w′ ≡ w
-        → SplitsText s b m f g w b′ m′ f′ g′ w′ (Not-split r)
-    split : {n : ByteCount} {o : List ℕ} → NoneHolds (splittingConditions s b m f g w) → Splits (originalTable e) classes s o → n .0 ≡ length o → b′ ≡ written o b
-        → m′ ≡ zeroed m → f′ ≡ zeroed f → g′ ≡ zeroed g → w′ ≡ zeroed w → SplitsText s b m f g w b′ m′ f′ g′ w′ (Split n)
