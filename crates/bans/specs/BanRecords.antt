@@ -8,12 +8,11 @@ use lib.Dec.{leb, eqb}
 use lib.ListN.{length, drop, getD}
 use borrow.Author.Tests.{eqb-true, eqb-false, ne-eqb, leb-false, not-true, not-false}
 use Rattle.code.specs.Definitions.Lists.{any, every}
-use Rattle.code.specs.Definitions.Sheets.{records}
 use Rattle.code.specs.Definitions.BanLists.{numberOf, isNumber, badBan}
-use Rattle.code.specs.Laws.Clean.{Clean, recordFields, records-some, fields-some}
+use Rattle.code.specs.Laws.Clean.{Clean, recordFields}
 use Rattle.code.specs.Laws.Lists.{or-neither}
 use Rattle.records.specs.Fields.{leading}
-use Rattle.records.specs.Front.{Next, restOf, comma-within, record-goes-on, record-ends}
+use Rattle.records.specs.Front.{Next, restOf, comma-within, first-field, joined, any-first, record-goes-on, record-ends}
 use Rattle.bans.specs.declared.fields.Field.{Field}
 use Rattle.bans.specs.Numbers.{numberIn, number-some, number-read, number-wrong}
 use Rattle.bans.specs.Contracts.{FieldAt, BanFrom}
@@ -47,19 +46,6 @@ module _ (n : ℕ) (f g h : List ℕ) where
       go true true false p q = refl
       go true true true p q = rw (number-read n g p, number-read n h q)
 
--- the first record of a list has a first field
-first-field : (t : List ℕ) → getD (recordFields t) 0 [] ≡ getD (getD (recordFields t) 0 []) 0 [] ∷ drop 1 (getD (recordFields t) 0 [])
-first-field t = rw (records-some t) (fields-some (getD (records t) 0 []))
-
-any-first : (n : ℕ) {g : List (List (List ℕ))} (r : List (List ℕ)) (l : List (List (List ℕ))) → g ≡ r ∷ l → badBan n r ≡ true → any (badBan n) g ≡ true
-unfolding any
-any-first n r l e b = rw (e, b)
-
--- a field, and the record that goes on behind its comma
-joined : {g : List (List (List ℕ))} (f : List ℕ) (h : List (List (List ℕ))) (r : List (List ℕ)) (l : List (List (List ℕ)))
-    → g ≡ (f ∷ getD h 0 []) ∷ drop 1 h → h ≡ r ∷ l → g ≡ (f ∷ r) ∷ l
-joined f h r l e q = rw q at e
-
 -- a field that is not the last has a comma behind it, and another field behind that
 a-comma : (n : ℕ) (s : List ℕ) (from : ℕ) (f : Field) → FieldAt n s from f → f .last ≡ false → getD s (f .end) 0 ≡ 44
 a-comma n s from f a t = eqb-true (getD s (f .end) 0) 44 (not-false (eqb (getD s (f .end) 0) 44) (sym (a .stands) ∙ t))
@@ -86,7 +72,7 @@ module _ (n : ℕ) (s : List ℕ) (from : ℕ) (f : Field) (c : Clean (drop from
 -- The record that begins at `from`, in each of the ways that its fields can go.
 module _ (n : ℕ) (s : List ℕ) (from : ℕ) (c : Clean (drop from s)) (f : Field) (a : FieldAt n s from f) where
   pub ends-first : f .last ≡ true → any (badBan n) (recordFields (drop from s)) ≡ true
-  ends-first t = any-first n (leading (drop from s) ∷ []) (restOf s (f .end + 2)) (stops n s from f c a t .0) (one-field n (leading (drop from s)) [] [])
+  ends-first t = any-first (badBan n) (leading (drop from s) ∷ []) (restOf s (f .end + 2)) (stops n s from f c a t .0) (one-field n (leading (drop from s)) [] [])
 
   module _ (t : f .last ≡ false) (g : Field) (b : FieldAt n s (f .end + 1) g) where
     first : Next (recordFields (drop from s)) (leading (drop from s)) (drop (f .end + 1) s)
@@ -97,7 +83,7 @@ module _ (n : ℕ) (s : List ℕ) (from : ℕ) (c : Clean (drop from s)) (f : Fi
 
     pub ends-second : g .last ≡ true → any (badBan n) (recordFields (drop from s)) ≡ true
     ends-second u =
-        any-first n (leading (drop from s) ∷ leading (drop (f .end + 1) s) ∷ []) (restOf s (g .end + 2))
+        any-first (badBan n) (leading (drop from s) ∷ leading (drop (f .end + 1) s) ∷ []) (restOf s (g .end + 2))
         (from-first (leading (drop (f .end + 1) s) ∷ []) (restOf s (g .end + 2)) (stops n s (f .end + 1) g (first .clean) b u .0))
         (two-fields n (leading (drop from s)) (leading (drop (f .end + 1) s)) [])
 
@@ -113,11 +99,11 @@ module _ (n : ℕ) (s : List ℕ) (from : ℕ) (c : Clean (drop from s)) (f : Fi
       pub goes-past : not (h .last) ≡ true → any (badBan n) (recordFields (drop from s)) ≡ true
       goes-past v =
           let rest = recordFields (drop (h .end + 1) s) in
-          let e = goes-on n s (g .end + 1) h (second .clean) d (not-true (h .last) v) .same in
-          any-first n (leading (drop from s) ∷ leading (drop (f .end + 1) s) ∷ leading (drop (g .end + 1) s) ∷ getD rest 0 []) (drop 1 rest)
-          (from-second (leading (drop (g .end + 1) s) ∷ getD rest 0 []) (drop 1 rest) e)
-          (rw (first-field (drop (h .end + 1) s))
-          (many-fields n (leading (drop from s)) (leading (drop (f .end + 1) s)) (leading (drop (g .end + 1) s)) (getD (getD rest 0 []) 0 []) (drop 1 (getD rest 0 []))))
+          let next = goes-on n s (g .end + 1) h (second .clean) d (not-true (h .last) v) in
+          any-first (badBan n) (leading (drop from s) ∷ leading (drop (f .end + 1) s) ∷ leading (drop (g .end + 1) s) ∷ getD rest 0 []) (drop 1 rest)
+          (from-second (leading (drop (g .end + 1) s) ∷ getD rest 0 []) (drop 1 rest) (next .same))
+          (rw (first-field (next .clean))
+          (many-fields n (leading (drop from s)) (leading (drop (f .end + 1) s)) (leading (drop (g .end + 1) s)) (leading (drop (h .end + 1) s)) (drop 1 (getD rest 0 []))))
 
       module _ (v : not (h .last) ≡ false) where
         abbrev three : List (List ℕ)
@@ -131,7 +117,7 @@ module _ (n : ℕ) (s : List ℕ) (from : ℕ) (c : Clean (drop from s)) (f : Fi
             three-fields n (leading (drop from s)) (leading (drop (f .end + 1) s)) (leading (drop (g .end + 1) s)) ∙ rw (a .read, b .read, d .read)
 
         pub no-ban : {t : Bool} → t ≡ wrongNumbers n (f .number) (g .number) (h .number) → t ≡ true → any (badBan n) (recordFields (drop from s)) ≡ true
-        no-ban w e = any-first n three (restOf s (h .end + 2)) third (judged ∙ sym w ∙ e)
+        no-ban w e = any-first (badBan n) three (restOf s (h .end + 2)) third (judged ∙ sym w ∙ e)
 
         pub one-ban : {t : Bool} → t ≡ wrongNumbers n (f .number) (g .number) (h .number) → t ≡ false → BanFrom n s from (f .number) (g .number) (h .number) (h .end + 2)
         one-ban w z =

@@ -1,6 +1,6 @@
 -- What stands at the front of a clean byte string: the digits of a field, and after them the end, a comma or a CR LF. A pass goes from field to field by this.
 use mathlib.Core.Path.{_≡_, sym, _∙_}
-use mathlib.Core.Bool.{true}
+use mathlib.Core.Bool.{Bool, true}
 use mathlib.Core.List.{List, [], _∷_, nil≢cons, head-eq-of-cons-eq, tail-eq-of-cons-eq}
 use Prim.Native.Nat.{ℕ, suc, _+_, _≤_, _<_}
 use native.Mathlib.Numerals.{add-one}
@@ -10,7 +10,7 @@ use lib.Dec.{leb}
 use lib.ListN.{length, drop, getD, length-drop, drop-of-length-le, List·getD-eq-default}
 use lib.Seq.{drop-cons, drop-drop}
 use borrow.Author.Tests.{le-leb, lt-leb}
-use Rattle.code.specs.Definitions.Lists.{if_then_else_}
+use Rattle.code.specs.Definitions.Lists.{if_then_else_, any}
 use Rattle.code.specs.Definitions.Sheets.{isDigit, push}
 use Rattle.code.specs.Laws.Clean.{Clean, none, digit, comma, line, recordFields, recordFields-none, recordFields-digit, recordFields-comma, recordFields-line}
 use Rattle.records.specs.Fields.{leading}
@@ -38,6 +38,25 @@ front none = at-end recordFields-none
 front (digit {a} {s} p c) = front-on a s p (front c)
 front (comma {s} c) = at-comma c (recordFields-comma s)
 front (line {s} c) = at-line c (recordFields-line s)
+
+-- Its first record begins with its first field.
+pub first-field : {t : List ℕ} → Clean t → recordFields t ≡ (leading t ∷ drop 1 (getD (recordFields t) 0 [])) ∷ drop 1 (recordFields t)
+first-field c = begins (front c)
+  where
+    begins : {g : List (List (List ℕ))} {f t : List ℕ} → Front g f t → g ≡ (f ∷ drop 1 (getD g 0 [])) ∷ drop 1 g
+    begins (at-end p) = rw p
+    begins (at-comma c p) = rw p
+    begins (at-line c p) = rw p
+
+-- a field, and the record that goes on behind its comma
+pub joined : {g : List (List (List ℕ))} (f : List ℕ) (h : List (List (List ℕ))) (r : List (List ℕ)) (l : List (List (List ℕ)))
+    → g ≡ (f ∷ getD h 0 []) ∷ drop 1 h → h ≡ r ∷ l → g ≡ (f ∷ r) ∷ l
+joined f h r l e q = rw q at e
+
+-- A first record that is refused
+pub any-first : (p : List (List ℕ) → Bool) {g : List (List (List ℕ))} (r : List (List ℕ)) (l : List (List (List ℕ))) → g ≡ r ∷ l → p r ≡ true → any p g ≡ true
+unfolding any
+any-first p r l e b = rw (e, b)
 
 -- What a test of the byte after the field tells.
 pub record Next (g : List (List (List ℕ))) (f t : List ℕ) : Type 0 where
