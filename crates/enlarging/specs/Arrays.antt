@@ -1,12 +1,11 @@
--- A store into an array that is a table, and tests of some element of a table.
-use mathlib.Core.Path.{_≡_, refl, sym, _∙_}
-use mathlib.Core.Bool.{Bool, true, false, true≢false}
+-- A store into an array that is a table.
+use mathlib.Core.Path.{_≡_, sym, _∙_}
 use Prim.Native.Nat.{ℕ, _<_}
 use native.Mathlib.Decide.{ℕ-discrete}
 use lib.ListN.{getD, set, length-set}
 use lib.Seq.{getD-set-same, getD-set-other}
-use Rattle.code.specs.Definitions.Lists.{any, table}
-use Rattle.code.specs.Laws.Lists.{length-table, getD-table, table-list, any-at}
+use Rattle.code.specs.Definitions.Lists.{table}
+use Rattle.code.specs.Laws.Lists.{length-table, getD-table, table-list}
 
 module _ {A : Type 0} (f g : ℕ → A) (n x : ℕ) (v : A) (h : x < n) (here : g x ≡ v) (others : (i : ℕ) → (i ≡ x → ⊥) → g i ≡ f i) where
   stored : (i : ℕ) → i < n → Dec (i ≡ x) → g i ≡ getD (set (table f n) x v) i v
@@ -16,11 +15,3 @@ module _ {A : Type 0} (f g : ℕ → A) (n x : ℕ) (v : A) (h : x < n) (here : 
   -- A store makes the table of the function that differs there.
   pub set-table : set (table f n) x v ≡ table g n
   set-table = sym (table-list g n (set (table f n) x v) v (length-set (table f n) x v ∙ length-table f n) (λ i l. stored i l (ℕ-discrete i x)))
-
--- What holds of one element of a table holds of some.
-pub any-found : {A : Type 0} (p : A → Bool) (f : ℕ → A) (n k : ℕ) → k < n → p (f k) ≡ true → any p (table f n) ≡ true
-any-found p f n k h e = go (any p (table f n)) refl
-  where
-    go : (a : Bool) → any p (table f n) ≡ a → any p (table f n) ≡ true
-    go true q = q
-    go false q = absurd (true≢false (sym e ∙ rw (getD-table f n k (f k) h) at (any-at p (table f n) (f k) q k (rw (length-table f n) h))))

@@ -13,13 +13,12 @@ use Rattle.code.specs.Definitions.Lists.{if_then_else_}
 use Rattle.code.specs.Definitions.Sheets.{limits}
 use Rattle.code.specs.Definitions.Tables.{noRow, tableOf}
 use Rattle.code.specs.Definitions.Bans.{Ban, Copy, isCopy, hasCopy, isBan, bannedBy, copiesOf, copyAt, origin, standsAfter, unbanned, mayCome}
-use Rattle.code.specs.Laws.Lists.{any-table}
+use Rattle.code.specs.Laws.Lists.{any-table, any-found}
 use Rattle.copies.specs.CopyLists.{origin-word, stands-word, stands-copy}
 use Rattle.copies.specs.Triples.{banAt, bansFrom}
 use Rattle.table.specs.WellFormed.{WellFormed}
 use Rattle.table.specs.Words.{size-count}
 use Rattle.enlarging.specs.declared.Copies.{Copies}
-use Rattle.enlarging.specs.Arrays.{any-found}
 use Rattle.enlarging.specs.Held.{copyHeld, held, Held, origin-at, behind-at, held-is, held-again}
 
 -- A scan of the copies: none before i is the copy of z after y.
