@@ -12,7 +12,12 @@ use Rattle.code.specs.declared.Judgement.{Judgement}
 use Rattle.code.specs.declared.Judgement.the-variants.{Judged, Refused as Not-judged}
 use Rattle.code.specs.declared.Splitting.{Splitting}
 use Rattle.code.specs.declared.Splitting.the-variants.{Split, Refused as Not-split}
+use Rattle.code.specs.declared.Refusal.the-variants.{ShortBuffer}
 use Rattle.code.specs.Definitions.Answers.{refusalNumber}
+
+-- the number of a buffer that is too short
+abbrev pub shortNumber : ℕ
+shortNumber = refusalNumber ShortBuffer
 
 -- entries of an answer
 abbrev pub answerLength : ℕ

@@ -1,5 +1,6 @@
 // Splitting a text into syllables: each of its words is read by a code, and shown by what is found.
 
+use classed::well_classed;
 use code::ByteCount;
 use code::Classes;
 use code::Code;
@@ -16,9 +17,8 @@ ghost use mathlib.Core.Path.{_≡_};
 ghost use Prim.Native.Nat.{_≤_};
 ghost use Rattle.code.specs.Definitions.Operations.{zeroed};
 ghost use Rattle.code.specs.Definitions.Sheets.{limits};
+ghost use Rattle.code.specs.Definitions.Splitting.{SplitsText};
 ghost use Rattle.code.specs.Definitions.Tables.{tableOf};
-ghost use Rattle.code.specs.Definitions.Texts.{SplitsText};
-ghost use Rattle.letters.specs.Letters.{turkishClasses};
 ghost use Rattle.table.specs.Exactly.{Exactly};
 ghost use Rattle.table.specs.WellFormed.{WellFormed};
 ghost use Rattle.words.specs.Outputs.{SplitsInto};
@@ -91,9 +91,10 @@ fn clear_all(message: &mut [u8], first: &mut [u8], second: &mut [u8], work: &mut
     bits::clear(work);
 }
 
-// Splits a text of Turkish letters by a code with copies or without: the length of the output, or the lowest refusal that holds.
+// Splits a text by a code with copies or without, and by letters of these classes: the length of the output, or the lowest refusal that holds.
 pub fn split(
     e: Enlarged,
+    classes: Classes,
     text: &[u8],
     out: &mut [u8],
     message: &mut [u8],
@@ -101,10 +102,13 @@ pub fn split(
     second: &mut [u8],
     work: &mut [u64],
 ) -> Splitting
-    ensures { λ r. ⌜ SplitsText limits turkishClasses e (now (text .entry)) (now (out .entry)) (now (message .entry)) (now (first .entry)) (now (second .entry))
+    ensures { λ r. ⌜ SplitsText limits e classes (now (text .entry)) (now (out .entry)) (now (message .entry)) (now (first .entry)) (now (second .entry))
         (now (work .entry)) (now (out .exit)) (now (message .exit)) (now (first .exit)) (now (second .exit)) (now (work .exit)) r ⌝ }
 {
     if !well_enlarged(e) {
+        return Splitting::Refused(Refusal::NotFromSheet);
+    }
+    if !well_classed(classes) {
         return Splitting::Refused(Refusal::NotFromSheet);
     }
     if Text::BYTES < text.len() {
@@ -121,7 +125,6 @@ pub fn split(
     if short {
         return Splitting::Refused(Refusal::ShortBuffer);
     }
-    let classes = letters::turkish();
     let entries = classes.entries;
     let n = split_by(e.code, &entries, text, out, message, first, second, work);
     // Once, however many words there were.

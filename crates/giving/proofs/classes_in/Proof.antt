@@ -1,0 +1,13 @@
+-- All entries are copied.
+use mathlib.Core.Path.{refl}
+use borrow.Author.Needs.{needs}
+use Rattle.code.specs.Definitions.ClassSheets.{differentBytes}
+use Rattle.giving.specs.Ways.{whole-pasted}
+use Rattle.giving.proofs.classes_in.Statement.{statement}
+use Rattle.giving.proofs.classes_in.Tie as tie
+
+returns : tie.Need-returns
+returns c = rw (whole-pasted _ _ differentBytes refl (c .before .copy-at .ensures))
+
+pub classes-in-spec : {M : Type 1} → statement M
+classes-in-spec = tie.close (tie.spec (λ c. search needs) (λ c κs. search needs) returns)
