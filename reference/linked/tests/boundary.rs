@@ -310,6 +310,9 @@ fn tables() -> (Vec<u8>, Vec<u8>) {
     (table, none)
 }
 
+/// A table's image, classes and a text, and the refusal of splitting.
+type Splitting<'a> = (&'a [u8], &'a [u8], &'a [u8], Refusal);
+
 /// Refusals of each operation with answers of every length that is too short,
 /// with buffers that are long enough and with none; nothing may change.
 #[test]
@@ -349,7 +352,7 @@ fn short_answers() {
                 let refused = furlazon::read(table, symbols, &mut first, &mut second, &mut work, &mut answer);
                 assert_eq!(refusal(refused), Some(expected), "reading with {entries} entries");
             }
-            let splittings: [(&[u8], &[u8], &[u8], Refusal); 10] = [
+            let splittings: [Splitting; 10] = [
                 (&none, &letters, b"a", Refusal::NotFromSheet),
                 (&none, &letters, &too_long, Refusal::NotFromSheet),
                 (&table, &no_letters, b"a", Refusal::NotFromSheet),
@@ -514,7 +517,7 @@ fn order_of_the_refusals_of_splitting() {
     no_classes.extend([(0x20, 17), (0xFF, 255), (0x61, 17), (0xB7, 17)].map(|(at, entry)| changed(at, entry)));
     no_classes.extend(classes::RESERVED.map(|byte| changed(byte, 0)));
     let short_image = &none[..TABLE_BYTES - 1];
-    let mut cases: Vec<(&[u8], &[u8], &[u8], Refusal)> = vec![
+    let mut cases: Vec<Splitting> = vec![
         (&none, &letters, b"", Refusal::NotFromSheet),
         (&none, &letters, b"baba", Refusal::NotFromSheet),
         (&none, &letters, &too_long, Refusal::NotFromSheet),
