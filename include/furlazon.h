@@ -1,5 +1,6 @@
 /* Codes with forbidden successors: taking in a sheet, the built-in code of the twelve Turkish types, enlarging a code by a ban
- * list, encoding, reading, splitting the words of a text, and the verdict.
+ * list, encoding, reading, taking in the letter classes of a class sheet, the built-in Turkish letters, splitting the words of a
+ * text, and the verdict.
  *
  * The functions are proved for every input that this file allows: pointers to as many entries as the length beside them says,
  * no two of them overlapping where one is written, and 8-byte alignment for uint64_t. Nothing else is asked. Where a length is 0
@@ -7,8 +8,8 @@
  * docs/LINKING.md tells how to link them.
  *
  * Every function returns 0 for a result and otherwise the number of a refusal, the lowest that holds. A `table` that is too short
- * to be read is refused FURLAZON_REFUSED_SHORT_BUFFER by itself, since nothing can be tested without it; every other buffer that is
- * too short, `answer` too, gets that number in its place among the others.
+ * to be read is refused FURLAZON_REFUSED_SHORT_BUFFER by itself, since nothing can be tested without it, and so are `classes` that are
+ * too short to be read; every other buffer that is too short, `answer` too, gets that number in its place among the others.
  *
  * A refusal changes no buffer, except that FURLAZON_REFUSED_NO_READING leaves `work` all zero. A result leaves the whole of `work`
  * zero, and in every other buffer what stands past the written part as it was; but splitting leaves `message`, `first` and `second`
@@ -16,6 +17,8 @@
  *
  * A ban says that word X never follows word Y and then word Z. A code with such bans has copies of words; a table with copies is
  * taken wherever one without is. Words are always named by their original numbers, never by the number of a copy.
+ *
+ * Classes say for each byte of a text which symbol it stands for, or that it is no letter.
  */
 #ifndef FURLAZON_H
 #define FURLAZON_H
@@ -28,24 +31,27 @@ extern "C" {
 #endif
 
 /* Limits. */
-#define FURLAZON_ALPHABET 16           /* a symbol is a number below it */
-#define FURLAZON_CODE_WORDS 32         /* words of a code */
-#define FURLAZON_WORD_SYMBOLS 16       /* symbols of a word */
-#define FURLAZON_CODE_SYMBOLS 128      /* symbols of all words together */
-#define FURLAZON_SHEET_BYTES 4096      /* bytes of a sheet */
-#define FURLAZON_BANS_BYTES 4096       /* bytes of a ban list */
-#define FURLAZON_MESSAGE_SYMBOLS 16384 /* symbols of a message, for encoding and reading */
-#define FURLAZON_TEXT_BYTES 16384      /* bytes of a text, for splitting */
+#define FURLAZON_ALPHABET 16            /* a symbol is a number below it */
+#define FURLAZON_CODE_WORDS 32          /* words of a code */
+#define FURLAZON_WORD_SYMBOLS 16        /* symbols of a word */
+#define FURLAZON_CODE_SYMBOLS 128       /* symbols of all words together */
+#define FURLAZON_SHEET_BYTES 4096       /* bytes of a sheet */
+#define FURLAZON_BANS_BYTES 4096        /* bytes of a ban list */
+#define FURLAZON_CLASS_SHEET_BYTES 4096 /* bytes of a class sheet */
+#define FURLAZON_MESSAGE_SYMBOLS 16384  /* symbols of a message, for encoding and reading */
+#define FURLAZON_TEXT_BYTES 16384       /* bytes of a text, for splitting */
 
 /* Refusals. */
-#define FURLAZON_REFUSED_SHEET_LENGTH 1    /* a sheet of 0 bytes or over FURLAZON_SHEET_BYTES; a ban list over FURLAZON_BANS_BYTES */
+#define FURLAZON_REFUSED_SHEET_LENGTH 1    /* a sheet of 0 bytes or over FURLAZON_SHEET_BYTES, a class sheet of 0 bytes or over
+                                              FURLAZON_CLASS_SHEET_BYTES, a ban list over FURLAZON_BANS_BYTES */
 #define FURLAZON_REFUSED_SHEET_BYTES 2     /* a byte other than 0-9, A-F, comma, CR, LF; a CR without LF next; an LF without CR before */
 #define FURLAZON_REFUSED_RECORD_COUNT 3    /* more than FURLAZON_CODE_WORDS records */
 #define FURLAZON_REFUSED_WORD_LENGTH 4     /* a first field that is empty or has over FURLAZON_WORD_SYMBOLS digits */
 #define FURLAZON_REFUSED_CODE_LENGTH 5     /* over FURLAZON_CODE_SYMBOLS symbols in all */
 #define FURLAZON_REFUSED_FIELD_COUNT 6     /* n records of which not all have n + 1 fields, nor all n + 2 */
 #define FURLAZON_REFUSED_ROW_ENTRY 7       /* a row entry other than the single digit 0 or 1 */
-#define FURLAZON_REFUSED_NOT_FROM_SHEET 8  /* a table that no accepted sheet gives, nor one with an accepted ban list */
+#define FURLAZON_REFUSED_NOT_FROM_SHEET 8  /* a table that no accepted sheet gives, nor one with an accepted ban list; classes that no
+                                              accepted class sheet gives */
 #define FURLAZON_REFUSED_UNKNOWN_WORD 9    /* a word number that is not in the table; the number of a copy is none */
 #define FURLAZON_REFUSED_FORBIDDEN_PAIR 10 /* a neighbouring pair that is not permitted; a first word that may not begin; a banned triple */
 #define FURLAZON_REFUSED_MESSAGE_LENGTH 11 /* a message of over FURLAZON_MESSAGE_SYMBOLS symbols; a text of over FURLAZON_TEXT_BYTES */
@@ -55,6 +61,10 @@ extern "C" {
 #define FURLAZON_REFUSED_START_FIELD 15    /* a start field other than the single digit 0 or 1 */
 #define FURLAZON_REFUSED_BAN 16            /* a byte other than 0-9, comma, CR, LF; CR and LF not together; a record that is no ban */
 #define FURLAZON_REFUSED_COPIES 17         /* over FURLAZON_CODE_WORDS words or FURLAZON_CODE_SYMBOLS symbols with the copies */
+#define FURLAZON_REFUSED_CLASS_RECORD 18   /* wrong bytes as for 2; a record that is not three fields of two, two and one digit; a record
+                                              that takes in B7, 28, 29, 5B or 5D (hexadecimal) */
+#define FURLAZON_REFUSED_CLASS_RANGE 19    /* a record whose lowest byte is above its highest */
+#define FURLAZON_REFUSED_CLASS_OVERLAP 20  /* a byte in two records */
 
 /* Bytes of a table's image. For each of the 32 words its 16 symbols and then its length; then row 0 to row 31, with 32 entries
  * each; then the start marks of the 32 words; then the number of words. Entry Y of row X is 1 if word X may come immediately after
@@ -63,6 +73,10 @@ extern "C" {
  * is a copy of, its own number where it is none; then for each the number of the word after which the copy stands, 0 where it is
  * none. All that stands past a word's length or past the number of words is zero. */
 #define FURLAZON_TABLE_BYTES 1666
+
+/* Bytes of classes. Entry B is the symbol that byte B stands for, 0 to 15, or FURLAZON_OTHER where B is no letter. */
+#define FURLAZON_CLASSES_BYTES 256
+#define FURLAZON_OTHER 16
 
 /* Entries of an answer. */
 #define FURLAZON_ANSWER_ENTRIES 4
@@ -121,15 +135,28 @@ uint64_t furlazon_read(const uint8_t *table, size_t table_length,
                        uint64_t *work, size_t work_length,
                        uint64_t *answer, size_t answer_length);
 
-/* Splits the words of a text of any bytes, taken for ISO 8859-9, into syllables. The letters are those of Turkish, small and capital,
- * which docs/LINKING.md lists: a vowel is symbol 0 and a consonant is symbol 1. A word is a longest run of letters and has the
- * readings of the message that they stand for.
- * Needs: `table` of FURLAZON_TABLE_BYTES; `out` of twice the text's length and one byte more; `message`, `first` and `second` as long
- * as the text; `work` one entry longer; `answer` of FURLAZON_ANSWER_ENTRIES. Refusals: 8, 11, 13.
+/* Takes in a class sheet of any bytes: records of lowest byte, highest byte (two hexadecimal digits each) and symbol digit. A byte
+ * in no record is no letter. A record whose lowest byte is above its highest takes in no byte.
+ * Needs: `classes` of FURLAZON_CLASSES_BYTES. Refusals: 1, 13, 18, 19, 20.
+ * Result: the classes stand at the start of `classes`. */
+uint64_t furlazon_take_classes(const uint8_t *sheet, size_t sheet_length, uint8_t *classes, size_t classes_length);
+
+/* Gives the built-in classes of the Turkish letters in ISO 8859-9, small and capital, which docs/LINKING.md lists: a vowel is
+ * symbol 0 and a consonant is symbol 1.
+ * Needs: `classes` of FURLAZON_CLASSES_BYTES. Refusals: 13.
+ * Result: the classes stand at the start of `classes`. */
+uint64_t furlazon_turkish_classes(uint8_t *classes, size_t classes_length);
+
+/* Splits the words of a text of any bytes into syllables. The classes say which bytes are letters and for which symbols they stand.
+ * A word is a longest run of letters and has the readings of the message that they stand for.
+ * Needs: `table` of FURLAZON_TABLE_BYTES; `classes` of FURLAZON_CLASSES_BYTES; `out` of twice the text's length and one byte more;
+ * `message`, `first` and `second` as long as the text; `work` one entry longer; `answer` of FURLAZON_ANSWER_ENTRIES.
+ * Refusals: 8, for the table or for the classes, 11, 13.
  * Result: the text stands at the start of `out`, a word with one reading with the byte B7 (hexadecimal) between its syllables, a
  * word without a reading between ( and ), a word with several between [ and ], and every other byte as it is; answer = { the length
  * of all this, 0, 0, 0 }. `message`, `first`, `second` and `work` are zero, each whole. */
 uint64_t furlazon_split(const uint8_t *table, size_t table_length,
+                        const uint8_t *classes, size_t classes_length,
                         const uint8_t *text, size_t text_length,
                         uint8_t *out, size_t out_length,
                         uint8_t *message, size_t message_length,

@@ -1,8 +1,9 @@
 //! Codes, messages and sheets of the scope paper's cases, of codes with start
-//! marks, of codes with ban lists, of figures 2 and 3 of Gönenç, and the words
-//! that he splits, for the tests of both packages.
+//! marks, of codes with ban lists, of figures 2 and 3 of Gönenç, class sheets,
+//! and the words that he splits, for the tests of both packages.
 
 use crate::bans::{self, Ban};
+use crate::classes::{self, Record, RESERVED};
 use crate::code::{Code, Refusal};
 use crate::sheet;
 use crate::verdict::Verdict;
@@ -44,6 +45,31 @@ pub fn turkish_twelve() -> Code {
         any,
     ];
     Code::of(&words, &rows)
+}
+
+/// The six types with each consonant either r, symbol 2, or another, symbol 1.
+/// They follow each other as the types do.
+pub fn turkish_six_with_r() -> Code {
+    let six = turkish_six();
+    let (mut words, mut types) = (Vec::new(), Vec::new());
+    for (number, word) in six.words.iter().enumerate() {
+        let with_r = with_r(word);
+        types.extend(vec![number; with_r.len()]);
+        words.extend(with_r);
+    }
+    let row = |&x: &usize| types.iter().map(|&y| six.may_follow(x, y)).collect();
+    Code::new(words, types.iter().map(row).collect())
+}
+
+/// The word with every choice of r among its consonants.
+fn with_r(word: &[u8]) -> Vec<Vec<u8>> {
+    let mut words = vec![Vec::new()];
+    for &symbol in word {
+        let symbols: &[u8] = if symbol == 1 { &[1, 2] } else { &[0] };
+        let longer = |word: &Vec<u8>| symbols.iter().map(|&next| [&word[..], &[next]].concat()).collect::<Vec<_>>();
+        words = words.iter().flat_map(longer).collect();
+    }
+    words
 }
 
 /// Case 13: codes that read the empty message.
@@ -245,6 +271,73 @@ pub fn refused_lists() -> Vec<RefusedList> {
             refusal: Refusal::RowEntry,
         },
     ]
+}
+
+/// The Turkish letters as records of a class sheet, by the code table of ISO 8859-9: capitals, small letters, those outside ASCII.
+pub const TURKISH_CLASSES: &str = "\
+    41,41,0 42,44,1 45,45,0 46,48,1 49,49,0 4A,4E,1 4F,4F,0 50,50,1 52,54,1 55,55,0 56,56,1 59,5A,1 \
+    61,61,0 62,64,1 65,65,0 66,68,1 69,69,0 6A,6E,1 6F,6F,0 70,70,1 72,74,1 75,75,0 76,76,1 79,7A,1 \
+    C7,C7,1 D0,D0,1 D6,D6,0 DC,DD,0 DE,DE,1 E7,E7,1 F0,F0,1 F6,F6,0 FC,FD,0 FE,FE,1";
+
+/// The largest class sheet that is accepted: a record for each byte that may be a letter.
+pub fn largest_class_sheet() -> Vec<u8> {
+    let letters = (0..=255).filter(|byte| !RESERVED.contains(byte));
+    let record = |byte: u8| Record { lowest: byte, highest: byte, symbol: byte % 16 };
+    classes::write(&letters.map(record).collect::<Vec<_>>())
+}
+
+/// Class sheets, and the refusal of each; none for an accepted one. In the lists a slash stands for a line end.
+pub fn class_sheets() -> Vec<(Vec<u8>, Option<Refusal>)> {
+    let accepted = "61,61,0 00,00,F 00,27,A/2A,5A,1/5C,5C,2/5E,B6,3/B8,FF,4 61,61,0/62,62,0 66,7A,1/61,64,1/65,65,0";
+    // Other bytes; records that are not three fields of two, two and one digit, of which a blank line is one.
+    let malformed =
+        "6a,6a,0 61,61,a G1,61,0 61,61,G 61;61;0 \"61\",61,0 61,61,0\0 \u{feff}61,61,0 low,high,symbol/61,61,0 \
+        / // 61,61,0// /61,61,0 61,61,0//62,62,0 61 61,61 6161,0 61,61,0,0 61,61,0, ,61,61,0 ,, ,61,0 61,,0 61,61, \
+        1,61,0 061,61,0 61,1,0 61,061,0 61,61,00 0,0,61";
+    let line_ends =
+        ["61,61,0\n", "61,61,0\r", "61,61,0\r\r\n", "\n61,61,0", "61,61,0\n\r", "61,\t61,0", "61, 61,0", " "];
+    // Bytes that are never letters: alone, at either end, inside a range, among other records.
+    let reserved = "28,28,0 29,29,0 5B,5B,0 5D,5D,0 B7,B7,0 27,28,0 28,29,0 29,2A,0 5A,5B,0 5B,5C,0 5C,5D,0 5D,5E,0 \
+        B6,B7,0 B7,B8,0 5A,5C,0 5C,5E,0 B6,B8,0 27,2A,0 00,FF,0 61,61,0/B0,BF,1/62,62,1";
+    // Refusals 19 and 20 beside 18.
+    let several = "62,61,0/28,28,0 61,61,0/61,61,0/61,61 62,61,0/61,61,0/61,61,0/00,FF,0 62,61,00";
+    // Such a record takes in no byte, so no byte that is never a letter. In the last ones 20 holds beside 19.
+    let upside_down = "62,61,0 FF,00,0 B8,B6,0 B7,B6,0 B8,B7,0 29,28,0 5D,5B,0 B7,28,0 \
+        62,61,0/63,63,0/63,63,0 63,63,0/63,63,0/62,61,0 62,61,0/62,61,0 61,7A,1/65,61,0";
+    let twice = "61,61,0/61,61,0 61,61,0/61,61,1 61,65,0/65,70,1 65,70,1/61,65,0 61,7A,1/65,65,0 65,65,0/61,7A,1 \
+        00,00,0/FF,FF,0/00,00,0 41,5A,0/61,61,0/5E,B6,1";
+    let (size, wrong) = (Some(Refusal::SheetSize), Some(Refusal::ClassRecord));
+    let (range, overlap) = (Some(Refusal::ClassRange), Some(Refusal::ClassOverlap));
+    let lists = [
+        (accepted, None),
+        (malformed, wrong),
+        (reserved, wrong),
+        (several, wrong),
+        (upside_down, range),
+        (twice, overlap),
+    ];
+    let mut sheets = vec![(TURKISH_CLASSES.replace(' ', "\r\n").into_bytes(), None)];
+    for (list, refusal) in lists {
+        sheets.extend(list.split_whitespace().map(|sheet| (sheet.replace('/', "\r\n").into_bytes(), refusal)));
+    }
+    sheets.extend(line_ends.map(|sheet| (sheet.as_bytes().to_vec(), wrong)));
+    // A line end after the last record is optional.
+    let ended: Vec<_> = sheets.iter().map(|(sheet, refusal)| ([sheet, &b"\r\n"[..]].concat(), *refusal)).collect();
+    sheets.extend(ended);
+    let many = |record: &str, count: usize| format!("{record}\r\n").repeat(count).into_bytes();
+    sheets.extend([
+        (Vec::new(), size),
+        (largest_class_sheet(), None),
+        (vec![b'0'; 4_096], wrong),
+        (vec![b'0'; 4_097], size),
+        (many("61,61,0", 455), overlap),
+        (many("62,61,0", 455), range),
+        (many("28,28,0", 455), wrong),
+        (many("61,61,0", 456), size),
+        ([many("61,61,0", 455), b"0".to_vec()].concat(), wrong),
+        ([many("61,61,0", 455), b"00".to_vec()].concat(), size),
+    ]);
+    sheets
 }
 
 /// Figure 2: ambiguous messages of code T, each with its two readings.

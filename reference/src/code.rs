@@ -121,6 +121,9 @@ pub enum Refusal {
     StartField = 15,
     WrongBan = 16,
     TooManyCopies = 17,
+    ClassRecord = 18,
+    ClassRange = 19,
+    ClassOverlap = 20,
 }
 
 impl Refusal {

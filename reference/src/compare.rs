@@ -1,6 +1,7 @@
 //! Holds a program against the reference on generated inputs: every answer,
 //! and every lent buffer afterwards.
 
+use crate::classes::Classes;
 use crate::code::{Code, Refusal};
 use crate::generate;
 use crate::letters::TURKISH;
@@ -17,19 +18,23 @@ pub struct Met {
     pub accepted: usize,
     pub built_in: usize,
     pub enlarged: usize,
+    pub class_sheets: usize,
     pub encoded: usize,
     pub one_reading: usize,
     pub two_readings: usize,
-    /// Texts, and the words in them by their kinds.
+    /// Texts, those of them that are split by other classes than the built-in ones, and the words in them by their kinds.
     pub split: usize,
+    pub split_by_other_classes: usize,
     pub words_split: usize,
     pub words_without_reading: usize,
     pub words_with_several: usize,
     pub ambiguous: usize,
     pub delayed: usize,
     pub unbounded: usize,
+    /// Texts that are refused for their classes alone.
+    pub refused_classes: usize,
     /// By refusal number.
-    pub refused: [usize; 18],
+    pub refused: [usize; 21],
 }
 
 /// Compares on `rounds` rounds of generated inputs: what was met, or the first difference in words.
@@ -48,6 +53,8 @@ fn one_round(subject: &mut impl Operations, random: &mut Random, met: &mut Met) 
     let (refusal, table) = Reference.take_in(&sheet);
     same("sheet", &String::from_utf8_lossy(&sheet), &(refusal, table.clone()), &subject.take_in(&sheet))?;
     count(met, refusal, |met| met.accepted += 1);
+    on_class_sheet(subject, met, &generate::class_sheet(random))?;
+    on_class_sheet(subject, met, &generate::damaged_class_sheet(random))?;
     let code = match table.code() {
         Some(code) => code,
         // The rounds of refused sheets have room for another code.
@@ -59,11 +66,21 @@ fn one_round(subject: &mut impl Operations, random: &mut Random, met: &mut Met) 
     on_table(subject, random, met, &code, &table)
 }
 
-/// Compares the built-in code, with which the round then goes on.
+/// Compares the built-in classes and the built-in code, with which the round then goes on.
 fn built_in(subject: &mut impl Operations, met: &mut Met) -> Result<Code, String> {
+    let classes = (Reference.turkish_classes(), subject.turkish_classes());
+    same("built-in classes", "the Turkish letters", &classes.0, &classes.1)?;
     same("built-in code", "the Turkish types", &Reference.turkish(), &subject.turkish())?;
     met.built_in += 1;
     Ok(turkish::code())
+}
+
+/// Compares taking in one class sheet.
+pub fn on_class_sheet(subject: &mut impl Operations, met: &mut Met, sheet: &[u8]) -> Result<(), String> {
+    let taken = Reference.take_classes(sheet);
+    same("class sheet", &String::from_utf8_lossy(sheet), &taken, &subject.take_classes(sheet))?;
+    count(met, taken.0, |met| met.class_sheets += 1);
+    Ok(())
 }
 
 /// Compares enlarging, now and then of a table that is damaged or has copies
@@ -91,7 +108,7 @@ pub fn on_list(subject: &mut impl Operations, met: &mut Met, table: &Table, list
 
 /// Compares encoding, reading, splitting and the verdict on one table. The code,
 /// from which sequences, messages and texts are made, need not be that of the
-/// table.
+/// table. The classes of splitting are generated.
 pub fn on_table(
     subject: &mut impl Operations,
     random: &mut Random,
@@ -150,16 +167,22 @@ fn splitting(
     code: &Code,
     table: &Table,
 ) -> Result<(), String> {
-    let text = generate::text(random, code);
+    let classes = generate::classes(random);
+    let entries = generate::class_entries(random, &classes);
+    let text = generate::text(random, code, &classes);
     let mut expected = generate::splitting_buffers(random, &text);
     let mut actual = expected.clone();
-    let answer = Reference.split(table, &text, &mut expected.0, &mut expected.1);
-    let answered = subject.split(table, &text, &mut actual.0, &mut actual.1);
-    same("splitting", &(table, &text), &(answer, expected), &(answered, actual))?;
+    let answer = Reference.split(table, &entries, &text, &mut expected.0, &mut expected.1);
+    let answered = subject.split(table, &entries, &text, &mut actual.0, &mut actual.1);
+    same("splitting", &(table, &entries, &text), &(answer, expected), &(answered, actual))?;
+    let given = Classes::given(&entries);
+    met.refused_classes += usize::from(given.is_none() && table.code().is_some());
     count(met, answer.err(), |met| {
-        met.split += 1;
         let code = table.code().expect("a table that is not refused");
-        for word in split::words(&code, &TURKISH, &text) {
+        let classes = given.expect("classes that are not refused");
+        met.split += 1;
+        met.split_by_other_classes += usize::from(classes != *TURKISH);
+        for word in split::words(&code, &classes, &text) {
             match word.kind {
                 Kind::Split(_) => met.words_split += 1,
                 Kind::None => met.words_without_reading += 1,

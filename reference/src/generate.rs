@@ -1,5 +1,6 @@
-//! Random and damaged sheets, ban lists, tables, sequences, messages, texts
-//! and buffers. The same start of the generator gives the same inputs.
+//! Random and damaged sheets, ban lists, class sheets, tables, sequences,
+//! messages, texts and buffers. The same start of the generator gives the same
+//! inputs.
 
 use crate::bans::{self, Ban};
 use crate::code::Code;
@@ -12,7 +13,9 @@ use crate::sheet;
 use crate::table::Table;
 use crate::verdict::{verdict, Verdict};
 
+mod class_sheets;
 mod texts;
+pub use class_sheets::{class_entries, class_sheet, classes, damaged_class_sheet};
 pub use texts::{spelled, splitting_buffers, text};
 
 /// A code of any size within the limits. In half of the codes every word may begin.
@@ -256,11 +259,16 @@ pub fn bans(random: &mut Random, code: &Code) -> Vec<Ban> {
         bans.extend_from_within(..random.below(bans.len() + 1).min(2));
     }
     if random.one_in(2) {
-        for at in (1..bans.len()).rev() {
-            bans.swap(at, random.below(at + 1));
-        }
+        shuffle(random, &mut bans);
     }
     bans
+}
+
+/// Puts a list in any order.
+fn shuffle<T>(random: &mut Random, list: &mut [T]) {
+    for at in (1..list.len()).rev() {
+        list.swap(at, random.below(at + 1));
+    }
 }
 
 /// A few copies, each with a few bans. Often Y is a word that has a copy, so that copies can follow copies.

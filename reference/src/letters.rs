@@ -1,29 +1,15 @@
 //! The letters of Turkish as bytes of ISO 8859-9, and the symbols that they
 //! stand for. The lists of vowels and consonants are those of the papers.
 
+use crate::classes::Classes;
 use std::sync::LazyLock;
 
 pub const VOWELS: &str = "aeıioöuü";
 pub const CONSONANTS: &str = "bcçdfgğhjklmnprsştvyz";
 
-/// The symbol that each byte stands for in a text; none for a byte that is no letter.
-#[derive(Clone, PartialEq, Eq, Debug)]
-pub struct Classes(pub [Option<u8>; 256]);
-
-impl Classes {
-    pub fn symbol(&self, byte: u8) -> Option<u8> {
-        self.0[byte as usize]
-    }
-
-    /// The bytes that stand for a symbol, or those that are no letters.
-    pub fn bytes(&self, symbol: Option<u8>) -> Vec<u8> {
-        (0..=255).filter(|&byte| self.symbol(byte) == symbol).collect()
-    }
-}
-
 /// A vowel is symbol 0 and a consonant symbol 1, small or capital.
 pub static TURKISH: LazyLock<Classes> = LazyLock::new(|| {
-    let mut classes = Classes([None; 256]);
+    let mut classes = Classes::NONE;
     for (symbol, letters) in [(0, VOWELS), (1, CONSONANTS)] {
         for letter in letters.chars() {
             for byte in [letter, capital(letter)].map(byte) {
@@ -33,6 +19,13 @@ pub static TURKISH: LazyLock<Classes> = LazyLock::new(|| {
     }
     classes
 });
+
+/// The same letters with symbol 2 for r, which Gönenç tells from the other consonants at the end of his section 5.
+pub fn with_r_apart() -> Classes {
+    let mut classes = TURKISH.clone();
+    b"rR".iter().for_each(|&byte| classes.0[byte as usize] = Some(2));
+    classes
+}
 
 /// The Turkish capital of a letter. The dot of i stays, so that I is the capital of ı.
 pub fn capital(letter: char) -> char {

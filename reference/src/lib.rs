@@ -10,7 +10,9 @@
 //! way as they stand; for the second [`copies`] turns them into copies of
 //! words.
 //!
-//! [`split`] reads the words of a text, whose [`letters`] stand for symbols.
+//! [`split`] reads the words of a text, whose letters stand for symbols by the
+//! [`classes`] that a class sheet gives, or by the built-in ones of Turkish
+//! [`letters`].
 //!
 //! [`generate`] makes random and damaged inputs, and [`compare`] holds another
 //! program's [`operations`] against the reference on them. [`cases`] has the
@@ -19,6 +21,7 @@
 pub mod bans;
 pub mod brute;
 pub mod cases;
+pub mod classes;
 pub mod code;
 pub mod compare;
 pub mod copies;

@@ -1,7 +1,8 @@
 //! The operations with their lent buffers: refusals 8 to 14, and what each
-//! buffer holds afterwards; enlarging a table by a ban list; and the built-in
-//! code.
+//! buffer holds afterwards; enlarging a table by a ban list; taking in class
+//! sheets; the built-in code and the built-in classes.
 
+use crate::classes::{self, Classes, Entries, OTHER};
 use crate::code::{Code, Refusal};
 use crate::read::{self, Readings};
 use crate::table::Table;
@@ -37,7 +38,7 @@ pub struct Buffers {
     pub working: Vec<u64>,
 }
 
-/// A program that offers the seven operations. The reference is one; a linked
+/// A program that offers the nine operations. The reference is one; a linked
 /// library becomes another by wrapping its functions.
 pub trait Operations {
     /// The table of a sheet, the blank one with a refusal.
@@ -46,13 +47,23 @@ pub trait Operations {
     fn turkish(&mut self) -> Table;
     /// The table with the copies that a ban list needs, the blank one with a refusal.
     fn enlarge(&mut self, table: &Table, list: &[u8]) -> (Option<Refusal>, Table);
+    /// The classes of a class sheet, without a letter with a refusal.
+    fn take_classes(&mut self, sheet: &[u8]) -> (Option<Refusal>, Entries);
+    /// The built-in classes.
+    fn turkish_classes(&mut self) -> Entries;
     /// Writes the message of a sequence and gives its length.
     fn encode(&mut self, table: &Table, sequence: &[u8], message: &mut [u8]) -> Result<usize, Refusal>;
     /// Writes the readings of a message and gives their lengths.
     fn read(&mut self, table: &Table, message: &[u8], buffers: &mut Buffers) -> Result<ReadingLengths, Refusal>;
     /// Writes a text with its words split and gives its new length.
-    fn split(&mut self, table: &Table, text: &[u8], output: &mut [u8], buffers: &mut Buffers)
-        -> Result<usize, Refusal>;
+    fn split(
+        &mut self,
+        table: &Table,
+        classes: &Entries,
+        text: &[u8],
+        output: &mut [u8],
+        buffers: &mut Buffers,
+    ) -> Result<usize, Refusal>;
     /// Gives the verdict; an ambiguous one writes its message and readings.
     fn verdict(&mut self, table: &Table, buffers: &mut Buffers) -> Result<VerdictLengths, Refusal>;
 }
@@ -76,6 +87,17 @@ impl Operations for Reference {
             Ok(code) => (None, Table::of(&code)),
             Err(refusal) => (Some(refusal), Table::BLANK),
         }
+    }
+
+    fn take_classes(&mut self, sheet: &[u8]) -> (Option<Refusal>, Entries) {
+        match classes::take_in(sheet) {
+            Ok(classes) => (None, classes.entries()),
+            Err(refusal) => (Some(refusal), [OTHER; 256]),
+        }
+    }
+
+    fn turkish_classes(&mut self) -> Entries {
+        letters::TURKISH.entries()
     }
 
     fn encode(&mut self, table: &Table, sequence: &[u8], message: &mut [u8]) -> Result<usize, Refusal> {
@@ -109,12 +131,14 @@ impl Operations for Reference {
     fn split(
         &mut self,
         table: &Table,
+        classes: &Entries,
         text: &[u8],
         output: &mut [u8],
         buffers: &mut Buffers,
     ) -> Result<usize, Refusal> {
         let code = table.code().ok_or(Refusal::NotFromSheet)?;
-        let split = split::split(&code, &letters::TURKISH, text)?;
+        let classes = Classes::given(classes).ok_or(Refusal::NotFromSheet)?;
+        let split = split::split(&code, &classes, text)?;
         let Buffers { message, first, second, working } = buffers;
         let bytes = [message, first, second];
         let too_short = output.len() < 2 * text.len() + 1

@@ -2,7 +2,7 @@
 
 use crate::code::{Code, Refusal};
 use crate::verdict::{verdict, Verdict};
-use crate::{bans, copies, letters, sheet, turkish};
+use crate::{bans, classes, copies, letters, sheet, turkish};
 
 /// The hexadecimal digit of a symbol.
 pub fn digit(symbol: u8) -> u8 {
@@ -14,10 +14,16 @@ pub fn result(sheet: &[u8], list: &[u8]) -> Vec<u8> {
     take_in(sheet, list).map_or_else(refused, |code| printed(&verdict(&code)))
 }
 
-/// What is printed for a text, whole. The code is that of the sheet, whose refusal comes first; without one the built-in code.
-pub fn split(sheet: Option<&[u8]>, text: &[u8]) -> Vec<u8> {
-    let code = sheet.map_or_else(|| Ok(turkish::code()), sheet::take_in);
-    code.and_then(|code| crate::split::split(&code, &letters::TURKISH, text)).unwrap_or_else(refused)
+/// What is printed for a text, whole. The code is that of the code sheet and the classes are those of the class sheet, without one
+/// the built-in ones. The code sheet's refusal comes first, then that of the class sheet.
+pub fn split(code_sheet: Option<&[u8]>, class_sheet: Option<&[u8]>, text: &[u8]) -> Vec<u8> {
+    split_by(code_sheet, class_sheet, text).unwrap_or_else(refused)
+}
+
+fn split_by(code_sheet: Option<&[u8]>, class_sheet: Option<&[u8]>, text: &[u8]) -> Result<Vec<u8>, Refusal> {
+    let code = code_sheet.map_or_else(|| Ok(turkish::code()), sheet::take_in)?;
+    let classes = class_sheet.map_or_else(|| Ok(letters::TURKISH.clone()), classes::take_in)?;
+    crate::split::split(&code, &classes, text)
 }
 
 /// The record of a refusal.

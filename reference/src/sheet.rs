@@ -8,7 +8,7 @@ pub fn take_in(sheet: &[u8]) -> Result<Code, Refusal> {
     if sheet.is_empty() || sheet.len() > Code::MAX_SHEET_BYTES {
         return Err(Refusal::SheetSize);
     }
-    if !bytes_fit(sheet, |byte| byte.is_ascii_digit() || (b'A'..=b'F').contains(&byte)) {
+    if !bytes_fit(sheet, is_digit) {
         return Err(Refusal::SheetByte);
     }
     let records = records(sheet);
@@ -44,6 +44,11 @@ pub fn take_in(sheet: &[u8]) -> Result<Code, Refusal> {
     })
 }
 
+/// Is it a hexadecimal digit, 0-9 or A-F?
+pub(crate) fn is_digit(byte: u8) -> bool {
+    byte.is_ascii_digit() || (b'A'..=b'F').contains(&byte)
+}
+
 /// Only digits, commas and line ends, and every CR and LF part of a CR LF?
 pub(crate) fn bytes_fit(sheet: &[u8], is_digit: impl Fn(u8) -> bool) -> bool {
     (0..sheet.len()).all(|i| match sheet[i] {
@@ -64,7 +69,7 @@ pub(crate) fn records(sheet: &[u8]) -> Vec<Vec<&[u8]>> {
 }
 
 /// The number a hexadecimal digit stands for.
-fn symbol(digit: u8) -> u8 {
+pub(crate) fn symbol(digit: u8) -> u8 {
     match digit {
         b'0'..=b'9' => digit - b'0',
         _ => digit - b'A' + 10,

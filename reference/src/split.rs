@@ -2,8 +2,8 @@
 //! letters stand for the symbols of a message. Refusal 11 for a text that is
 //! too long.
 
+use crate::classes::Classes;
 use crate::code::{Code, Refusal};
-use crate::letters::Classes;
 use crate::read::{Reader, Readings};
 use std::ops::Range;
 

@@ -1,11 +1,12 @@
 //! The comparison covers every answer and catches programs with a slip.
 
 use reference::bans;
+use reference::classes::{Classes, Entries, OTHER, RESERVED};
 use reference::code::{Code, Refusal};
 use reference::compare::compare;
 use reference::copies::{enlarge, without_copies};
 use reference::encode::joined;
-use reference::letters::{Classes, TURKISH};
+use reference::letters::TURKISH;
 use reference::operations::{Buffers, Operations, ReadingLengths, Reference, VerdictLengths};
 use reference::pairs::walk;
 use reference::read::{first_two, Readings};
@@ -20,8 +21,9 @@ fn every_answer_is_met() {
     assert!(met.refused[1..].iter().all(|&times| times >= 20), "{met:?}");
     let answers = [met.accepted, met.built_in, met.enlarged, met.encoded, met.one_reading, met.two_readings];
     let texts = [met.split, met.words_split, met.words_without_reading, met.words_with_several];
+    let classes = [met.class_sheets, met.split_by_other_classes, met.refused_classes];
     let verdicts = [met.ambiguous, met.delayed, met.unbounded];
-    assert!(answers.iter().chain(&texts).chain(&verdicts).all(|&times| times >= 20), "{met:?}");
+    assert!(answers.iter().chain(&texts).chain(&classes).chain(&verdicts).all(|&times| times >= 20), "{met:?}");
 }
 
 /// The reference with one slip.
@@ -54,6 +56,35 @@ enum Slip {
     CopyOfAnotherWordAccepted,
     CopyNumbersEncoded,
     BannedThreeEncoded,
+    ClassesOfRefusedSheet,
+    RangeWithoutItsLastByte,
+    LastByteOfAllLeftOut,
+    OthersAsVowels,
+    SymbolsUpToNine,
+    LowerCaseAccepted,
+    LineFeedAccepted,
+    BlankLineAtTheEndAccepted,
+    LastRecordWithoutLineEndLost,
+    FourthFieldIgnored,
+    OneDigitAccepted,
+    LongDigitsAccepted,
+    ReservedAtTheEndsOnly,
+    BracketsInsideARangeAccepted,
+    OneBracketForgotten,
+    ReservedInUpsideDownRange,
+    RangeBeforeRecord,
+    OverlapBeforeRange,
+    UpsideDownTurned,
+    UpsideDownIgnored,
+    OverlapByOneByteAccepted,
+    SameRecordTwiceAccepted,
+    OverlapOfSameSymbolAccepted,
+    LastRecordWins,
+    EmptyClassSheetAccepted,
+    ClassSheetOneByteLonger,
+    ClassSheetOneByteShorter,
+    CapitalTakenAsOther,
+    AccentTakenAsLetter,
     TableNotChecked,
     MarksNotChecked,
     MessageOneLonger,
@@ -70,8 +101,14 @@ enum Slip {
     SeveralSplitByTheFirst,
     LastWordLost,
     DotsOfTheTextLost,
-    CapitalTakenAsOther,
-    AccentTakenAsLetter,
+    TurkishWhateverTheClasses,
+    SymbolsAboveOneAsOne,
+    LetterFFTakenAsOther,
+    ClassesAbove16AsOther,
+    ReservedLettersAsOther,
+    ClassesWithoutLettersAccepted,
+    LongTextBeforeClasses,
+    ShortBufferBeforeClasses,
     MarksIgnoredBySplitting,
     BansIgnoredBySplitting,
     MessageLeftBySplitting,
@@ -156,6 +193,28 @@ impl Operations for Wrong {
         (refusal, enlarged)
     }
 
+    fn take_classes(&mut self, sheet: &[u8]) -> (Option<Refusal>, Entries) {
+        match taken_with(self.0, sheet) {
+            Ok(entries) => (None, entries),
+            Err(refusal) => {
+                let mut entries = [OTHER; 256];
+                entries[0] -= u8::from(self.0 == Slip::ClassesOfRefusedSheet);
+                (Some(refusal), entries)
+            }
+        }
+    }
+
+    fn turkish_classes(&mut self) -> Entries {
+        let mut entries = Reference.turkish_classes();
+        match self.0 {
+            // The capital of i, and a with a circumflex.
+            Slip::CapitalTakenAsOther => entries[0xDD] = OTHER,
+            Slip::AccentTakenAsLetter => entries[0xE2] = 0,
+            _ => {}
+        }
+        entries
+    }
+
     fn encode(&mut self, table: &Table, sequence: &[u8], message: &mut [u8]) -> Result<usize, Refusal> {
         if self.0 == Slip::MarksIgnoredByEncoding {
             return Reference.encode(&without_marks(table), sequence, message);
@@ -218,32 +277,40 @@ impl Operations for Wrong {
     fn split(
         &mut self,
         table: &Table,
+        classes: &Entries,
         text: &[u8],
         output: &mut [u8],
         buffers: &mut Buffers,
     ) -> Result<usize, Refusal> {
         match self.0 {
-            Slip::MarksIgnoredBySplitting => return Reference.split(&without_marks(table), text, output, buffers),
+            Slip::MarksIgnoredBySplitting => {
+                return Reference.split(&without_marks(table), classes, text, output, buffers)
+            }
             Slip::BansIgnoredBySplitting => {
                 let words = without_bans(table).unwrap_or_else(|| table.clone());
-                return Reference.split(&words, text, output, buffers);
+                return Reference.split(&words, classes, text, output, buffers);
             }
             Slip::LongTextBeforeTable if text.len() > MAX_TEXT_BYTES => return Err(Refusal::MessageTooLong),
+            _ if table.code().is_some() => {
+                if let Some(result) = by_other_classes(self.0, table, classes, text, output, buffers) {
+                    return result;
+                }
+            }
             _ => {}
         }
         let before = (output.to_vec(), buffers.clone());
-        let answer = Reference.split(table, text, output, buffers);
+        let answer = Reference.split(table, classes, text, output, buffers);
         match (self.0, answer) {
             (Slip::ClearedBeforeRefusal, Err(Refusal::BufferTooShort)) => buffers.message.fill(0),
             (Slip::TextOneByteLonger, Err(Refusal::MessageTooLong)) if text.len() == MAX_TEXT_BYTES + 1 => {
-                return Reference.split(table, &text[..MAX_TEXT_BYTES], output, buffers)
+                return Reference.split(table, classes, &text[..MAX_TEXT_BYTES], output, buffers)
             }
             (Slip::ShortBufferBeforeLongText, Err(Refusal::MessageTooLong)) if output.len() <= 2 * text.len() => {
                 return Err(Refusal::BufferTooShort)
             }
             (Slip::OutputAsLongAsWritten, Err(Refusal::BufferTooShort)) => {
                 let mut longer = vec![0; 2 * text.len() + 1];
-                let length = Reference.split(table, text, &mut longer, buffers)?;
+                let length = Reference.split(table, classes, text, &mut longer, buffers)?;
                 let room = output.get_mut(..length).ok_or(Refusal::BufferTooShort)?;
                 room.copy_from_slice(&longer[..length]);
                 return Ok(length);
@@ -261,7 +328,9 @@ impl Operations for Wrong {
             }
             Slip::OutputOneLonger => output.iter_mut().skip(length).take(1).for_each(|byte| *byte = 0),
             slip => {
-                let written = split_with(slip, &table.code().expect("the table is not refused"), text);
+                let code = table.code().expect("the table is not refused");
+                let classes = Classes::given(classes).expect("the classes are not refused");
+                let written = split_with(slip, &code, &classes, text);
                 output.copy_from_slice(&before.0);
                 // Where a dot too much finds no room the output ends.
                 let written = &written[..written.len().min(output.len())];
@@ -316,15 +385,161 @@ impl Operations for Wrong {
     }
 }
 
+/// What a program with a slip in its classes does, if the slip shows. The table is one that a sheet gives.
+fn by_other_classes(
+    slip: Slip,
+    table: &Table,
+    classes: &Entries,
+    text: &[u8],
+    output: &mut [u8],
+    buffers: &mut Buffers,
+) -> Option<Result<usize, Refusal>> {
+    let given = Classes::given(classes).is_some();
+    let mut taken = *classes;
+    match slip {
+        Slip::TurkishWhateverTheClasses if given => taken = TURKISH.entries(),
+        Slip::SymbolsAboveOneAsOne if given => {
+            let letters = taken.iter_mut().filter(|entry| **entry < OTHER);
+            letters.for_each(|entry| *entry = (*entry).min(1));
+        }
+        Slip::LetterFFTakenAsOther if given && classes.iter().filter(|&&entry| entry < OTHER).count() > 1 => {
+            taken[0xFF] = OTHER
+        }
+        Slip::ClassesAbove16AsOther => taken.iter_mut().for_each(|entry| *entry = (*entry).min(OTHER)),
+        Slip::ReservedLettersAsOther => RESERVED.iter().for_each(|&byte| taken[byte as usize] = OTHER),
+        // A letter that the text does not have.
+        Slip::ClassesWithoutLettersAccepted if *classes == [OTHER; 256] => {
+            let free = (0..=255).find(|byte| !text.contains(byte) && !RESERVED.contains(byte))?;
+            taken[free as usize] = 0;
+        }
+        Slip::LongTextBeforeClasses if text.len() > MAX_TEXT_BYTES => return Some(Err(Refusal::MessageTooLong)),
+        Slip::ShortBufferBeforeClasses if !given && output.len() <= 2 * text.len() => {
+            return Some(Err(Refusal::BufferTooShort))
+        }
+        _ => return None,
+    }
+    Some(Reference.split(table, &taken, text, output, buffers))
+}
+
+/// A class sheet as a program with a slip takes it in, written once more from its lines.
+fn taken_with(slip: Slip, sheet: &[u8]) -> Result<Entries, Refusal> {
+    let most = match slip {
+        Slip::ClassSheetOneByteLonger => 4_097,
+        Slip::ClassSheetOneByteShorter => 4_095,
+        _ => 4_096,
+    };
+    if sheet.len() > most || sheet.is_empty() && slip != Slip::EmptyClassSheetAccepted {
+        return Err(Refusal::SheetSize);
+    }
+    let mut text = String::from_utf8_lossy(sheet).into_owned();
+    match slip {
+        Slip::LowerCaseAccepted => text.make_ascii_uppercase(),
+        Slip::LineFeedAccepted => text = text.replace("\r\n", "\n").replace('\n', "\r\n"),
+        Slip::BlankLineAtTheEndAccepted if text.ends_with("\r\n\r\n") => text.truncate(text.len() - 2),
+        _ => {}
+    }
+    let mut lines: Vec<&str> = text.strip_suffix("\r\n").unwrap_or(&text).split("\r\n").collect();
+    if sheet.is_empty() || slip == Slip::LastRecordWithoutLineEndLost && lines.len() > 1 && !text.ends_with("\r\n") {
+        lines.pop();
+    }
+    let records: Option<Vec<[u8; 3]>> = lines.iter().map(|line| record_with(slip, line)).collect();
+    let malformed = records.is_none();
+    // Of a sheet with a malformed record the others are tested too.
+    let mut records = records.unwrap_or_else(|| lines.iter().filter_map(|line| record_with(slip, line)).collect());
+    let reserved = records.iter().any(|&[lowest, highest, _]| takes_in_reserved(slip, lowest, highest));
+    let mut upside_down = records.iter().any(|[lowest, highest, _]| lowest > highest);
+    if slip == Slip::UpsideDownTurned {
+        records.iter_mut().for_each(|record| record[..2].sort());
+        upside_down = false;
+    }
+    let wrong = (malformed || reserved, Refusal::ClassRecord);
+    let upside_down = (upside_down && slip != Slip::UpsideDownIgnored, Refusal::ClassRange);
+    let twice = (overlaps_with(slip, &records), Refusal::ClassOverlap);
+    let tests = match slip {
+        Slip::RangeBeforeRecord => [upside_down, wrong, twice],
+        Slip::OverlapBeforeRange => [wrong, twice, upside_down],
+        _ => [wrong, upside_down, twice],
+    };
+    if let Some((_, refusal)) = tests.into_iter().find(|(holds, _)| *holds) {
+        return Err(refusal);
+    }
+    let mut entries = [if slip == Slip::OthersAsVowels { 0 } else { OTHER }; 256];
+    for [lowest, highest, symbol] in records {
+        for byte in lowest..=highest {
+            let left_out = match slip {
+                Slip::RangeWithoutItsLastByte => byte == highest && lowest < highest,
+                Slip::LastByteOfAllLeftOut => byte == 255,
+                _ => false,
+            };
+            if !left_out {
+                entries[byte as usize] = if slip == Slip::SymbolsUpToNine { symbol.min(9) } else { symbol };
+            }
+        }
+    }
+    Ok(entries)
+}
+
+/// The numbers of a line, if it is a record.
+fn record_with(slip: Slip, line: &str) -> Option<[u8; 3]> {
+    let mut fields: Vec<&str> = line.split(',').collect();
+    if slip == Slip::FourthFieldIgnored {
+        fields.truncate(3);
+    }
+    let [lowest, highest, symbol] = fields[..] else { return None };
+    let number = |field: &str, digits: usize| {
+        let fits = match slip {
+            Slip::OneDigitAccepted => (1..=digits).contains(&field.len()),
+            Slip::LongDigitsAccepted => field.len() >= digits,
+            _ => field.len() == digits,
+        };
+        let are_digits = field.bytes().all(|byte| b"0123456789ABCDEF".contains(&byte));
+        let number = u64::from_str_radix(field, 16).ok().filter(|&number| number < 1 << (4 * digits));
+        number.filter(|_| fits && are_digits).map(|number| number as u8)
+    };
+    Some([number(lowest, 2)?, number(highest, 2)?, number(symbol, 1)?])
+}
+
+fn takes_in_reserved(slip: Slip, lowest: u8, highest: u8) -> bool {
+    let is_end = |byte: &u8| [lowest, highest].contains(byte) && lowest <= highest;
+    RESERVED.iter().any(|byte| match slip {
+        Slip::ReservedAtTheEndsOnly => is_end(byte),
+        Slip::BracketsInsideARangeAccepted if *byte != DOT => is_end(byte),
+        Slip::OneBracketForgotten if *byte == b']' => false,
+        Slip::ReservedInUpsideDownRange => (lowest.min(highest)..=lowest.max(highest)).contains(byte),
+        _ => (lowest..=highest).contains(byte),
+    })
+}
+
+/// Is a byte in two records?
+fn overlaps_with(slip: Slip, records: &[[u8; 3]]) -> bool {
+    let mut records = records.to_vec();
+    match slip {
+        Slip::LastRecordWins => return false,
+        Slip::SameRecordTwiceAccepted => {
+            records.sort();
+            records.dedup();
+        }
+        _ => {}
+    }
+    let mut taking = vec![Vec::new(); 256];
+    for [lowest, highest, symbol] in records {
+        (lowest..=highest).for_each(|byte| taking[byte as usize].push(symbol));
+    }
+    let twice = taking.iter().filter(|symbols| match slip {
+        Slip::OverlapOfSameSymbolAccepted => symbols.iter().any(|&symbol| symbol != symbols[0]),
+        _ => symbols.len() > 1,
+    });
+    twice.count() > usize::from(slip == Slip::OverlapByOneByteAccepted)
+}
+
 /// A text as a program with a slip splits it, written once more from where its words stand.
-fn split_with(slip: Slip, code: &Code, text: &[u8]) -> Vec<u8> {
-    let classes = classes_with(slip);
+fn split_with(slip: Slip, code: &Code, classes: &Classes, text: &[u8]) -> Vec<u8> {
     let mut output = Vec::new();
     let mut end = 0;
     let copy = |output: &mut Vec<u8>, others: &[u8]| {
         output.extend(others.iter().filter(|&&byte| slip != Slip::DotsOfTheTextLost || byte != DOT))
     };
-    for Word { place, kind } in words(code, &classes, text) {
+    for Word { place, kind } in words(code, classes, text) {
         copy(&mut output, &text[end..place.start]);
         end = place.end;
         if slip == Slip::LastWordLost && end == text.len() {
@@ -332,7 +547,7 @@ fn split_with(slip: Slip, code: &Code, text: &[u8]) -> Vec<u8> {
         }
         let letters = &text[place];
         let kind = match kind {
-            Kind::Several if slip == Slip::SeveralSplitByTheFirst => first_split(code, &classes, letters),
+            Kind::Several if slip == Slip::SeveralSplitByTheFirst => first_split(code, classes, letters),
             kind => kind,
         };
         let (round, square) = (*b"()", *b"[]");
@@ -352,17 +567,6 @@ fn split_with(slip: Slip, code: &Code, text: &[u8]) -> Vec<u8> {
     }
     copy(&mut output, &text[end..]);
     output
-}
-
-/// The classes, with a slip in one byte: the capital of i, or a with a circumflex.
-fn classes_with(slip: Slip) -> Classes {
-    let mut classes = TURKISH.clone();
-    match slip {
-        Slip::CapitalTakenAsOther => classes.0[0xDD] = None,
-        Slip::AccentTakenAsLetter => classes.0[0xE2] = Some(0),
-        _ => {}
-    }
-    classes
 }
 
 /// The first reading of an ambiguous word as its kind.
@@ -594,6 +798,35 @@ fn slips_are_caught() {
         ("enlarging", Slip::CopiesByNumber),
         ("enlarging", Slip::FollowerNotAsItsCopy),
         ("enlarging", Slip::BanOnlyAfterWord),
+        ("class sheet", Slip::ClassesOfRefusedSheet),
+        ("class sheet", Slip::RangeWithoutItsLastByte),
+        ("class sheet", Slip::LastByteOfAllLeftOut),
+        ("class sheet", Slip::OthersAsVowels),
+        ("class sheet", Slip::SymbolsUpToNine),
+        ("class sheet", Slip::LowerCaseAccepted),
+        ("class sheet", Slip::LineFeedAccepted),
+        ("class sheet", Slip::BlankLineAtTheEndAccepted),
+        ("class sheet", Slip::LastRecordWithoutLineEndLost),
+        ("class sheet", Slip::FourthFieldIgnored),
+        ("class sheet", Slip::OneDigitAccepted),
+        ("class sheet", Slip::LongDigitsAccepted),
+        ("class sheet", Slip::ReservedAtTheEndsOnly),
+        ("class sheet", Slip::BracketsInsideARangeAccepted),
+        ("class sheet", Slip::OneBracketForgotten),
+        ("class sheet", Slip::ReservedInUpsideDownRange),
+        ("class sheet", Slip::RangeBeforeRecord),
+        ("class sheet", Slip::OverlapBeforeRange),
+        ("class sheet", Slip::UpsideDownTurned),
+        ("class sheet", Slip::UpsideDownIgnored),
+        ("class sheet", Slip::OverlapByOneByteAccepted),
+        ("class sheet", Slip::SameRecordTwiceAccepted),
+        ("class sheet", Slip::OverlapOfSameSymbolAccepted),
+        ("class sheet", Slip::LastRecordWins),
+        ("class sheet", Slip::EmptyClassSheetAccepted),
+        ("class sheet", Slip::ClassSheetOneByteLonger),
+        ("class sheet", Slip::ClassSheetOneByteShorter),
+        ("built-in classes", Slip::CapitalTakenAsOther),
+        ("built-in classes", Slip::AccentTakenAsLetter),
         ("encoding", Slip::CopyWithoutBanAccepted),
         ("encoding", Slip::CopyOfAnotherWordAccepted),
         ("encoding", Slip::CopyNumbersEncoded),
@@ -614,8 +847,14 @@ fn slips_are_caught() {
         ("splitting", Slip::SeveralSplitByTheFirst),
         ("splitting", Slip::LastWordLost),
         ("splitting", Slip::DotsOfTheTextLost),
-        ("splitting", Slip::CapitalTakenAsOther),
-        ("splitting", Slip::AccentTakenAsLetter),
+        ("splitting", Slip::TurkishWhateverTheClasses),
+        ("splitting", Slip::SymbolsAboveOneAsOne),
+        ("splitting", Slip::LetterFFTakenAsOther),
+        ("splitting", Slip::ClassesAbove16AsOther),
+        ("splitting", Slip::ReservedLettersAsOther),
+        ("splitting", Slip::ClassesWithoutLettersAccepted),
+        ("splitting", Slip::LongTextBeforeClasses),
+        ("splitting", Slip::ShortBufferBeforeClasses),
         ("splitting", Slip::MarksIgnoredBySplitting),
         ("splitting", Slip::BansIgnoredBySplitting),
         ("splitting", Slip::MessageLeftBySplitting),

@@ -1,6 +1,7 @@
 //! The generated inputs: within the limits where that is promised, and the same at every run.
 
 use reference::bans;
+use reference::classes::{self, Classes, OTHER, RESERVED};
 use reference::code::{Code, Refusal};
 use reference::copies::{enlarge, without_copies};
 use reference::generate;
@@ -13,7 +14,7 @@ use reference::split::{DOT, MAX_TEXT_BYTES};
 use reference::table::Table;
 use reference::verdict::verdict;
 use std::cmp::Ordering;
-use std::collections::BTreeSet;
+use std::collections::{BTreeMap, BTreeSet};
 
 #[test]
 fn generated_codes_are_within_the_limits() {
@@ -143,8 +144,8 @@ fn texts_of_every_kind() {
     for _ in 0..20_000 {
         let code = generate::code(&mut random);
         let mut again = random.clone();
-        let text = generate::text(&mut random, &code);
-        assert_eq!(generate::text(&mut again, &code), text);
+        let text = generate::text(&mut random, &code, &TURKISH);
+        assert_eq!(generate::text(&mut again, &code, &TURKISH), text);
         let is_letter = |&byte: &u8| TURKISH.symbol(byte).is_some();
         empty += usize::from(text.is_empty());
         letters += usize::from(!text.is_empty() && text.iter().all(is_letter));
@@ -165,7 +166,7 @@ fn texts_of_every_kind() {
 #[test]
 fn buffers_of_splitting() {
     let mut random = Random(9);
-    let table = Reference.turkish();
+    let (table, classes) = (Reference.turkish(), Reference.turkish_classes());
     let text = b"kongre baba bb";
     let needed = [2 * text.len() + 1, text.len(), text.len(), text.len(), text.len() + 1];
     let (mut met, mut dirty) = ([[0; 5]; 3], [0; 5]);
@@ -185,9 +186,136 @@ fn buffers_of_splitting() {
         }
         dirty[4] += usize::from(buffers.working.iter().any(|&entry| entry != 0));
         let short = lengths.iter().zip(&needed).any(|(length, needed)| length < needed);
-        let refused = Reference.split(&table, text, &mut output, &mut buffers).err();
+        let refused = Reference.split(&table, &classes, text, &mut output, &mut buffers).err();
         assert_eq!(refused, short.then_some(Refusal::BufferTooShort));
     }
     assert!(met.iter().flatten().all(|&times| times >= 100), "{met:?}");
     assert!(dirty.iter().all(|&times| times > 9_000), "{dirty:?}");
+}
+
+/// The numbers of a record, if it is one of three fields of two, two and one digit.
+fn numbers(line: &str) -> Option<(u8, u8, u8)> {
+    let fields: Vec<&str> = line.split(',').collect();
+    let number = |field: &str| u8::from_str_radix(field, 16).ok().filter(|_| field == field.to_uppercase());
+    let fits = fields.iter().map(|field| field.len()).eq([2, 2, 1]);
+    fits.then(|| Some((number(fields[0])?, number(fields[1])?, number(fields[2])?)))?
+}
+
+/// Class sheets of every shape and with every cause of a refusal are among those generated, also where several hold.
+#[test]
+fn class_sheets_of_every_kind() {
+    let mut random = Random(10);
+    let mut met: BTreeMap<&str, usize> = BTreeMap::new();
+    for round in 0..20_000 {
+        let sheet = match round % 2 {
+            0 => generate::class_sheet(&mut random),
+            _ => generate::damaged_class_sheet(&mut random),
+        };
+        let taken = classes::take_in(&sheet);
+        assert!(round % 2 == 1 || taken.is_ok());
+        assert!(sheet.len() <= classes::MAX_SHEET_BYTES + 9);
+        kinds(&sheet, &taken).into_iter().for_each(|kind| *met.entry(kind).or_default() += 1);
+    }
+    println!("{met:#?}");
+    assert_eq!(met.len(), 40);
+    assert!(met.values().all(|&times| times >= 20));
+}
+
+/// What holds of a class sheet.
+fn kinds(sheet: &[u8], taken: &Result<Classes, Refusal>) -> Vec<&'static str> {
+    let text = String::from_utf8_lossy(sheet);
+    let lines: Vec<&str> = text.strip_suffix("\r\n").unwrap_or(&text).split("\r\n").collect();
+    let records: Vec<(u8, u8, u8)> = lines.iter().filter_map(|line| numbers(line)).collect();
+    let mut times = [0; 256];
+    for &(low, high, _) in &records {
+        (low..=high).for_each(|byte| times[byte as usize] += 1);
+    }
+    let fields = |count: usize| lines.iter().any(|line| line.split(',').count() == count);
+    let field_of = |digits: usize| lines.iter().any(|line| line.split(',').nth(1).is_some_and(|f| f.len() == digits));
+    let range = |fits: &dyn Fn(u8, u8, u8) -> bool| {
+        RESERVED.iter().any(|&byte| records.iter().any(|&(low, high, _)| fits(low, high, byte)))
+    };
+    let upside_down = records.iter().any(|(low, high, _)| low > high);
+    let repeated = (1..records.len()).any(|at| records[..at].contains(&records[at]));
+    let twice = times.iter().filter(|&&times| times > 1).count();
+    let reserved = range(&|low, high, byte| (low..=high).contains(&byte));
+    let holds: &[(&str, bool)] = match taken {
+        Ok(classes) => {
+            let letters = 256 - classes.bytes(None).len();
+            let ascending = records.is_sorted();
+            let neighbours = records.windows(2).any(|two| two[0].1.checked_add(1) == Some(two[1].0));
+            let gap = records.windows(2).any(|two| two[0].1 < two[1].0 && two[1].0 - two[0].1 > 1);
+            &[
+                ("accepted", true),
+                ("one record", records.len() == 1),
+                ("single letters", records.len() > 5 && letters == records.len()),
+                ("ranges", records.len() > 1 && records.iter().all(|(low, high, _)| low < high)),
+                ("neighbours", neighbours),
+                ("apart", gap),
+                ("in another order", !ascending),
+                ("all letters, one record each", records.len() == 251),
+                ("all letters, five records", letters == 251 && records.len() == 5),
+                ("symbol F", records.iter().any(|record| record.2 == 15)),
+                ("no last line end", !sheet.ends_with(b"\r\n")),
+                ("Turkish letters", *classes == *TURKISH),
+            ]
+        }
+        Err(Refusal::SheetSize) => &[("0 bytes", sheet.is_empty()), ("4,097 bytes", sheet.len() == 4_097)],
+        Err(Refusal::ClassRecord) => &[
+            ("18, 4,096 bytes", sheet.len() == 4_096),
+            ("18, lower-case digit", sheet.iter().any(|byte| (b'a'..=b'f').contains(byte))),
+            ("18, LF alone", text.replace("\r\n", "").contains('\n')),
+            ("18, CR alone", text.replace("\r\n", "").contains('\r')),
+            ("18, other byte", text.contains([';', ' ', '"', 'G', '\0'])),
+            ("18, two fields", fields(2)),
+            ("18, four fields", fields(4)),
+            ("18, empty field", field_of(0)),
+            ("18, one digit", field_of(1)),
+            ("18, three digits", field_of(3)),
+            ("18, blank line", lines.len() > 1 && lines[..lines.len() - 1].contains(&"")),
+            ("18, blank line at the end", lines.len() > 1 && lines.ends_with(&[""])),
+            ("18, B7 or a bracket alone", range(&|low, high, byte| low == byte && high == byte)),
+            ("18, lowest", range(&|low, high, byte| low == byte && high > byte)),
+            ("18, highest", range(&|low, high, byte| low < byte && high == byte)),
+            ("18, inside", range(&|low, high, byte| low < byte && high > byte)),
+            ("18 and 19", upside_down),
+            ("18 and 20", twice > 0),
+            ("18 for B7 or a bracket, 19 and 20", reserved && upside_down && twice > 0),
+        ],
+        Err(Refusal::ClassRange) => &[
+            ("19", twice == 0),
+            ("19 over B7 or a bracket", range(&|low, high, byte| high <= byte && byte <= low)),
+            ("19 and 20", twice > 0),
+            ("19, 4,095 bytes", sheet.len() == 4_095),
+        ],
+        Err(_) => {
+            &[("20 by one byte", twice == 1), ("20 by several", twice > 1), ("20, the same record twice", repeated)]
+        }
+    };
+    holds.iter().filter(|(_, holds)| *holds).map(|(kind, _)| *kind).collect()
+}
+
+/// Classes that splitting is given: those of Turkish, others, and such as no sheet gives, for each cause.
+#[test]
+fn classes_of_every_kind() {
+    let mut random = Random(11);
+    let mut met = [0; 7];
+    for _ in 0..10_000 {
+        let classes = generate::classes(&mut random);
+        assert_eq!(Classes::given(&classes.entries()).as_ref(), Some(&classes));
+        let entries = generate::class_entries(&mut random, &classes);
+        let is_letter = |&entry: &u8| entry < OTHER;
+        let holds = [
+            entries == TURKISH.entries(),
+            entries != TURKISH.entries() && Classes::given(&entries).is_some(),
+            entries.contains(&(OTHER + 1)),
+            entries.contains(&u8::MAX),
+            entries.iter().any(|&entry| entry > OTHER + 1 && entry < u8::MAX),
+            RESERVED.iter().any(|&byte| is_letter(&entries[byte as usize])),
+            !entries.iter().any(is_letter),
+        ];
+        met.iter_mut().zip(holds).for_each(|(met, holds)| *met += usize::from(holds));
+    }
+    println!("{met:?}");
+    assert!(met.iter().all(|&times| times >= 100), "{met:?}");
 }

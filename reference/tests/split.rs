@@ -1,13 +1,16 @@
-//! Texts split into syllables: the words that Gönenç prints, every byte, and
-//! agreement with brute force.
+//! Texts split into syllables: the words that Gönenç prints, every byte, other
+//! classes than those of Turkish, and agreement with brute force.
 
 use reference::bans::{self, Ban};
 use reference::brute::readings;
-use reference::cases::{banned, turkish_six, AMBIGUOUS_WORDS, SPLIT_WORDS, UNREAD_WORDS};
+use reference::cases::{
+    banned, turkish_six, turkish_six_with_r, AMBIGUOUS_WORDS, SPLIT_WORDS, TURKISH_CLASSES, UNREAD_WORDS,
+};
+use reference::classes::{self, Classes, Entries, OTHER, RESERVED};
 use reference::code::{Code, Refusal};
 use reference::copies::{enlarge, without_copies};
 use reference::generate;
-use reference::letters::{bytes, capital, Classes, CONSONANTS, TURKISH, VOWELS};
+use reference::letters::{bytes, capital, with_r_apart, CONSONANTS, TURKISH, VOWELS};
 use reference::operations::{Buffers, Operations, Reference};
 use reference::print;
 use reference::random::Random;
@@ -193,6 +196,11 @@ fn records_of_words() {
 
 /// What splitting is by its definition: words by the lists of letters above, readings by brute force.
 fn by_hand(code: &Code, bans: &[Ban], text: &[u8]) -> Vec<u8> {
+    by_symbols(code, bans, symbol, text)
+}
+
+/// The same with letters of any kind.
+fn by_symbols(code: &Code, bans: &[Ban], symbol: impl Fn(u8) -> Option<u8>, text: &[u8]) -> Vec<u8> {
     let mut output = Vec::new();
     let mut at = 0;
     while at < text.len() {
@@ -258,7 +266,7 @@ fn texts_agree_with_brute_force() {
         let (code, text) = (small_code(&mut random, 4), short_text(&mut random));
         let output = split(&code, &TURKISH, &text).unwrap();
         assert_eq!(output, by_hand(&code, &[], &text), "{code:?} {text:?}");
-        count(&mut met, &code, &text);
+        count(&mut met, &code, &TURKISH, &text);
     }
     println!("{} words split, {} without reading, {} with several", met[0], met[1], met[2]);
     assert!(met.iter().all(|&times| times > 500), "{met:?}");
@@ -276,20 +284,108 @@ fn texts_agree_with_brute_force_under_bans() {
         let output = split(&enlarged, &TURKISH, &text).unwrap();
         assert_eq!(output, by_hand(&code, &bans, &text), "{code:?} {bans:?} {text:?}");
         changed += usize::from(output != split(&code, &TURKISH, &text).unwrap());
-        count(&mut met, &enlarged, &text);
+        count(&mut met, &enlarged, &TURKISH, &text);
     }
     println!("{} words split, {} without reading, {} with several; bans change {changed}", met[0], met[1], met[2]);
     assert!(met.iter().all(|&times| times > 500) && changed > 200, "{met:?} {changed}");
 }
 
-fn count(met: &mut [usize; 3], code: &Code, text: &[u8]) {
-    for word in words(code, &TURKISH, text) {
+fn count(met: &mut [usize; 3], code: &Code, classes: &Classes, text: &[u8]) {
+    for word in words(code, classes, text) {
         met[match word.kind {
             Kind::Split(_) => 0,
             Kind::None => 1,
             Kind::Several => 2,
         }] += 1;
     }
+}
+
+/// By the classes of generated sheets.
+#[test]
+fn texts_agree_with_brute_force_by_other_classes() {
+    let mut random = Random(5);
+    let mut met = [0; 3];
+    for _ in 0..4_000 {
+        let sheet = generate::class_sheet(&mut random);
+        let classes = classes::take_in(&sheet).unwrap();
+        let code = small_code(&mut random, 8);
+        // Short words that the code may have, and bytes of any kind.
+        let mut text = Vec::new();
+        while text.len() < 20 {
+            let message: Vec<u8> = (0..random.below(7)).map(|_| random.below(3) as u8).collect();
+            text.extend(generate::spelled(&mut random, &classes, &message));
+            text.push(if random.one_in(2) { random.below(256) as u8 } else { *random.pick(&RESERVED) });
+        }
+        let symbol = |byte: u8| symbol_in(&sheet, byte);
+        // Brute force is for short words.
+        if text.split(|&byte| symbol(byte).is_none()).any(|word| word.len() > 8) {
+            continue;
+        }
+        let output = split(&code, &classes, &text).unwrap();
+        assert_eq!(output, by_symbols(&code, &[], symbol, &text), "{code:?} {text:?}");
+        count(&mut met, &code, &classes, &text);
+    }
+    println!("{} words split, {} without reading, {} with several", met[0], met[1], met[2]);
+    assert!(met.iter().all(|&times| times > 500), "{met:?}");
+}
+
+/// The symbol that an accepted class sheet gives a byte: that of the record that takes it in.
+fn symbol_in(sheet: &[u8], byte: u8) -> Option<u8> {
+    let number = |field: &str| u8::from_str_radix(field, 16).unwrap();
+    std::str::from_utf8(sheet).unwrap().lines().find_map(|line| {
+        let fields: Vec<u8> = line.split(',').map(number).collect();
+        (fields[0] <= byte && byte <= fields[1]).then_some(fields[2])
+    })
+}
+
+/// The sheet of the Turkish letters gives what the built-in letters give.
+#[test]
+fn the_turkish_sheet_splits_as_the_built_in_letters() {
+    let mut random = Random(6);
+    let classes = classes::of(TURKISH_CLASSES);
+    let sheet = TURKISH_CLASSES.replace(' ', "\r\n").into_bytes();
+    for _ in 0..1_000 {
+        let code = generate::code(&mut random);
+        let text = generate::text(&mut random, &code, &TURKISH);
+        assert_eq!(split(&code, &classes, &text), split(&code, &TURKISH, &text));
+    }
+    let words = bytes(&[SPLIT_WORDS, AMBIGUOUS_WORDS, UNREAD_WORDS].join(" ").replace('·', ""));
+    assert_eq!(print::split(None, Some(&sheet), &words), print::split(None, None, &words));
+}
+
+/// Where each type has its forms with r, telling r from the other consonants changes nothing. By the types without r a word with r
+/// has no reading.
+#[test]
+fn r_told_apart() {
+    let (six, with_r) = (turkish_six(), turkish_six_with_r());
+    assert_eq!((with_r.words.len(), with_r.symbols()), (21, 65));
+    let mut random = Random(7);
+    for _ in 0..1_000 {
+        let text = generate::text(&mut random, &six, &TURKISH);
+        assert_eq!(split(&with_r, &with_r_apart(), &text), split(&six, &TURKISH, &text));
+    }
+    let text = bytes("kongre KARA baba");
+    assert_eq!(split(&with_r, &with_r_apart(), &text).unwrap(), bytes("kong·re KA·RA ba·ba"));
+    assert_eq!(split(&six, &with_r_apart(), &text).unwrap(), bytes("(kongre) (KARA) ba·ba"));
+}
+
+/// He reads kongre in two ways by the letters, and in one where r may stand second: CV, CVC, and both with r after the first consonant.
+#[test]
+fn r_settles_a_word() {
+    let code = Code::free(&["10", "101", "120", "1201", "20", "201"]);
+    let classes = with_r_apart();
+    let made = |text: &str| split(&code, &classes, &bytes(text)).unwrap();
+    assert_eq!(made("kongre, kontrol, kara"), bytes("kon·gre, kon·trol, ka·ra"));
+    assert_eq!(made("matris; strateji"), bytes("[matris]; (strateji)"));
+}
+
+/// Any byte but the five may be a letter, also a digit, a line end or NUL.
+#[test]
+fn digits_as_letters() {
+    let classes = classes::of("30,31,0 32,39,1 0D,0D,0 0A,0A,1 00,00,0");
+    let made = |text: &[u8]| split(&turkish::code(), &classes, text).unwrap();
+    assert_eq!(made(b"2021 baba"), b"20\xB721 baba");
+    assert_eq!(made(b"29(2)\r\n\0"), b"(29)((2))\r\xB7\n\0");
 }
 
 /// After 0 and 1 come neither 0 nor 010: of the two readings of aba one is left.
@@ -317,11 +413,15 @@ fn nothing_is_lost() {
     let mut random = Random(3);
     for _ in 0..3_000 {
         let code = if random.one_in(2) { generate::code(&mut random) } else { generate::enlarged_code(&mut random) };
-        let text = generate::text(&mut random, &code);
-        let Ok(output) = split(&code, &TURKISH, &text) else { continue };
+        let classes = generate::classes(&mut random);
+        let text = generate::text(&mut random, &code, &classes);
+        let Ok(output) = split(&code, &classes, &text) else { continue };
         let added = [DOT, b'(', b')', b'[', b']'];
         let kept = |text: &[u8]| text.iter().copied().filter(|byte| !added.contains(byte)).collect::<Vec<u8>>();
         assert_eq!(kept(&output), kept(&text));
+        let letters =
+            |text: &[u8]| text.iter().copied().filter(|&byte| classes.symbol(byte).is_some()).collect::<Vec<u8>>();
+        assert_eq!(letters(&output), letters(&text));
         assert!(output.len() <= 2 * text.len() + 1);
     }
 }
@@ -348,7 +448,10 @@ fn lent_buffers() {
             let mut left = output.clone();
             let expected = bytes(expected);
             left[..expected.len()].copy_from_slice(&expected);
-            assert_eq!(Reference.split(&table, &text, &mut output, &mut buffers), Ok(expected.len()));
+            assert_eq!(
+                Reference.split(&table, &TURKISH.entries(), &text, &mut output, &mut buffers),
+                Ok(expected.len())
+            );
             assert_eq!(output, left);
             let Buffers { message, first, second, working } = buffers;
             assert!([message, first, second].iter().flatten().all(|&entry| entry == 0));
@@ -357,32 +460,47 @@ fn lent_buffers() {
     }
 }
 
-/// Refusals by their order: the table, then the text, then the buffers. Nothing changes.
+/// Classes that no sheet gives: an entry above 16, a letter on a byte that is never one, no letter.
+fn no_classes() -> Vec<Entries> {
+    let changed = |at: u8, entry: u8| {
+        let mut entries = TURKISH.entries();
+        entries[at as usize] = entry;
+        entries
+    };
+    let mut all = vec![changed(b' ', 17), changed(0xFF, 255), changed(b'a', 16 + 16), changed(DOT, 17), [OTHER; 256]];
+    all.extend(RESERVED.map(|byte| changed(byte, 0)));
+    all.extend(RESERVED.map(|byte| changed(byte, 15)));
+    all
+}
+
+/// Refusals by their order: the table or the classes, then the text, then the buffers. Nothing changes.
 #[test]
 fn refusals() {
-    let table = Reference.turkish();
+    let (table, letters) = (Reference.turkish(), Reference.turkish_classes());
     let none = Table { count: 0, ..table.clone() };
     let mut copy_begins = Table::of(&enlarge(&turkish::code(), &bans::of("0,0,1")).unwrap());
     copy_begins.starts[12] = 1;
     let (long, too_long) = (vec![b'a'; MAX_TEXT_BYTES], vec![b' '; MAX_TEXT_BYTES + 1]);
-    let refused = |table: &Table, text: &[u8], room: &[u8]| {
+    let refused = |table: &Table, classes: &Entries, text: &[u8], room: &[u8]| {
         let (mut output, mut buffers) = lent(room);
         let before = (output.clone(), buffers.clone());
-        let answer = Reference.split(table, text, &mut output, &mut buffers);
+        let answer = Reference.split(table, classes, text, &mut output, &mut buffers);
         assert_eq!((output, buffers), before);
         answer.unwrap_err()
     };
-    for none in [&none, &copy_begins, &Table::BLANK] {
+    let mut unfit: Vec<(&Table, Entries)> = [&none, &copy_begins, &Table::BLANK].map(|none| (none, letters)).to_vec();
+    unfit.extend(no_classes().into_iter().flat_map(|classes| [(&table, classes), (&none, classes)]));
+    for (table, classes) in unfit {
         for text in [&b""[..], b"baba", &too_long] {
-            assert_eq!(refused(none, text, text), Refusal::NotFromSheet);
-            assert_eq!(refused(none, text, b""), Refusal::NotFromSheet);
+            assert_eq!(refused(table, &classes, text, text), Refusal::NotFromSheet);
+            assert_eq!(refused(table, &classes, text, b""), Refusal::NotFromSheet);
         }
     }
-    assert_eq!(refused(&table, &too_long, &too_long), Refusal::MessageTooLong);
-    assert_eq!(refused(&table, &too_long, b""), Refusal::MessageTooLong);
-    assert_eq!(refused(&table, &long, &long[1..]), Refusal::BufferTooShort);
+    assert_eq!(refused(&table, &letters, &too_long, &too_long), Refusal::MessageTooLong);
+    assert_eq!(refused(&table, &letters, &too_long, b""), Refusal::MessageTooLong);
+    assert_eq!(refused(&table, &letters, &long, &long[1..]), Refusal::BufferTooShort);
     let (mut output, mut buffers) = lent(&long);
-    assert_eq!(Reference.split(&table, &long, &mut output, &mut buffers), Ok(2 * MAX_TEXT_BYTES - 1));
+    assert_eq!(Reference.split(&table, &letters, &long, &mut output, &mut buffers), Ok(2 * MAX_TEXT_BYTES - 1));
 }
 
 /// Each buffer one entry too short by itself.
@@ -400,7 +518,10 @@ fn short_buffers() {
                 _ => drop(buffers.working.pop()),
             }
             let before = (output.clone(), buffers.clone());
-            assert_eq!(Reference.split(&table, text, &mut output, &mut buffers), Err(Refusal::BufferTooShort));
+            assert_eq!(
+                Reference.split(&table, &TURKISH.entries(), text, &mut output, &mut buffers),
+                Err(Refusal::BufferTooShort)
+            );
             assert_eq!((output, buffers), before, "{short}");
         }
     }
@@ -409,22 +530,38 @@ fn short_buffers() {
         let (mut lent_output, mut buffers) = lent(b"");
         lent_output.truncate(output);
         buffers.working.truncate(working);
-        assert_eq!(Reference.split(&table, b"", &mut lent_output, &mut buffers), Err(Refusal::BufferTooShort));
+        let answer = Reference.split(&table, &TURKISH.entries(), b"", &mut lent_output, &mut buffers);
+        assert_eq!(answer, Err(Refusal::BufferTooShort));
     }
 }
 
-/// What the program prints: with a sheet and without one, and the sheet's refusal before the text's.
+/// What the program prints: with sheets and without, and the code sheet's refusal before that of the class sheet, which comes
+/// before the text's.
 #[test]
 fn printed_texts() {
     let text = bytes("kraliçe kongre\r\n");
     let too_long = vec![b'a'; MAX_TEXT_BYTES + 1];
-    assert_eq!(print::split(None, &text), bytes("kra·li·çe [kongre]\r\n"));
-    assert_eq!(print::split(Some(&write(&turkish_six())), &text), bytes("(kraliçe) kong·re\r\n"));
-    assert_eq!(print::split(None, &too_long), b"refused,11\r\n");
-    assert_eq!(print::split(Some(&write(&turkish_six())), &too_long), b"refused,11\r\n");
-    assert_eq!(print::split(Some(b""), &too_long), b"refused,1\r\n");
-    assert_eq!(print::split(Some(b"0,2\r\n"), &text), b"refused,7\r\n");
-    assert_eq!(print::split(None, b""), b"");
+    let six = write(&turkish_six());
+    assert_eq!(print::split(None, None, &text), bytes("kra·li·çe [kongre]\r\n"));
+    assert_eq!(print::split(Some(&six), None, &text), bytes("(kraliçe) kong·re\r\n"));
+    assert_eq!(print::split(None, None, &too_long), b"refused,11\r\n");
+    assert_eq!(print::split(Some(&six), None, &too_long), b"refused,11\r\n");
+    assert_eq!(print::split(Some(b""), None, &too_long), b"refused,1\r\n");
+    assert_eq!(print::split(Some(b"0,2\r\n"), None, &text), b"refused,7\r\n");
+    assert_eq!(print::split(None, None, b""), b"");
+    let ascii = b"61,61,0\r\n65,65,0\r\n69,69,0\r\n6F,6F,0\r\n6B,6E,1\r\n72,72,1\r\n";
+    assert_eq!(print::split(Some(&six), Some(ascii), &text), bytes("(krali)çe kongre\r\n"));
+    assert_eq!(print::split(Some(&six), Some(ascii), &too_long), b"refused,11\r\n");
+    for (classes, refused) in [
+        (&b""[..], &b"refused,1\r\n"[..]),
+        (b"61,61", b"refused,18\r\n"),
+        (b"62,61,0", b"refused,19\r\n"),
+        (b"61,61,0\r\n61,61,0", b"refused,20\r\n"),
+    ] {
+        assert_eq!(print::split(Some(&six), Some(classes), &text), refused);
+        assert_eq!(print::split(Some(&six), Some(classes), &too_long), refused);
+        assert_eq!(print::split(Some(b"0,2\r\n"), Some(classes), &too_long), b"refused,7\r\n");
+    }
 }
 
 /// The codes with ban lists that are stored: brute force looks the bans up.

@@ -1,6 +1,7 @@
 /* Code U from a sheet in memory: its verdict, the only reading of a message, the message again from the reading, a sequence that is
- * refused, and the empty message. Then the same code with a ban on 0 after 01 and 10: its verdict, and what the ban forbids. Last the
- * built-in code of the twelve Turkish types: its verdict, with the message and both readings, and words that it splits. Prints what
+ * refused, and the empty message. Then the same code with a ban on 0 after 01 and 10: its verdict, and what the ban forbids. Then the
+ * built-in code of the twelve Turkish types: its verdict, with the message and both readings, and words that it splits. Last a class
+ * sheet that tells r from the other consonants, words split by it, and a class sheet that is refused. Prints what
  * examples/operations.rs prints. */
 #include "furlazon.h"
 
@@ -11,8 +12,18 @@ static const char sheet[] = "0,1,1,0,0\r\n10,1,1,1,1\r\n01,1,1,0,0\r\n101,1,1,1,
 static const char bans[] = "0,2,1\r\n";
 /* One reading, several, none. The E7 of ISO 8859-9 is a c with cedilla. */
 static const char text[] = "krali\xE7" "e, kongre, bb";
+/* Vowels are symbol 0, r is 2 and the other consonants are 1: small letters of ASCII only. */
+static const char class_sheet[] = "61,61,0\r\n65,65,0\r\n69,69,0\r\n6F,6F,0\r\n75,75,0\r\n72,72,2\r\n"
+                                  "62,64,1\r\n66,68,1\r\n6A,6E,1\r\n70,70,1\r\n73,74,1\r\n76,76,1\r\n79,7A,1\r\n";
+/* The small e is in two records. */
+static const char overlapping[] = "61,7A,1\r\n65,65,0\r\n";
+/* Syllables in which r may come first, or second after another consonant. */
+static const char syllables[] = "10,1,1,1,1,1,1\r\n101,1,1,1,1,1,1\r\n120,1,1,1,1,1,1\r\n"
+                                "1201,1,1,1,1,1,1\r\n20,1,1,1,1,1,1\r\n201,1,1,1,1,1,1\r\n";
+static const char other_text[] = "kongre, matris, bb";
 static uint8_t table[FURLAZON_TABLE_BYTES];
 static uint8_t enlarged[FURLAZON_TABLE_BYTES];
+static uint8_t classes[FURLAZON_CLASSES_BYTES];
 static uint8_t message[FURLAZON_VERDICT_ENTRIES];
 static uint8_t out[2 * (sizeof text - 1) + 1];
 static uint8_t first[FURLAZON_VERDICT_ENTRIES];
@@ -105,10 +116,31 @@ int main(void) {
     printf("its second reading");
     print_entries("words", second, answer[3]);
 
-    refused = furlazon_split(table, sizeof table, (const uint8_t *)text, sizeof text - 1, out, sizeof out, message, sizeof message, first,
-                             sizeof first, second, sizeof second, work, FURLAZON_VERDICT_WORK, answer, FURLAZON_ANSWER_ENTRIES);
+    if (furlazon_turkish_classes(classes, sizeof classes) != 0) {
+        return 1;
+    }
+    refused = furlazon_split(table, sizeof table, classes, sizeof classes, (const uint8_t *)text, sizeof text - 1, out, sizeof out,
+                             message, sizeof message, first, sizeof first, second, sizeof second, work, FURLAZON_VERDICT_WORK, answer,
+                             FURLAZON_ANSWER_ENTRIES);
     print_answer("text split by the Turkish types", refused);
     printf(": ");
     print_text(out, answer[0]);
+
+    refused = furlazon_take_classes((const uint8_t *)class_sheet, sizeof class_sheet - 1, classes, sizeof classes);
+    printf("class sheet: refusal %" PRIu64, refused);
+    const uint8_t letters[] = {classes['a'], classes['r'], classes['t'], classes['.']};
+    print_entries("classes of a, r, t and .", letters, sizeof letters);
+    if (furlazon_take_in((const uint8_t *)syllables, sizeof syllables - 1, table, sizeof table) != 0) {
+        return 1;
+    }
+    refused = furlazon_split(table, sizeof table, classes, sizeof classes, (const uint8_t *)other_text, sizeof other_text - 1, out,
+                             sizeof out, message, sizeof message, first, sizeof first, second, sizeof second, work,
+                             FURLAZON_VERDICT_WORK, answer, FURLAZON_ANSWER_ENTRIES);
+    print_answer("text split by three classes", refused);
+    printf(": ");
+    print_text(out, answer[0]);
+
+    refused = furlazon_take_classes((const uint8_t *)overlapping, sizeof overlapping - 1, classes, sizeof classes);
+    printf("class sheet with e in two records: %s\n", refused == FURLAZON_REFUSED_CLASS_OVERLAP ? "refused" : "not refused for that");
     return 0;
 }

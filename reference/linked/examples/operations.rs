@@ -1,11 +1,13 @@
 //! Code U from a sheet in memory: its verdict, the only reading of a message,
 //! the message again from the reading, a sequence that is refused, and the
 //! empty message. Then the same code with a ban on 0 after 01 and 10: its
-//! verdict, and what the ban forbids. Last the built-in code of the twelve
+//! verdict, and what the ban forbids. Then the built-in code of the twelve
 //! Turkish types: its verdict, with the message and both readings, and words
-//! that it splits. Prints what `operations.c` prints.
+//! that it splits. Last a class sheet that tells r from the other consonants,
+//! words split by it, and a class sheet that is refused. Prints what
+//! `operations.c` prints.
 
-use furlazon::{ANSWER_ENTRIES, TABLE_BYTES};
+use furlazon::{ANSWER_ENTRIES, CLASSES_BYTES, TABLE_BYTES};
 use reference::code::Refusal;
 use reference::operations::{VERDICT_ENTRIES, VERDICT_WORKING};
 
@@ -58,10 +60,53 @@ fn main() {
 
     // One reading, several, none. The E7 of ISO 8859-9 is a c with cedilla.
     let text = b"krali\xE7e, kongre, bb";
+    let mut classes = [0; CLASSES_BYTES];
+    assert_eq!(furlazon::turkish_classes(&mut classes), 0);
     let mut out = vec![0; 2 * text.len() + 1];
-    let refused =
-        furlazon::split(&table, text, &mut out, &mut message, &mut first, &mut second, &mut work, &mut answer);
-    // Six letters of Turkish would need a case of their own: all others have their numbers in Unicode too.
-    let shown: String = out[..answer[0] as usize].iter().map(|&byte| byte as char).collect();
-    println!("text split by the Turkish types: refusal {refused}, answer {answer:?}: {shown}");
+    let refused = furlazon::split(
+        &table,
+        &classes,
+        text,
+        &mut out,
+        &mut message,
+        &mut first,
+        &mut second,
+        &mut work,
+        &mut answer,
+    );
+    println!("text split by the Turkish types: refusal {refused}, answer {answer:?}: {}", shown(&out, answer[0]));
+
+    // Vowels are symbol 0, r is 2 and the other consonants are 1: small letters of ASCII only.
+    let class_sheet = b"61,61,0\r\n65,65,0\r\n69,69,0\r\n6F,6F,0\r\n75,75,0\r\n72,72,2\r\n\
+        62,64,1\r\n66,68,1\r\n6A,6E,1\r\n70,70,1\r\n73,74,1\r\n76,76,1\r\n79,7A,1\r\n";
+    let refused = furlazon::take_classes(class_sheet, &mut classes);
+    let letters = [b'a', b'r', b't', b'.'].map(|byte| classes[byte as usize]);
+    println!("class sheet: refusal {refused}, classes of a, r, t and . {letters:?}");
+    // Syllables in which r may come first, or second after another consonant.
+    let sheet = b"10,1,1,1,1,1,1\r\n101,1,1,1,1,1,1\r\n120,1,1,1,1,1,1\r\n\
+        1201,1,1,1,1,1,1\r\n20,1,1,1,1,1,1\r\n201,1,1,1,1,1,1\r\n";
+    assert_eq!(furlazon::take_in(sheet, &mut table), 0);
+    let text = b"kongre, matris, bb";
+    let mut out = vec![0; 2 * text.len() + 1];
+    let refused = furlazon::split(
+        &table,
+        &classes,
+        text,
+        &mut out,
+        &mut message,
+        &mut first,
+        &mut second,
+        &mut work,
+        &mut answer,
+    );
+    println!("text split by three classes: refusal {refused}, answer {answer:?}: {}", shown(&out, answer[0]));
+
+    let refused = furlazon::take_classes(b"61,7A,1\r\n65,65,0\r\n", &mut classes);
+    let overlap = refused == u64::from(Refusal::ClassOverlap.number());
+    println!("class sheet with e in two records: {}", if overlap { "refused" } else { "not refused for that" });
+}
+
+/// The text at the start of a buffer. Six letters of Turkish would need a case of their own: all others have their numbers in Unicode too.
+fn shown(out: &[u8], length: u64) -> String {
+    out[..length as usize].iter().map(|&byte| byte as char).collect()
 }

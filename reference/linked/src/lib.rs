@@ -11,6 +11,8 @@ pub mod plain;
 
 /// Bytes of a table's image.
 pub const TABLE_BYTES: usize = 1_666;
+/// Entries of classes.
+pub const CLASSES_BYTES: usize = 256;
 /// Entries of an answer.
 pub const ANSWER_ENTRIES: usize = 4;
 
@@ -25,6 +27,8 @@ extern "C" {
         enlarged: *mut u8,
         enlarged_length: usize,
     ) -> u64;
+    fn furlazon_take_classes(sheet: *const u8, sheet_length: usize, classes: *mut u8, classes_length: usize) -> u64;
+    fn furlazon_turkish_classes(classes: *mut u8, classes_length: usize) -> u64;
     fn furlazon_encode(
         table: *const u8,
         table_length: usize,
@@ -52,6 +56,8 @@ extern "C" {
     fn furlazon_split(
         table: *const u8,
         table_length: usize,
+        classes: *const u8,
+        classes_length: usize,
         text: *const u8,
         text_length: usize,
         out: *mut u8,
@@ -103,6 +109,18 @@ pub fn enlarge(table: &[u8], bans: &[u8], enlarged: &mut [u8]) -> u64 {
     }
 }
 
+/// Takes in a class sheet and writes its classes. 0, or the refusal's number.
+pub fn take_classes(sheet: &[u8], classes: &mut [u8]) -> u64 {
+    // SAFETY: as above.
+    unsafe { furlazon_take_classes(sheet.as_ptr(), sheet.len(), classes.as_mut_ptr(), classes.len()) }
+}
+
+/// Writes the built-in classes of the Turkish letters. 0, or the refusal's number.
+pub fn turkish_classes(classes: &mut [u8]) -> u64 {
+    // SAFETY: as above.
+    unsafe { furlazon_turkish_classes(classes.as_mut_ptr(), classes.len()) }
+}
+
 /// Encodes a sequence of word numbers. 0, or the refusal's number.
 pub fn encode(table: &[u8], words: &[u8], message: &mut [u8], answer: &mut [u64]) -> u64 {
     // SAFETY: as above.
@@ -148,10 +166,11 @@ pub fn read(
     }
 }
 
-/// Splits the words of a text. 0, or the refusal's number.
+/// Splits the words of a text, whose letters the classes tell. 0, or the refusal's number.
 #[allow(clippy::too_many_arguments)]
 pub fn split(
     table: &[u8],
+    classes: &[u8],
     text: &[u8],
     out: &mut [u8],
     message: &mut [u8],
@@ -165,6 +184,8 @@ pub fn split(
         furlazon_split(
             table.as_ptr(),
             table.len(),
+            classes.as_ptr(),
+            classes.len(),
             text.as_ptr(),
             text.len(),
             out.as_mut_ptr(),

@@ -1,14 +1,15 @@
 //! The proved library behind the trait of the reference, so that both can be
 //! held against each other.
 
-use crate::{image, ANSWER_ENTRIES, TABLE_BYTES};
+use crate::{image, ANSWER_ENTRIES, CLASSES_BYTES, TABLE_BYTES};
+use reference::classes::{Entries, OTHER};
 use reference::code::Refusal;
 use reference::operations::{Buffers, Operations, ReadingLengths, VerdictLengths};
 use reference::table::Table;
 
 pub struct Linked;
 
-const REFUSALS: [Refusal; 17] = [
+const REFUSALS: [Refusal; 20] = [
     Refusal::SheetSize,
     Refusal::SheetByte,
     Refusal::TooManyRecords,
@@ -26,6 +27,9 @@ const REFUSALS: [Refusal; 17] = [
     Refusal::StartField,
     Refusal::WrongBan,
     Refusal::TooManyCopies,
+    Refusal::ClassRecord,
+    Refusal::ClassRange,
+    Refusal::ClassOverlap,
 ];
 
 /// The refusal with this number; none for 0.
@@ -63,6 +67,20 @@ fn table(call: impl FnOnce(&mut [u8]) -> u64) -> (Option<Refusal>, Table) {
     (refused, image::unpack(&image))
 }
 
+/// Runs a call that writes classes into a buffer longer than needed, whose
+/// last entries must be left as they were. A refusal leaves the whole of it as
+/// it was; the classes of the trait are then those without a letter.
+fn classes(call: impl FnOnce(&mut [u8]) -> u64) -> (Option<Refusal>, Entries) {
+    let mut buffer = [MARK as u8; CLASSES_BYTES + 2];
+    let refused = refusal(call(&mut buffer));
+    let (entries, rest) = buffer.split_first_chunk::<CLASSES_BYTES>().expect("more entries than needed");
+    assert_eq!(rest, [MARK as u8; 2], "entries changed past the classes, {refused:?}");
+    if refused.is_some() && *entries == [MARK as u8; CLASSES_BYTES] {
+        return (refused, [OTHER; CLASSES_BYTES]);
+    }
+    (refused, *entries)
+}
+
 impl Operations for Linked {
     fn take_in(&mut self, sheet: &[u8]) -> (Option<Refusal>, Table) {
         table(|image| crate::take_in(sheet, image))
@@ -78,6 +96,17 @@ impl Operations for Linked {
     fn enlarge(&mut self, words: &Table, list: &[u8]) -> (Option<Refusal>, Table) {
         let words = image::pack(words);
         table(|image| crate::enlarge(&words, list, image))
+    }
+
+    fn take_classes(&mut self, sheet: &[u8]) -> (Option<Refusal>, Entries) {
+        classes(|entries| crate::take_classes(sheet, entries))
+    }
+
+    fn turkish_classes(&mut self) -> Entries {
+        match classes(crate::turkish_classes) {
+            (None, entries) => entries,
+            other => panic!("not the built-in classes: {other:?}"),
+        }
     }
 
     fn encode(&mut self, table: &Table, sequence: &[u8], message: &mut [u8]) -> Result<usize, Refusal> {
@@ -101,13 +130,14 @@ impl Operations for Linked {
     fn split(
         &mut self,
         table: &Table,
+        classes: &Entries,
         text: &[u8],
         output: &mut [u8],
         buffers: &mut Buffers,
     ) -> Result<usize, Refusal> {
         let table = image::pack(table);
         let Buffers { message, first, second, working } = buffers;
-        match answer(|entries| crate::split(&table, text, output, message, first, second, working, entries))? {
+        match answer(|entries| crate::split(&table, classes, text, output, message, first, second, working, entries))? {
             [length, 0, 0, 0] => Ok(length),
             other => panic!("not the answer to a splitting: {other:?}"),
         }

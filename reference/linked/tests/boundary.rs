@@ -1,10 +1,13 @@
 //! What belongs to the boundary alone: the numbers of the header, the image of
 //! a table, that of the built-in code, a table too short to be read, an
 //! enlarged one too short to be written, and an answer too short to be told;
-//! and splitting with buffers of every length.
+//! classes with room for them and without; and splitting with buffers of every
+//! length.
 
 use furlazon::linked::refusal;
-use furlazon::{image, ANSWER_ENTRIES, TABLE_BYTES};
+use furlazon::{image, ANSWER_ENTRIES, CLASSES_BYTES, TABLE_BYTES};
+use reference::cases::{class_sheets, TURKISH_CLASSES};
+use reference::classes::{self, OTHER};
 use reference::code::{Code, Refusal};
 use reference::letters::bytes;
 use reference::operations::{Operations, Reference, VERDICT_ENTRIES, VERDICT_WORKING};
@@ -34,9 +37,12 @@ fn limits_of_the_header() {
         ("CODE_SYMBOLS", Code::MAX_SYMBOLS),
         ("SHEET_BYTES", Code::MAX_SHEET_BYTES),
         ("BANS_BYTES", Code::MAX_BANS_BYTES),
+        ("CLASS_SHEET_BYTES", classes::MAX_SHEET_BYTES),
         ("MESSAGE_SYMBOLS", Code::MAX_MESSAGE_SYMBOLS),
         ("TEXT_BYTES", MAX_TEXT_BYTES),
         ("TABLE_BYTES", TABLE_BYTES),
+        ("CLASSES_BYTES", CLASSES_BYTES),
+        ("OTHER", OTHER as usize),
         ("ANSWER_ENTRIES", ANSWER_ENTRIES),
         ("VERDICT_ENTRIES", VERDICT_ENTRIES),
         ("VERDICT_WORK", VERDICT_WORKING),
@@ -65,6 +71,9 @@ fn refusals_of_the_header() {
         ("START_FIELD", Refusal::StartField),
         ("BAN", Refusal::WrongBan),
         ("COPIES", Refusal::TooManyCopies),
+        ("CLASS_RECORD", Refusal::ClassRecord),
+        ("CLASS_RANGE", Refusal::ClassRange),
+        ("CLASS_OVERLAP", Refusal::ClassOverlap),
     ];
     for (name, refusal) in names {
         assert_eq!(defined(&format!("REFUSED_{name}")), u64::from(refusal.number()), "{name}");
@@ -208,6 +217,91 @@ fn short_images_of_enlarging() {
     }
 }
 
+/// Lengths of `classes`: none, too short by one, exact, and longer.
+const ROOMS: [usize; 6] = [0, 1, CLASSES_BYTES - 1, CLASSES_BYTES, CLASSES_BYTES + 1, 2 * CLASSES_BYTES];
+
+/// What a call that writes classes leaves in a buffer of this length, full of a mark before.
+fn classes_left(room: usize, entries: Option<&[u8; CLASSES_BYTES]>) -> Vec<u8> {
+    let mut left = vec![MARK; room];
+    if let Some(entries) = entries {
+        left[..CLASSES_BYTES].copy_from_slice(entries);
+    }
+    left
+}
+
+/// Class sheets with room for the classes and without. Of the sheet's refusal
+/// and that of the short buffer the lower is returned: 1 before 13, and 13
+/// before 18 to 20. A refusal changes nothing, and what follows the classes is
+/// as it was.
+#[test]
+fn room_for_classes() {
+    for (sheet, own) in class_sheets() {
+        for room in ROOMS {
+            let short = (room < CLASSES_BYTES).then_some(Refusal::BufferTooShort);
+            let expected = own.into_iter().chain(short).min();
+            let mut buffer = vec![MARK; room];
+            let refused = refusal(furlazon::take_classes(&sheet, &mut buffer));
+            assert_eq!(refused, expected, "room of {room}, sheet {:?}", String::from_utf8_lossy(&sheet));
+            let entries = Reference.take_classes(&sheet).1;
+            assert!(buffer == classes_left(room, expected.is_none().then_some(&entries)), "room of {room}");
+        }
+    }
+}
+
+/// The order of the refusals by their numbers, with a buffer of 255 entries and one of 256.
+#[test]
+fn short_classes_between_the_refusals_of_a_sheet() {
+    let cases: [(&[u8], u64, u64); 6] = [
+        (b"", 1, 1),
+        (&[b'0'; 4_097], 1, 1),
+        (b"61,61,0", 13, 0),
+        (b"61,61,0\r\n28,28,0\r\n", 13, 18),
+        (b"62,61,0", 13, 19),
+        (b"61,61,0\r\n61,61,0", 13, 20),
+    ];
+    for (sheet, short, exact) in cases {
+        let mut buffer = [MARK; CLASSES_BYTES];
+        assert_eq!(furlazon::take_classes(sheet, &mut buffer[..CLASSES_BYTES - 1]), short);
+        assert_eq!(buffer, [MARK; CLASSES_BYTES]);
+        assert_eq!(furlazon::take_classes(sheet, &mut buffer), exact);
+        assert_eq!(buffer == [MARK; CLASSES_BYTES], exact != 0);
+    }
+}
+
+/// Where the entries stand: one for each byte, its symbol or 16.
+#[test]
+fn places_of_classes() {
+    let mut buffer = [MARK; CLASSES_BYTES + 1];
+    assert_eq!(furlazon::take_classes(b"FD,FF,F\r\n00,00,A\r\n61,62,0", &mut buffer), 0);
+    let mut expected = [OTHER; CLASSES_BYTES + 1];
+    expected[0xFD..=0xFF].fill(15);
+    expected[0] = 10;
+    expected[0x61..=0x62].fill(0);
+    expected[CLASSES_BYTES] = MARK;
+    assert_eq!(buffer, expected);
+}
+
+/// The built-in classes, with room for them and without; the sheet of the Turkish letters gives the same.
+#[test]
+fn room_for_the_turkish_letters() {
+    let entries = Reference.turkish_classes();
+    for room in ROOMS {
+        let short = (room < CLASSES_BYTES).then_some(Refusal::BufferTooShort);
+        let mut buffer = vec![MARK; room];
+        assert_eq!(refusal(furlazon::turkish_classes(&mut buffer)), short, "room of {room}");
+        assert_eq!(buffer, classes_left(room, short.is_none().then_some(&entries)), "room of {room}");
+    }
+    let mut taken = [MARK; CLASSES_BYTES];
+    assert_eq!(furlazon::take_classes(TURKISH_CLASSES.replace(' ', "\r\n").as_bytes(), &mut taken), 0);
+    assert_eq!(taken, entries);
+}
+
+fn turkish_classes() -> [u8; CLASSES_BYTES] {
+    let mut classes = [MARK; CLASSES_BYTES];
+    assert_eq!(furlazon::turkish_classes(&mut classes), 0);
+    classes
+}
+
 fn tables() -> (Vec<u8>, Vec<u8>) {
     let mut table = vec![0; TABLE_BYTES];
     assert_eq!(furlazon::take_in(SHEET, &mut table), 0);
@@ -216,11 +310,15 @@ fn tables() -> (Vec<u8>, Vec<u8>) {
     (table, none)
 }
 
+/// A table's image, classes and a text, and the refusal of splitting.
+type Splitting<'a> = (&'a [u8], &'a [u8], &'a [u8], Refusal);
+
 /// Refusals of each operation with answers of every length that is too short,
 /// with buffers that are long enough and with none; nothing may change.
 #[test]
 fn short_answers() {
     let (table, none) = tables();
+    let (letters, no_letters) = (turkish_classes(), [OTHER; CLASSES_BYTES]);
     let long: Vec<u8> = [1].repeat(Code::MAX_MESSAGE_SYMBOLS);
     let too_long = [long.as_slice(), &[1]].concat();
     for entries in 0..ANSWER_ENTRIES {
@@ -254,18 +352,23 @@ fn short_answers() {
                 let refused = furlazon::read(table, symbols, &mut first, &mut second, &mut work, &mut answer);
                 assert_eq!(refusal(refused), Some(expected), "reading with {entries} entries");
             }
-            let splittings: [(&[u8], &[u8], Refusal); 6] = [
-                (&none, b"a", Refusal::NotFromSheet),
-                (&none, &too_long, Refusal::NotFromSheet),
-                (&table, &too_long, Refusal::MessageTooLong),
-                (&table, b"a", Refusal::BufferTooShort),
-                (&table, b"", Refusal::BufferTooShort),
-                (&table[..TABLE_BYTES - 1], &too_long, Refusal::BufferTooShort),
+            let splittings: [Splitting; 10] = [
+                (&none, &letters, b"a", Refusal::NotFromSheet),
+                (&none, &letters, &too_long, Refusal::NotFromSheet),
+                (&table, &no_letters, b"a", Refusal::NotFromSheet),
+                (&table, &no_letters, &too_long, Refusal::NotFromSheet),
+                (&table, &letters, &too_long, Refusal::MessageTooLong),
+                (&table, &letters, b"a", Refusal::BufferTooShort),
+                (&table, &letters, b"", Refusal::BufferTooShort),
+                (&table[..TABLE_BYTES - 1], &letters, &too_long, Refusal::BufferTooShort),
+                (&table, &letters[1..], &too_long, Refusal::BufferTooShort),
+                (&none, &no_letters[1..], b"a", Refusal::BufferTooShort),
             ];
             let mut out = vec![MARK; room];
-            for (table, text, expected) in splittings {
+            for (table, classes, text, expected) in splittings {
                 let refused = furlazon::split(
                     table,
+                    classes,
                     text,
                     &mut out,
                     &mut message,
@@ -320,9 +423,9 @@ impl Lent {
         }
     }
 
-    fn split(&mut self, table: &[u8], text: &[u8]) -> Option<Refusal> {
+    fn split(&mut self, table: &[u8], classes: &[u8], text: &[u8]) -> Option<Refusal> {
         let [out, message, first, second] = &mut self.bytes;
-        refusal(furlazon::split(table, text, out, message, first, second, &mut self.work, &mut self.answer))
+        refusal(furlazon::split(table, classes, text, out, message, first, second, &mut self.work, &mut self.answer))
     }
 
     /// What a splitting with this output leaves.
@@ -349,18 +452,22 @@ const TEXTS: [(&str, &str); 9] = [
     ("ığdır İĞDIR taxi", "ığ·dır İĞ·DIR taxi"),
 ];
 
-/// With buffers of the lengths that are needed and longer ones, the output, and zero in each of the other buffers whole.
+/// With buffers of the lengths that are needed and longer ones, the output, and zero in each of the other buffers whole. Of a longer
+/// image and of longer classes only the start is read.
 #[test]
 fn texts_are_split() {
-    let mut table = [0; TABLE_BYTES + 1];
+    let mut table = [MARK; TABLE_BYTES + 1];
     assert_eq!(furlazon::turkish(&mut table), 0);
+    let mut classes = [MARK; CLASSES_BYTES + 1];
+    assert_eq!(furlazon::turkish_classes(&mut classes), 0);
     for (text, expected) in TEXTS {
         let (text, expected) = (bytes(text), bytes(expected));
         for more in [0, 1, 20] {
-            for room in [TABLE_BYTES, TABLE_BYTES + 1] {
+            for longer in [0, 1] {
                 let mut lent = Lent::new(text.len(), more);
                 let after = lent.clone().after(&expected);
-                assert_eq!(lent.split(&table[..room], &text), None);
+                let (table, classes) = (&table[..TABLE_BYTES + longer], &classes[..CLASSES_BYTES + longer]);
+                assert_eq!(lent.split(table, classes, &text), None);
                 assert_eq!(lent, after, "{more} entries more");
             }
         }
@@ -372,6 +479,7 @@ fn texts_are_split() {
 fn short_buffers_of_splitting() {
     let mut table = [0; TABLE_BYTES];
     assert_eq!(furlazon::turkish(&mut table), 0);
+    let classes = turkish_classes();
     for (text, _) in TEXTS {
         let text = bytes(text);
         for buffer in 0..6 {
@@ -380,17 +488,17 @@ fn short_buffers_of_splitting() {
                 continue;
             }
             let before = lent.clone();
-            assert_eq!(lent.split(&table, &text), Some(Refusal::BufferTooShort), "buffer {buffer}");
+            assert_eq!(lent.split(&table, &classes, &text), Some(Refusal::BufferTooShort), "buffer {buffer}");
             assert_eq!(lent, before, "buffer {buffer}");
         }
         let mut none = Lent { bytes: [(); 4].map(|()| Vec::new()), work: Vec::new(), answer: Vec::new() };
-        assert_eq!(none.split(&table, &text), Some(Refusal::BufferTooShort));
+        assert_eq!(none.split(&table, &classes, &text), Some(Refusal::BufferTooShort));
     }
 }
 
-/// Refusal 8 comes before 11 and 11 before 13; an image that is too short gets
-/// 13 before all. With room for everything, without, and with one buffer too
-/// short, nothing changes.
+/// Refusal 8, for the table or for the classes, comes before 11 and 11 before
+/// 13; an image or classes that are too short get 13 before all. With room for
+/// everything, without, and with one buffer too short, nothing changes.
 #[test]
 fn order_of_the_refusals_of_splitting() {
     let (table, none) = tables();
@@ -399,26 +507,48 @@ fn order_of_the_refusals_of_splitting() {
     let mut wrong_copies = copies.clone();
     wrong_copies[1_634 + 4] = 4;
     let too_long = vec![b'a'; MAX_TEXT_BYTES + 1];
+    let letters = turkish_classes();
+    let changed = |at: u8, entry: u8| {
+        let mut classes = letters;
+        classes[at as usize] = entry;
+        classes
+    };
+    let mut no_classes = vec![[OTHER; CLASSES_BYTES], [MARK; CLASSES_BYTES]];
+    no_classes.extend([(0x20, 17), (0xFF, 255), (0x61, 17), (0xB7, 17)].map(|(at, entry)| changed(at, entry)));
+    no_classes.extend(classes::RESERVED.map(|byte| changed(byte, 0)));
     let short_image = &none[..TABLE_BYTES - 1];
-    let cases: [(&[u8], &[u8], Refusal); 10] = [
-        (&none, b"", Refusal::NotFromSheet),
-        (&none, b"baba", Refusal::NotFromSheet),
-        (&none, &too_long, Refusal::NotFromSheet),
-        (&wrong_copies, b"1", Refusal::NotFromSheet),
-        (&wrong_copies, &too_long, Refusal::NotFromSheet),
-        (&table, &too_long, Refusal::MessageTooLong),
-        (&copies, &too_long, Refusal::MessageTooLong),
-        (short_image, b"", Refusal::BufferTooShort),
-        (short_image, &too_long, Refusal::BufferTooShort),
-        (&[], &too_long, Refusal::BufferTooShort),
+    let mut cases: Vec<Splitting> = vec![
+        (&none, &letters, b"", Refusal::NotFromSheet),
+        (&none, &letters, b"baba", Refusal::NotFromSheet),
+        (&none, &letters, &too_long, Refusal::NotFromSheet),
+        (&wrong_copies, &letters, b"1", Refusal::NotFromSheet),
+        (&wrong_copies, &letters, &too_long, Refusal::NotFromSheet),
+        (&table, &letters, &too_long, Refusal::MessageTooLong),
+        (&copies, &letters, &too_long, Refusal::MessageTooLong),
+        (short_image, &letters, b"", Refusal::BufferTooShort),
+        (short_image, &letters, &too_long, Refusal::BufferTooShort),
+        (short_image, &no_classes[0], &too_long, Refusal::BufferTooShort),
+        (&[], &letters, &too_long, Refusal::BufferTooShort),
+        (&table, &letters[1..], b"", Refusal::BufferTooShort),
+        (&table, &letters[1..], &too_long, Refusal::BufferTooShort),
+        (&none, &letters[1..], b"baba", Refusal::BufferTooShort),
+        (&none, &no_classes[0][1..], &too_long, Refusal::BufferTooShort),
+        (&none, &[], b"", Refusal::BufferTooShort),
     ];
-    for (table, text, expected) in cases {
+    for classes in &no_classes {
+        let text: &[u8] = if classes[0xFF] == OTHER { &too_long } else { b"baba" };
+        cases.extend([
+            (&table[..], &classes[..], text, Refusal::NotFromSheet),
+            (&copies, classes, b"", Refusal::NotFromSheet),
+        ]);
+    }
+    for (table, classes, text, expected) in cases {
         for room in [0, text.len()] {
             for short in (0..6).map(Some).chain([None]) {
                 let mut lent = Lent::new(room, 0);
                 short.map(|buffer| lent.shorten(buffer));
                 let before = lent.clone();
-                assert_eq!(lent.split(table, text), Some(expected), "{} bytes, room of {room}", text.len());
+                assert_eq!(lent.split(table, classes, text), Some(expected), "{} bytes, room of {room}", text.len());
                 assert_eq!(lent, before);
             }
         }
@@ -430,19 +560,20 @@ fn order_of_the_refusals_of_splitting() {
 fn the_longest_text() {
     let mut table = [0; TABLE_BYTES];
     assert_eq!(furlazon::turkish(&mut table), 0);
+    let classes = turkish_classes();
     let words = b"b ".repeat(MAX_TEXT_BYTES / 2);
     let vowels = vec![b'a'; MAX_TEXT_BYTES];
     let dotted: Vec<u8> = b"a\xB7".repeat(MAX_TEXT_BYTES)[..2 * MAX_TEXT_BYTES - 1].to_vec();
     for (text, expected) in [(words, b"(b) ".repeat(MAX_TEXT_BYTES / 2)), (vowels, dotted)] {
         let mut lent = Lent::new(text.len(), 0);
         let after = lent.clone().after(&expected);
-        assert_eq!(lent.split(&table, &text), None);
+        assert_eq!(lent.split(&table, &classes, &text), None);
         assert!(lent == after);
         for buffer in 0..6 {
             let mut lent = Lent::new(text.len(), 0);
             lent.shorten(buffer);
             let before = lent.clone();
-            assert_eq!(lent.split(&table, &text), Some(Refusal::BufferTooShort));
+            assert_eq!(lent.split(&table, &classes, &text), Some(Refusal::BufferTooShort));
             assert!(lent == before, "buffer {buffer}");
         }
     }

@@ -1,18 +1,20 @@
 //! Cases 11 to 14 of the scope paper, codes with start marks, codes with ban
-//! lists, and figures 2 and 3 of Gönenç and the words that he splits, run by
-//! the proved library and by the reference: both give the same, lent buffers
-//! included, and it is what the papers say.
+//! lists, class sheets, and figures 2 and 3 of Gönenç and the words that he
+//! splits, run by the proved library and by the reference: both give the same,
+//! lent buffers included, and it is what the papers say.
 
 use furlazon::linked::Linked;
 use furlazon::{image, TABLE_BYTES};
 use reference::bans;
 use reference::cases::{
-    banned, code_t, code_u, codes_for_the_empty_message, figure_2, limit_sheets, openings, refused_lists, shortening,
-    turkish_six, turkish_twelve, AMBIGUOUS_WORDS, FIGURE_3_LONGEST_PATH, SPLIT_WORDS, UNREAD_WORDS,
+    banned, class_sheets, code_t, code_u, codes_for_the_empty_message, figure_2, limit_sheets, openings, refused_lists,
+    shortening, turkish_six, turkish_six_with_r, turkish_twelve, AMBIGUOUS_WORDS, FIGURE_3_LONGEST_PATH, SPLIT_WORDS,
+    TURKISH_CLASSES, UNREAD_WORDS,
 };
+use reference::classes::{Classes, Entries, OTHER};
 use reference::code::{Code, Refusal};
 use reference::copies::enlarge;
-use reference::letters::bytes;
+use reference::letters::{bytes, with_r_apart, TURKISH};
 use reference::operations::{
     Buffers, Operations, ReadingLengths, Reference, VerdictLengths, VERDICT_ENTRIES, VERDICT_WORKING,
 };
@@ -302,14 +304,30 @@ fn figure_3_verdict_on_code_u() {
     gives(&Table::of(&code_u()), VerdictLengths::Delay(FIGURE_3_LONGEST_PATH + 1), &[], &[], &[]);
 }
 
+/// Both take in the class sheet with this refusal or none; the classes.
+fn classes_taken(sheet: &[u8], refusal: Option<Refusal>) -> Entries {
+    let taken = Linked.take_classes(sheet);
+    assert_eq!(taken, Reference.take_classes(sheet));
+    assert_eq!(taken.0, refusal, "{:?}", String::from_utf8_lossy(sheet));
+    taken.1
+}
+
+#[test]
+fn listed_class_sheets() {
+    for (sheet, refusal) in class_sheets() {
+        let classes = classes_taken(&sheet, refusal);
+        assert_eq!(classes == [OTHER; 256], refusal.is_some());
+    }
+}
+
 /// Both split the text so.
-fn splits(table: &Table, text: &str, expected: &str) {
+fn splits_by(table: &Table, classes: &Entries, text: &str, expected: &str) {
     let (text, expected) = (bytes(text), bytes(expected));
     for spare in SPARE {
         let before = (vec![MARK; 2 * text.len() + 1 + spare], lent(text.len() + spare, text.len() + 1 + spare));
         let (mut ours, mut theirs) = (before.clone(), before.clone());
-        let answer = Linked.split(table, &text, &mut ours.0, &mut ours.1);
-        assert_eq!(answer, Reference.split(table, &text, &mut theirs.0, &mut theirs.1));
+        let answer = Linked.split(table, classes, &text, &mut ours.0, &mut ours.1);
+        assert_eq!(answer, Reference.split(table, classes, &text, &mut theirs.0, &mut theirs.1));
         assert_eq!(ours, theirs);
         assert_eq!(answer, Ok(expected.len()));
         assert_eq!(ours.0[..expected.len()], expected);
@@ -320,10 +338,13 @@ fn splits(table: &Table, text: &str, expected: &str) {
     }
 }
 
-/// Each by itself, and all in one text.
-#[test]
-fn words_that_are_printed() {
-    let table = Linked.turkish();
+/// Both split the text so by the Turkish letters.
+fn splits(table: &Table, text: &str, expected: &str) {
+    splits_by(table, &Linked.turkish_classes(), text, expected);
+}
+
+/// The words that Gönenç prints, and what the twelve types make of them.
+fn printed_words() -> Vec<(String, String)> {
     let mut words: Vec<(String, String)> = Vec::new();
     for word in SPLIT_WORDS.split_whitespace() {
         words.push((word.replace('·', ""), word.to_string()));
@@ -333,10 +354,41 @@ fn words_that_are_printed() {
             words.push((letters.clone(), format!("{open}{letters}{close}")));
         }
     }
+    words
+}
+
+/// Each by itself, and all in one text; by the built-in letters and by their sheet.
+#[test]
+fn words_that_are_printed() {
+    let table = Linked.turkish();
+    let words = printed_words();
     words.iter().for_each(|(text, expected)| splits(&table, text, expected));
     let (texts, expected): (Vec<String>, Vec<String>) = words.into_iter().unzip();
     splits(&table, &texts.join(" "), &expected.join(" "));
+    let classes = classes_taken(TURKISH_CLASSES.replace(' ', "\r\n").as_bytes(), None);
+    assert_eq!(classes, TURKISH.entries());
+    splits_by(&table, &classes, &texts.join(" "), &expected.join(" "));
     splits(&Table::of(&turkish_six()), "kraliçe baba kongre farklı", "(kraliçe) ba·ba kong·re fark·lı");
+}
+
+/// With r told from the other consonants: the six types with their forms with r split as the six types do, and a code in which r may
+/// stand second settles kongre.
+#[test]
+fn r_told_apart() {
+    let sheet = TURKISH_CLASSES.replace("52,54,1", "52,52,2 53,54,1").replace("72,74,1", "72,72,2 73,74,1");
+    let classes = classes_taken(sheet.replace(' ', "\r\n").as_bytes(), None);
+    assert_eq!(Classes::given(&classes), Some(with_r_apart()));
+    splits_by(&Table::of(&turkish_six_with_r()), &classes, "kongre KARA baba bb", "kong·re KA·RA ba·ba (bb)");
+    splits_by(&Table::of(&turkish_six()), &classes, "kongre KARA baba bb", "(kongre) (KARA) ba·ba (bb)");
+    let table = Table::of(&Code::free(&["10", "101", "120", "1201", "20", "201"]));
+    splits_by(&table, &classes, "kongre, kontrol, matris; strateji", "kon·gre, kon·trol, [matris]; (strateji)");
+}
+
+/// Any byte but the five may be a letter.
+#[test]
+fn digits_as_letters() {
+    let classes = classes_taken(b"30,31,0\r\n32,39,1\r\n0D,0D,0\r\n0A,0A,1\r\n00,00,0\r\n", None);
+    splits_by(&Linked.turkish(), &classes, "2021 baba 29(2)\r\n\0", "20·21 baba (29)((2))\r·\n\0");
 }
 
 /// After 0 and 1 come neither 0 nor 010: of the two readings of aba one is left.

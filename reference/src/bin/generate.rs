@@ -1,13 +1,13 @@
 //! Prints one generated sheet: one of the largest codes by name, or a random
 //! or damaged sheet by the start of the generator; or a ban list for the
-//! random sheet with that start.
+//! random sheet with that start; or a random or damaged class sheet.
 
 use reference::random::Random;
 use reference::{generate, largest, sheet};
 use std::io::{self, Write};
 
 const USAGE: &str = "usage: generate ambiguous|delay|unbounded
-       generate sheet|damaged|bans START";
+       generate sheet|damaged|bans|classes|damaged-classes START";
 
 fn main() -> io::Result<()> {
     let arguments: Vec<String> = std::env::args().skip(1).collect();
@@ -33,6 +33,8 @@ fn generated(arguments: &[&str]) -> Option<Vec<u8>> {
             Some(generate::list(&mut random, &code))
         }
         ["damaged", start] => Some(generate::damaged_sheet(&mut Random(start.parse().ok()?))),
+        ["classes", start] => Some(generate::class_sheet(&mut Random(start.parse().ok()?))),
+        ["damaged-classes", start] => Some(generate::damaged_class_sheet(&mut Random(start.parse().ok()?))),
         _ => None,
     }
 }

@@ -3,7 +3,8 @@
 //! failure.
 
 use furlazon::linked::Linked;
-use furlazon::{image, ANSWER_ENTRIES, TABLE_BYTES};
+use furlazon::{image, ANSWER_ENTRIES, CLASSES_BYTES, TABLE_BYTES};
+use reference::classes::Classes;
 use reference::code::{Code, Refusal};
 use reference::compare::{compare, on_list, on_table, Met};
 use reference::operations::{Operations, Reference, VERDICT_ENTRIES, VERDICT_WORKING};
@@ -31,14 +32,14 @@ fn main() {
     println!("start {start}, {rounds} rounds");
     let clock = Instant::now();
     let met = compare(&mut Linked, start, rounds).unwrap_or_else(|difference| fail(&difference));
-    println!("sheets, ban lists, sequences, messages, texts and tables: {}", told(&met));
+    println!("sheets, ban lists, class sheets, sequences, messages, texts and tables: {}", told(&met));
     let met = images(start, rounds).unwrap_or_else(|difference| fail(&difference));
     println!("damaged images: {}", told(&met));
     short_buffers(start, rounds).unwrap_or_else(|difference| fail(&difference));
-    println!("short images and answers: refused, nothing changed");
-    // A round has a sheet, a ban list and four inputs for a table, a ban list and four inputs for a damaged image,
-    // and five inputs with short buffers. The built-in code has no input and is not counted.
-    println!("all the same: {} inputs in {} s, start {start}", 16 * rounds, clock.elapsed().as_secs());
+    println!("short images, classes and answers: refused, nothing changed");
+    // A round has a sheet, two class sheets, a ban list and four inputs for a table, a ban list and four inputs for a
+    // damaged image, and six inputs with short buffers. What is built in has no input and is not counted.
+    println!("all the same: {} inputs in {} s, start {start}", 19 * rounds, clock.elapsed().as_secs());
 }
 
 fn fail<T>(difference: &str) -> T {
@@ -52,24 +53,28 @@ fn told(met: &Met) -> String {
         accepted,
         built_in,
         enlarged,
+        class_sheets,
         encoded,
         one_reading,
         two_readings,
         split,
+        split_by_other_classes,
         words_split,
         words_without_reading,
         words_with_several,
         ambiguous,
         delayed,
         unbounded,
+        refused_classes,
         refused,
     } = met;
     let refused: Vec<String> = (1..refused.len()).map(|number| format!("{number}: {}", refused[number])).collect();
     format!(
-        "{accepted} sheets and {enlarged} ban lists accepted, {built_in} times the built-in code, {encoded} encoded, \
-         {one_reading} with one reading, {two_readings} with more, {split} texts with {words_split} words split, \
+        "{accepted} sheets, {enlarged} ban lists and {class_sheets} class sheets accepted, {built_in} times the built-in \
+         code and classes, {encoded} encoded, {one_reading} with one reading, {two_readings} with more, {split} texts, \
+         {split_by_other_classes} by other classes than the built-in ones, with {words_split} words split, \
          {words_without_reading} without a reading and {words_with_several} with several, {ambiguous} ambiguous, \
-         {delayed} with a delay, {unbounded} without bound; refused {}",
+         {delayed} with a delay, {unbounded} without bound; refused {}; 8 for the classes alone: {refused_classes}",
         refused.join(", ")
     )
 }
@@ -100,8 +105,8 @@ fn images(start: u64, rounds: usize) -> Result<Met, String> {
 /// Bytes of an image that belong to the copies: their count, what each is a copy of, and after which word.
 const COPIES_BYTES: usize = 1 + 2 * Code::MAX_WORDS;
 
-/// An image or an answer that is too short is refused with 13, unless what the
-/// image is made from is refused with a lower number, and nothing changes.
+/// An image, classes or an answer that are too short are refused with 13, unless
+/// a lower number holds where that can be told, and nothing changes.
 fn short_buffers(start: u64, rounds: usize) -> Result<(), String> {
     let mut random = Random(start);
     let mut work = Lent::new();
@@ -118,12 +123,29 @@ fn short_buffers(start: u64, rounds: usize) -> Result<(), String> {
     Ok(())
 }
 
+/// What a sheet is refused with where there is no room for what it gives: of
+/// its own refusal and that of the short buffer the lower.
+fn sheet_number(refused: Option<Refusal>) -> u64 {
+    let short = Refusal::BufferTooShort;
+    u64::from(refused.map_or(short, |refused| refused.min(short)).number())
+}
+
+/// What splitting is refused with where the image, the classes or the answer
+/// are too short. Without the image and the classes nothing can be tested.
+fn text_number(image: &[u8], classes: &[u8], text: &[u8]) -> u64 {
+    let refusal = match classes.try_into().ok().filter(|_| image.len() == TABLE_BYTES).map(Classes::given) {
+        None => Refusal::BufferTooShort,
+        Some(None) => Refusal::NotFromSheet,
+        Some(_) if text.len() > MAX_TEXT_BYTES => Refusal::MessageTooLong,
+        _ => Refusal::BufferTooShort,
+    };
+    u64::from(refusal.number())
+}
+
 /// What enlarging is refused with where there is no room for the image that it
 /// would write. A short image cannot be tested.
 fn list_number(image: &[u8], list: &[u8]) -> u64 {
-    let short = Refusal::BufferTooShort;
-    let refused = image.try_into().ok().and_then(|image| Reference.enlarge(&image::unpack(image), list).0);
-    u64::from(refused.map_or(short, |refused| refused.min(short)).number())
+    sheet_number(image.try_into().ok().and_then(|image| Reference.enlarge(&image::unpack(image), list).0))
 }
 
 /// Lent buffers that are long enough, all filled with a mark.
@@ -144,13 +166,18 @@ impl Lent {
         }
     }
 
-    /// Calls each function with a short image or a short answer.
+    /// Calls each function with a short image or a short answer; splitting also with short classes.
     fn all_refused(&mut self, random: &mut Random, code: &Code, image: &[u8], answer: usize) -> bool {
         let sequence = generate::permitted_sequence(random, code, 10);
         let joined = encode::joined(code, &sequence);
         let sheet = if random.one_in(2) { generate::sheet(random) } else { generate::damaged_sheet(random) };
         let list = generate::list(random, code);
-        let text = generate::text(random, code);
+        let classes = generate::classes(random);
+        let text = generate::text(random, code, &classes);
+        let entries = generate::class_entries(random, &classes);
+        let entries = &entries[..if random.one_in(2) { random.below(CLASSES_BYTES) } else { CLASSES_BYTES }];
+        let class_sheet =
+            if random.one_in(2) { generate::class_sheet(random) } else { generate::damaged_class_sheet(random) };
         let [message, first, second, out] = &mut self.bytes;
         let (work, answer) = (&mut self.work, &mut self.answer[..answer]);
         let short = u64::from(Refusal::BufferTooShort.number());
@@ -159,18 +186,19 @@ impl Lent {
             furlazon::read(image, &joined, first, second, work, answer),
             furlazon::verdict(image, message, first, second, work, answer),
         ];
-        // That a text is too long comes before a short answer, but after a short image.
-        let too_long = image.len() == TABLE_BYTES && text.len() > MAX_TEXT_BYTES;
-        let text_number = if too_long { u64::from(Refusal::MessageTooLong.number()) } else { short };
-        let split = furlazon::split(image, &text, out, message, first, second, work, answer) == text_number;
-        // Of a sheet's own refusal and that of the short image the lower is returned.
-        let sheet_number = Reference.take_in(&sheet).0.map_or(short, |refusal| u64::from(refusal.number()).min(short));
-        let taken =
-            image.len() == TABLE_BYTES || furlazon::take_in(&sheet, &mut message[..image.len()]) == sheet_number;
+        let split = furlazon::split(image, entries, &text, out, message, first, second, work, answer);
+        let split = split == text_number(image, entries, &text);
+        let taken = image.len() == TABLE_BYTES
+            || furlazon::take_in(&sheet, &mut message[..image.len()]) == sheet_number(Reference.take_in(&sheet).0);
         let room = random.below(TABLE_BYTES);
         let enlarged = furlazon::enlarge(image, &list, &mut message[..room]) == list_number(image, &list);
-        let given = furlazon::turkish(&mut message[..room]) == short;
-        numbers == [short; 3] && split && taken && enlarged && given && self.unchanged()
+        let room_for_classes = random.below(CLASSES_BYTES);
+        let classes_taken = furlazon::take_classes(&class_sheet, &mut message[..room_for_classes]);
+        let classes_taken = classes_taken == sheet_number(Reference.take_classes(&class_sheet).0);
+        let given =
+            [furlazon::turkish(&mut message[..room]), furlazon::turkish_classes(&mut message[..room_for_classes])];
+        let answers = [split, taken, enlarged, classes_taken, numbers == [short; 3], given == [short; 2]];
+        answers == [true; 6] && self.unchanged()
     }
 
     fn unchanged(&self) -> bool {

@@ -5,12 +5,13 @@
 //! system interrupts does not count. The medians of the runs are printed, and
 //! their quotient; for splitting also the bytes of the text in a second.
 
-use furlazon::{image, plain, ANSWER_ENTRIES, TABLE_BYTES};
-use reference::cases::{AMBIGUOUS_WORDS, SPLIT_WORDS, UNREAD_WORDS};
+use furlazon::{image, plain, ANSWER_ENTRIES, CLASSES_BYTES, TABLE_BYTES};
+use reference::cases::{largest_class_sheet, turkish_six_with_r, AMBIGUOUS_WORDS, SPLIT_WORDS, UNREAD_WORDS};
+use reference::classes::{self, Classes};
 use reference::code::Code;
 use reference::encode::joined;
 use reference::generate::{permitted_sequence, spelled};
-use reference::letters::bytes;
+use reference::letters::{bytes, with_r_apart, TURKISH};
 use reference::operations::{Buffers, Operations, Reference, VERDICT_ENTRIES, VERDICT_WORKING};
 use reference::random::Random;
 use reference::sheet;
@@ -33,6 +34,8 @@ fn main() {
         bench.take_in(name, &read_file(&sheets, name, "csv"));
     }
     bench.turkish();
+    bench.take_classes("Turkish letters", &classes::write(&TURKISH.runs()));
+    bench.take_classes("every letter by itself", &largest_class_sheet());
     for name in ["bans-delay", "bans-32-words"] {
         bench.enlarge(name, &read_code(&sheets, name), &read_file(&sheets, name, "bans"));
     }
@@ -64,10 +67,15 @@ fn main() {
     println!();
     println!("| Split by | Text | Plain Rust | Proved, µs | Plain, µs | Ratio | Proved, MB/s | Plain, MB/s |");
     println!("|---|---|---|---|---|---|---|---|");
-    for (name, code) in [("built-in code", turkish::code()), ("`turkish-six`", read_code(&sheets, "turkish-six"))] {
-        bench.split(name, "Turkish words", &code, &turkish_words());
-        bench.split(name, "3000 short words", &code, &short_words(&code));
-        bench.split(name, "one word", &code, &long_word(&code));
+    let codes = [
+        ("built-in code", turkish::code(), TURKISH.clone()),
+        ("`turkish-six`", read_code(&sheets, "turkish-six"), TURKISH.clone()),
+        ("six types, three classes", turkish_six_with_r(), with_r_apart()),
+    ];
+    for (name, code, classes) in codes {
+        bench.split(name, "Turkish words", &code, &classes, &turkish_words());
+        bench.split(name, "3000 short words", &code, &classes, &short_words(&code, &classes));
+        bench.split(name, "one word", &code, &classes, &long_word(&code, &classes));
     }
 }
 
@@ -112,7 +120,7 @@ fn turkish_words() -> Vec<u8> {
 }
 
 /// Three thousand words of up to four letters that the code reads.
-fn short_words(code: &Code) -> Vec<u8> {
+fn short_words(code: &Code, classes: &Classes) -> Vec<u8> {
     let mut random = Random(1);
     let mut text = Vec::new();
     for _ in 0..3_000 {
@@ -122,15 +130,15 @@ fn short_words(code: &Code) -> Vec<u8> {
                 break message;
             }
         };
-        text.extend(spelled(&mut random, &message));
+        text.extend(spelled(&mut random, classes, &message));
         text.push(b' ');
     }
     text
 }
 
 /// One word that is as long as a text may be.
-fn long_word(code: &Code) -> Vec<u8> {
-    spelled(&mut Random(1), &joined(code, &sequence_of(code, MAX_TEXT_BYTES)))
+fn long_word(code: &Code, classes: &Classes) -> Vec<u8> {
+    spelled(&mut Random(1), classes, &joined(code, &sequence_of(code, MAX_TEXT_BYTES)))
 }
 
 fn cleared() -> Buffers {
@@ -186,6 +194,16 @@ impl Bench {
         };
         let plain = |timer: &mut Timer| timer.time(|| Reference.turkish());
         self.row("built-in code", "none", "reference", proved, plain);
+    }
+
+    fn take_classes(&self, name: &str, sheet: &[u8]) {
+        let mut classes = [0; CLASSES_BYTES];
+        let proved = |timer: &mut Timer| {
+            classes.fill(0);
+            timer.time(|| furlazon::take_classes(black_box(sheet), &mut classes));
+        };
+        let plain = |timer: &mut Timer| timer.time(|| Reference.take_classes(black_box(sheet)));
+        self.row("take in classes", &format!("{name}, {} bytes", sheet.len()), "reference", proved, plain);
     }
 
     fn enlarge(&self, name: &str, code: &Code, list: &[u8]) {
@@ -261,8 +279,8 @@ impl Bench {
         self.row(&format!("verdict, {kind}"), &format!("`{name}`"), "reference", &mut proved, reference);
     }
 
-    fn split(&self, name: &str, kind: &str, code: &Code, text: &[u8]) {
-        let table = Table::of(code);
+    fn split(&self, name: &str, kind: &str, code: &Code, classes: &Classes, text: &[u8]) {
+        let (table, classes) = (Table::of(code), classes.entries());
         let packed = image::pack(&table);
         let ((mut out, mut buffers), (mut other_out, mut other)) = (splitting(text), splitting(text));
         let mut answer = [0; ANSWER_ENTRIES];
@@ -270,13 +288,16 @@ impl Bench {
             out.fill(0);
             clear(&mut buffers);
             let Buffers { message, first, second, working } = &mut buffers;
-            let (packed, text) = (black_box(&packed), black_box(text));
-            timer.time(|| furlazon::split(packed, text, &mut out, message, first, second, working, &mut answer));
+            let (packed, classes, text) = (black_box(&packed), black_box(&classes), black_box(text));
+            timer.time(|| {
+                furlazon::split(packed, classes, text, &mut out, message, first, second, working, &mut answer)
+            });
         };
         let plain = |timer: &mut Timer| {
             other_out.fill(0);
             clear(&mut other);
-            timer.time(|| Reference.split(black_box(&table), black_box(text), &mut other_out, &mut other));
+            let (table, classes, text) = (black_box(&table), black_box(&classes), black_box(text));
+            timer.time(|| Reference.split(table, classes, text, &mut other_out, &mut other));
         };
         let (ours, theirs) = self.medians(proved, plain);
         let (ratio, length) = (ours / theirs, text.len());
