@@ -1,5 +1,4 @@
 pub mod Filling
-pub mod Marks
 pub mod Records
 pub mod Counting
 pub mod Passing

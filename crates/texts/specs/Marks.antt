@@ -1,21 +1,21 @@
 -- What splitting adds to a text: B7 and brackets put in, and nothing else. Those that were put in taken away, the text is left; a text may hold such bytes itself,
 -- and keeps them. So every letter stands in the output once, in order.
 use mathlib.Core.Path.{_≡_, refl}
-use mathlib.Core.Bool.{Bool, true, false, _||_}
+use mathlib.Core.Bool.{Bool, true, false}
 use mathlib.Core.List.{List, [], _∷_, _++_, append-nil}
 use Prim.Native.Nat.{ℕ}
 use native.Mathlib.Omega.{arith}
 use lib.Dec.{eqb}
 use lib.ListN.{length, take, drop, take-append-drop}
-use Rattle.code.specs.Definitions.Lists.{if_then_else_, sum, join}
+use Rattle.code.specs.Definitions.Lists.{if_then_else_, any, sum, join}
 use Rattle.code.specs.Definitions.Tables.{Table}
-use Rattle.code.specs.Definitions.Texts.{isLetter, syllableBreak, syllables, lengthsOf, Shows, split, none, several, Splits, end, copied, shown}
+use Rattle.code.specs.Definitions.Texts.{isLetter, syllableBreak, marks, syllables, lengthsOf, Shows, split, none, several, Splits, end, copied, shown}
 use Rattle.texts.specs.Runs.{run-rest}
 use Rattle.texts.specs.Syllables.{behind-first, reads-length}
 
 -- B7 and the four brackets
 abbrev pub isMark : ℕ → Bool
-isMark b = eqb b syllableBreak || (eqb b 40 || (eqb b 41 || (eqb b 91 || eqb b 93)))
+isMark b = any (eqb b) marks
 
 -- o is s with marks put in.
 pub data Marked : List ℕ → List ℕ → Type 0 where
@@ -38,7 +38,7 @@ none-left (a ∷ w) e = absurd (omega arith)
 
 -- Syllables that make up a word, with B7 between them, are the word with B7 put in.
 joined-marked : (l w : List ℕ) → length w ≡ sum l → Marked w (join (syllableBreak ∷ []) (syllables l w))
-unfolding join syllables sum
+unfolding join syllables sum any
 joined-marked [] w e = none-left w e
 joined-marked (n ∷ []) w e =
     rw (take-append-drop n w) at (rw append-nil at (marked-append (marked-same (take n w)) (none-left (drop n w) (behind-first n [] w e))))
@@ -51,6 +51,7 @@ bracketed-marked a b w h k = put h (rw append-nil at (marked-append (marked-same
 
 module _ {t : Table} {classes : List ℕ} where
   shows-marked : {w p : List ℕ} → Shows t classes w p → Marked w p
+  unfolding any
   shows-marked {w} (split {r} o) = joined-marked (lengthsOf t r) w (reads-length t classes w (o .reads))
   shows-marked {w} (none n) = bracketed-marked 40 41 w refl refl
   shows-marked {w} (several n) = bracketed-marked 91 93 w refl refl

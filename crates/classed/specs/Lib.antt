@@ -1,0 +1,12 @@
+pub mod WellClassed
+pub mod Marks
+pub mod Accepts
+pub mod Formed
+pub mod Given
+pub mod Letters
+pub mod Singles
+pub mod Print
+pub mod Written
+pub mod Round
+pub mod Splitting
+pub mod Tested
