@@ -1,3 +1,4 @@
+pub mod Marks
 pub mod Filling
 pub mod Records
 pub mod Counting

@@ -2,56 +2,47 @@
 -- read gets 13 by itself. Where the answer is too short, 13 holds beside the operation's own refusals, and no buffer changes. All else is the operation's answer.
 use mathlib.Core.Path.{_≡_}
 use mathlib.Core.List.{List, []}
-use Prim.Native.Nat.{ℕ, _≤_, _<_, min}
-use lib.Dec.{ltb}
+use mathlib.Core.Logic.{_⊎_}
+use Prim.Native.Nat.{ℕ, _≤_, _<_}
 use lib.ListN.{length}
-use Rattle.code.specs.declared.Enlarged.{Enlarged}
 use Rattle.code.specs.declared.Enlargement.{Enlargement}
-use Rattle.code.specs.declared.SheetAnswer.{SheetAnswer}
-use Rattle.code.specs.declared.SheetAnswer.the-variants.{Accepted, Refused}
+use Rattle.code.specs.declared.SheetAnswer.the-variants.{Accepted}
 use Rattle.code.specs.declared.Encoding.{Encoding}
 use Rattle.code.specs.declared.Reading.{Reading}
 use Rattle.code.specs.declared.Judgement.{Judgement}
 use Rattle.code.specs.declared.Splitting.{Splitting}
-use Rattle.code.specs.Definitions.Answers.{refusalNumber}
+use Rattle.code.specs.Definitions.ClassSheets.{differentBytes, takenClasses}
 use Rattle.code.specs.Definitions.Enlarged.{plainOf}
-use Rattle.code.specs.Definitions.Lists.{if_then_else_}
 use Rattle.code.specs.Definitions.Operations.{written, encodingConditions, readingConditions, verdictConditions, Enlarges, Encodes, ReadsMessage, Judges}
 use Rattle.code.specs.Definitions.Sheets.{limits, taken}
-use Rattle.code.specs.Definitions.Texts.{splittingConditions, SplitsText}
+use Rattle.code.specs.Definitions.Splitting.{splittingConditions, SplitsText}
+use Rattle.giving.specs.Given.{Answered, classesIn}
 use Rattle.image.specs.Image.{imageLength, imageOf, enlargedIn}
 use Rattle.letters.specs.Letters.{turkishClasses}
 use Rattle.turkish.specs.Types.{types, codeOfTypes}
-use Rattle.untold.specs.Untold.{shortNumber, Untold}
-use Rattle.answers.specs.Answers.{answerLength, encodingNumber, encodingEntries, splittingNumber, splittingEntries, readingNumber, readingEntries, judgementNumber, judgementEntries}
-
--- Where the buffer for the table is too short, 13 holds beside the own refusal of a sheet or a ban list, which is below it or, from 15 on, above.
-abbrev pub sheetNumber : SheetAnswer → List ℕ → ℕ
-sheetNumber Accepted b = if ltb (length b) imageLength then shortNumber else 0
-sheetNumber (Refused r) b = if ltb (length b) imageLength then min (refusalNumber r) shortNumber else refusalNumber r
-
--- The table of an accepted sheet or list is written as its image; a refusal changes nothing.
-abbrev pub afterSheet : SheetAnswer → Enlarged → List ℕ → List ℕ
-afterSheet Accepted e b = if ltb (length b) imageLength then b else written (imageOf e) b
-afterSheet (Refused r) e b = b
-
--- The answer a to a sheet or a list, which gives the value e, with the buffer b for the table.
-pub record Answered (a : SheetAnswer) (e : Enlarged) (b b′ : List ℕ) (r : ℕ) : Type 0 where
-  pub number : r ≡ sheetNumber a b
-  pub table : b′ ≡ afterSheet a e b
+use Rattle.untold.specs.Untold.{Untold}
+use Rattle.answers.specs.Answers.{shortNumber, answerLength, encodingNumber, encodingEntries, splittingNumber, splittingEntries, readingNumber, readingEntries, judgementNumber, judgementEntries}
 
 -- Taking in the sheet s, with the buffer b for the table.
 abbrev pub TakesIn : (s b b′ : List ℕ) → ℕ → Type 0
-TakesIn s b b′ r = Answered (taken limits s .answer) (plainOf limits (taken limits s .code)) b b′ r
+TakesIn s b b′ r = Answered (taken limits s .answer) imageLength (imageOf (plainOf limits (taken limits s .code))) b b′ r
+
+-- Taking in the class sheet s, with the buffer b for the classes.
+abbrev pub ClassesCall : (s b b′ : List ℕ) → ℕ → Type 0
+ClassesCall s b b′ r = Answered (takenClasses limits s .answer) differentBytes (takenClasses limits s .classes .entries) b b′ r
 
 -- Giving the code of the twelve Turkish types, with the buffer b for the table.
 abbrev pub TurkishCall : (b b′ : List ℕ) → ℕ → Type 0
-TurkishCall b b′ r = Answered Accepted (plainOf limits (codeOfTypes limits types)) b b′ r
+TurkishCall b b′ r = Answered Accepted imageLength (imageOf (plainOf limits (codeOfTypes limits types))) b b′ r
+
+-- Giving the classes of the Turkish letters, with the buffer b for them.
+abbrev pub TurkishClassesCall : (b b′ : List ℕ) → ℕ → Type 0
+TurkishClassesCall b b′ r = Answered Accepted differentBytes turkishClasses b b′ r
 
 -- Enlarging the table in t by the ban list s, with the buffer b for the enlarged table.
 pub data EnlargeCall (t s b b′ : List ℕ) (r : ℕ) : Type 0 where
   unread : length t < imageLength → r ≡ shortNumber → b′ ≡ b → EnlargeCall t s b b′ r
-  answered : {x : Enlargement} → imageLength ≤ length t → Enlarges limits (enlargedIn t) s x → Answered (x .answer) (x .enlarged) b b′ r → EnlargeCall t s b b′ r
+  answered : {x : Enlargement} → imageLength ≤ length t → Enlarges limits (enlargedIn t) s x → Answered (x .answer) imageLength (imageOf (x .enlarged)) b b′ r → EnlargeCall t s b b′ r
 
 -- Encoding the sequence s by the table in t into the buffer m, with the buffer a for the answer.
 pub data EncodeCall (t s m a m′ a′ : List ℕ) (r : ℕ) : Type 0 where
@@ -76,10 +67,13 @@ pub data VerdictCall (t m f g w a m′ f′ g′ w′ a′ : List ℕ) (r : ℕ)
   answered : {e : Judgement} → imageLength ≤ length t → answerLength ≤ length a → Judges limits (enlargedIn t) m f g w m′ f′ g′ w′ e → r ≡ judgementNumber e
       → a′ ≡ written (judgementEntries e) a → VerdictCall t m f g w a m′ f′ g′ w′ a′ r
 
--- Splitting the text s by the table in t into the buffer b, with the message buffer m, the reading buffers f and g, the working buffer w and the buffer a for the answer.
-pub data SplitCall (t s b m f g w a b′ m′ f′ g′ w′ a′ : List ℕ) (r : ℕ) : Type 0 where
-  unread : length t < imageLength → r ≡ shortNumber → b′ ≡ b → m′ ≡ m → f′ ≡ f → g′ ≡ g → w′ ≡ w → a′ ≡ a → SplitCall t s b m f g w a b′ m′ f′ g′ w′ a′ r
-  untold : imageLength ≤ length t → length a < answerLength → Untold (splittingConditions limits turkishClasses (enlargedIn t) s [] [] [] [] []) r → b′ ≡ b → m′ ≡ m → f′ ≡ f
-      → g′ ≡ g → w′ ≡ w → a′ ≡ a → SplitCall t s b m f g w a b′ m′ f′ g′ w′ a′ r
-  answered : {e : Splitting} → imageLength ≤ length t → answerLength ≤ length a → SplitsText limits turkishClasses (enlargedIn t) s b m f g w b′ m′ f′ g′ w′ e
-      → r ≡ splittingNumber e → a′ ≡ written (splittingEntries e) a → SplitCall t s b m f g w a b′ m′ f′ g′ w′ a′ r
+-- Splitting the text s by the table in t and the classes in k into the buffer b, with the message buffer m, the reading buffers f and g, the working buffer w and the
+-- buffer a for the answer. Classes that are too short to be read get 13 by themselves, too.
+pub data SplitCall (t k s b m f g w a b′ m′ f′ g′ w′ a′ : List ℕ) (r : ℕ) : Type 0 where
+  unread : (length t < imageLength) ⊎ (length k < differentBytes) → r ≡ shortNumber → b′ ≡ b → m′ ≡ m → f′ ≡ f → g′ ≡ g → w′ ≡ w → a′ ≡ a
+      → SplitCall t k s b m f g w a b′ m′ f′ g′ w′ a′ r
+  untold : imageLength ≤ length t → differentBytes ≤ length k → length a < answerLength → Untold (splittingConditions limits (enlargedIn t) (classesIn k) s [] [] [] [] []) r
+      → b′ ≡ b → m′ ≡ m → f′ ≡ f → g′ ≡ g → w′ ≡ w → a′ ≡ a → SplitCall t k s b m f g w a b′ m′ f′ g′ w′ a′ r
+  answered : {e : Splitting} → imageLength ≤ length t → differentBytes ≤ length k → answerLength ≤ length a
+      → SplitsText limits (enlargedIn t) (classesIn k) s b m f g w b′ m′ f′ g′ w′ e → r ≡ splittingNumber e → a′ ≡ written (splittingEntries e) a
+      → SplitCall t k s b m f g w a b′ m′ f′ g′ w′ a′ r

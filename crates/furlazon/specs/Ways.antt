@@ -2,72 +2,58 @@
 use mathlib.Core.Path.{_≡_, refl, sym, _∙_}
 use mathlib.Core.Bool.{Bool, true, false}
 use mathlib.Core.List.{List, []}
-use Prim.Native.Nat.{ℕ, _≤_, _<_, min}
-use native.Mathlib.Omega.{arith}
+use mathlib.Core.Logic.{inl, inr}
+use Prim.Native.Nat.{ℕ, _≤_, _<_}
 use lib.Dec.{ltb}
 use lib.ListN.{length}
-use borrow.Author.Tests.{lt-ltb, le-ltb, ltb-true, ltb-false}
+use borrow.Author.Tests.{ltb-true, ltb-false}
+use Rattle.code.specs.declared.Classes.{Classes}
 use Rattle.code.specs.declared.Code.{Code}
 use Rattle.code.specs.declared.Enlarged.{Enlarged}
 use Rattle.code.specs.declared.Enlargement.{Enlargement}
 use Rattle.code.specs.declared.Taken.{Taken}
-use Rattle.code.specs.declared.Refusal.{Refusal}
-use Rattle.code.specs.declared.SheetAnswer.{SheetAnswer}
-use Rattle.code.specs.declared.SheetAnswer.the-variants.{Accepted, Refused}
+use Rattle.code.specs.declared.TakenClasses.{TakenClasses}
+use Rattle.code.specs.declared.SheetAnswer.the-variants.{Accepted}
 use Rattle.code.specs.declared.Encoding.{Encoding}
 use Rattle.code.specs.declared.Reading.{Reading}
 use Rattle.code.specs.declared.Judgement.{Judgement}
 use Rattle.code.specs.declared.Splitting.{Splitting}
-use Rattle.code.specs.Definitions.Answers.{refusalNumber}
+use Rattle.code.specs.Definitions.ClassSheets.{differentBytes, takenClasses}
 use Rattle.code.specs.Definitions.Enlarged.{plainOf}
-use Rattle.code.specs.Definitions.Lists.{if_then_else_}
 use Rattle.code.specs.Definitions.Operations.{written, encodingConditions, readingConditions, verdictConditions, Enlarges, Encodes, ReadsMessage, Judges}
 use Rattle.code.specs.Definitions.Sheets.{limits, taken}
-use Rattle.code.specs.Definitions.Texts.{splittingConditions, SplitsText}
+use Rattle.code.specs.Definitions.Splitting.{splittingConditions, SplitsText}
+use Rattle.giving.specs.Given.{Answered, classesIn}
 use Rattle.image.specs.Image.{imageLength, imageOf, enlargedIn}
 use Rattle.letters.specs.Letters.{turkishClasses}
 use Rattle.turkish.specs.Types.{types, codeOfTypes}
-use Rattle.answers.specs.Answers.{answerLength, encodingNumber, encodingEntries, splittingNumber, splittingEntries, readingNumber, readingEntries, judgementNumber, judgementEntries}
-use Rattle.untold.specs.Untold.{shortNumber, Untold}
-use Rattle.furlazon.specs.Calls.{Answered, TakesIn, TurkishCall, EnlargeCall, EncodeCall, ReadCall, VerdictCall, SplitCall}
+use Rattle.answers.specs.Answers.{shortNumber, answerLength, encodingNumber, encodingEntries, splittingNumber, splittingEntries, readingNumber, readingEntries, judgementNumber, judgementEntries}
+use Rattle.untold.specs.Untold.{Untold}
+use Rattle.furlazon.specs.Calls.{TakesIn, ClassesCall, TurkishCall, TurkishClassesCall, EnlargeCall, EncodeCall, ReadCall, VerdictCall, SplitCall}
 
 -- Answering a sheet or a ban list
 
-module _ {a : SheetAnswer} {e : Enlarged} {b : List ℕ} where
-  pub table-short : {n : ℕ} → a ≡ Accepted → length b < imageLength → n ≡ shortNumber → Answered a e b b n
-  table-short d h k = let l = lt-ltb (length b) imageLength h in record { number = rw (d, l) k; table = rw (d, l) }
-
-  pub table-written : {b′ : List ℕ} → a ≡ Accepted → imageLength ≤ length b → b′ ≡ written (imageOf e) b → Answered a e b b′ 0
-  table-written d h k = let l = le-ltb (length b) imageLength h in record { number = rw (d, l); table = rw (d, l) k }
-
-  pub table-refused : {r : Refusal} {k n : ℕ} → a ≡ Refused r → k ≡ refusalNumber r → n ≡ (if ltb (length b) imageLength then min k shortNumber else k)
-      → Answered a e b b n
-  table-refused d k h = record { number = rw (d, ← k) h; table = rw d }
-
-pub sheet-answered : (s : List ℕ) {b b′ : List ℕ} {n : ℕ} {t : Taken} {e : Enlarged} → t ≡ taken limits s → e ≡ plainOf limits (t .code) → Answered (t .answer) e b b′ n
-    → TakesIn s b b′ n
+pub sheet-answered : (s : List ℕ) {b b′ : List ℕ} {n : ℕ} {t : Taken} {e : Enlarged} → t ≡ taken limits s → e ≡ plainOf limits (t .code)
+    → Answered (t .answer) imageLength (imageOf e) b b′ n → TakesIn s b b′ n
 sheet-answered s g p h = rw (p, g) at h
 
-pub turkish-answered : {b b′ : List ℕ} {n : ℕ} {c : Code} {e : Enlarged} → c ≡ codeOfTypes limits types → e ≡ plainOf limits c → Answered Accepted e b b′ n → TurkishCall b b′ n
+pub turkish-answered : {b b′ : List ℕ} {n : ℕ} {c : Code} {e : Enlarged} → c ≡ codeOfTypes limits types → e ≡ plainOf limits c → Answered Accepted imageLength (imageOf e) b b′ n
+    → TurkishCall b b′ n
 turkish-answered g p h = rw (p, g) at h
+
+pub classes-answered : (s : List ℕ) {b b′ : List ℕ} {n : ℕ} {t : TakenClasses} → t ≡ takenClasses limits s → Answered (t .answer) differentBytes (t .classes .entries) b b′ n
+    → ClassesCall s b b′ n
+classes-answered s g h = rw g at h
+
+pub letters-answered : {b b′ : List ℕ} {n : ℕ} {c : Classes} → c .entries ≡ turkishClasses → Answered Accepted differentBytes (c .entries) b b′ n → TurkishClassesCall b b′ n
+letters-answered g h = rw g at h
 
 pub list-unread : {t s b : List ℕ} {n : ℕ} → length t < imageLength → n ≡ shortNumber → EnlargeCall t s b b n
 list-unread h e = EnlargeCall.unread h e refl
 
 pub list-answered : {t s b b′ : List ℕ} {n : ℕ} {e : Enlarged} {x : Enlargement} → imageLength ≤ length t → e ≡ enlargedIn t → Enlarges limits e s x
-    → Answered (x .answer) (x .enlarged) b b′ n → EnlargeCall t s b b′ n
+    → Answered (x .answer) imageLength (imageOf (x .enlarged)) b b′ n → EnlargeCall t s b b′ n
 list-answered h u g k = EnlargeCall.answered h (rw u at g) k
-
--- The lower number
-module _ (n table : ℕ) {s : ℕ} (is : s ≡ shortNumber) where
-  pub lower-short : table < imageLength → s < n → s ≡ (if ltb table imageLength then min n shortNumber else n)
-  lower-short h l = rw (lt-ltb table imageLength h) (omega arith)
-
-  pub lower-own : table < imageLength → n ≤ s → n ≡ (if ltb table imageLength then min n shortNumber else n)
-  lower-own h l = rw (lt-ltb table imageLength h) (omega arith)
-
-  pub lower-long : imageLength ≤ table → n ≡ (if ltb table imageLength then min n shortNumber else n)
-  lower-long h = rw (le-ltb table imageLength h)
 
 -- What is known of the room for an answer after the test for it.
 pub answer-short : (n : ℕ) {b : Bool} → b ≡ ltb n answerLength → b ≡ true → n < answerLength
@@ -113,15 +99,17 @@ module _ {t m f g w a : List ℕ} where
       → Judges limits v m f g w m′ f′ g′ w′ e → (n ≡ judgementNumber e) × (a′ ≡ written (judgementEntries e) a) → VerdictCall t m f g w a m′ f′ g′ w′ a′ n
   verdict-answered h l u r e = VerdictCall.answered h l (rw u at r) (e .0) (e .1)
 
-module _ {t s b m f g w a : List ℕ} where
-  pub split-unread : {n : ℕ} → length t < imageLength → n ≡ shortNumber → SplitCall t s b m f g w a b m f g w a n
-  split-unread h e = SplitCall.unread h e refl refl refl refl refl refl
+module _ {t k s b m f g w a : List ℕ} where
+  pub split-unread : {n : ℕ} → length t < imageLength → n ≡ shortNumber → SplitCall t k s b m f g w a b m f g w a n
+  split-unread h e = SplitCall.unread (inl h) e refl refl refl refl refl refl
 
-  pub split-untold : {n : ℕ} {v : Enlarged} → imageLength ≤ length t → length a < answerLength → v ≡ enlargedIn t
-      → Untold (splittingConditions limits turkishClasses v s [] [] [] [] []) n → SplitCall t s b m f g w a b m f g w a n
-  split-untold h l u e = SplitCall.untold h l (rw u at e) refl refl refl refl refl refl
+  pub split-unclassed : {n : ℕ} → length k < differentBytes → n ≡ shortNumber → SplitCall t k s b m f g w a b m f g w a n
+  split-unclassed h e = SplitCall.unread (inr h) e refl refl refl refl refl refl
 
-  pub split-answered : {b′ m′ f′ g′ w′ a′ : List ℕ} {n : ℕ} {e : Splitting} {v : Enlarged} → imageLength ≤ length t → answerLength ≤ length a → v ≡ enlargedIn t
-      → SplitsText limits turkishClasses v s b m f g w b′ m′ f′ g′ w′ e → (n ≡ splittingNumber e) × (a′ ≡ written (splittingEntries e) a)
-      → SplitCall t s b m f g w a b′ m′ f′ g′ w′ a′ n
-  split-answered h l u r e = SplitCall.answered h l (rw u at r) (e .0) (e .1)
+  module _ {v : Enlarged} {c : Classes} (long : imageLength ≤ length t) (whole : differentBytes ≤ length k) (table : v ≡ enlargedIn t) (classes : c ≡ classesIn k) where
+    pub split-untold : {n : ℕ} → length a < answerLength → Untold (splittingConditions limits v c s [] [] [] [] []) n → SplitCall t k s b m f g w a b m f g w a n
+    split-untold l e = SplitCall.untold long whole l (rw (table, classes) at e) refl refl refl refl refl refl
+
+    pub split-answered : {b′ m′ f′ g′ w′ a′ : List ℕ} {n : ℕ} {e : Splitting} → answerLength ≤ length a → SplitsText limits v c s b m f g w b′ m′ f′ g′ w′ e
+        → (n ≡ splittingNumber e) × (a′ ≡ written (splittingEntries e) a) → SplitCall t k s b m f g w a b′ m′ f′ g′ w′ a′ n
+    split-answered l r e = SplitCall.answered long whole l (rw (table, classes) at r) (e .0) (e .1)

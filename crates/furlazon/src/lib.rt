@@ -1,4 +1,4 @@
-// The operations for C and for Rust. A table crosses as its image, a flat run of bytes; an answer crosses as the number returned, 0 for a result or the
+// The operations for C and for Rust. A table crosses as its image, a flat run of bytes, and classes as their entries; an answer crosses as the number returned, 0 for a result or the
 // refusal's, and as entries of a lent buffer. include/furlazon.h declares these functions for C.
 
 use answers::is_short;
@@ -7,55 +7,21 @@ use answers::put_encoding;
 use answers::put_judgement;
 use answers::put_reading;
 use answers::put_splitting;
-use code::Enlarged;
+use classes::take_classes;
+use code::Classes;
 use code::Refusal;
 use code::SheetAnswer;
 use enlargements::plain;
+use giving::classes_in;
+use giving::put_classes;
+use giving::put_table;
 use image::Image;
-use image::pack;
 use image::unpack;
 use untold::untold_encoding;
 use untold::untold_reading;
 use untold::untold_splitting;
 use untold::untold_verdict;
-ghost use mathlib.Core.Path.{_≡_};
-ghost use Prim.Native.Nat.{min};
-ghost use lib.Dec.{ltb};
-ghost use Rattle.code.specs.declared.SheetAnswer.the-variants.{Accepted};
-ghost use Rattle.code.specs.Definitions.Lists.{if_then_else_};
-ghost use Rattle.image.specs.Image.{imageLength, Packable};
-ghost use Rattle.untold.specs.Untold.{shortNumber};
-ghost use Rattle.furlazon.specs.Calls.{Answered, TakesIn, TurkishCall, EnlargeCall, EncodeCall, ReadCall, SplitCall, VerdictCall};
-
-// The lower of the refusal of a sheet or a ban list and 13, where a buffer of this length is too short for a table.
-fn lower(refusal: u64, table: usize) -> u64
-    ensures { λ r. ⌜ r ≡ (if ltb table imageLength then min refusal shortNumber else refusal) ⌝ }
-{
-    let short = number(Refusal::ShortBuffer);
-    if table < Image::LENGTH {
-        if short < refusal {
-            return short;
-        }
-    }
-    refusal
-}
-
-// Answers a sheet or a ban list that gives the value `e`: 0, and its image stands at the start of `table`; or the refusal's number.
-fn put_table(answer: SheetAnswer, e: Enlarged, table: &mut [u8]) -> u64
-    requires { ⌜ (answer ≡ Accepted → Packable e) ⌝ }
-    ensures { λ r. ⌜ Answered answer e (now (table .entry)) (now (table .exit)) r ⌝ }
-{
-    match answer {
-        SheetAnswer::Accepted => {
-            if table.len() < Image::LENGTH {
-                return number(Refusal::ShortBuffer);
-            }
-            pack(e, table);
-            0
-        }
-        SheetAnswer::Refused(r) => lower(number(r), table.len()),
-    }
-}
+ghost use Rattle.furlazon.specs.Calls.{TakesIn, ClassesCall, TurkishCall, TurkishClassesCall, EnlargeCall, EncodeCall, ReadCall, SplitCall, VerdictCall};
 
 // Takes in a sheet. 0: accepted, and the table's image stands at the start of `table`. Else the refusal's number, and `table` is as it was.
 #[no_mangle]
@@ -69,6 +35,17 @@ pub extern "C" fn furlazon_take_in(sheet: &[u8], table: &mut [u8]) -> u64
     put_table(answer, value, table)
 }
 
+// Takes in a class sheet. 0: accepted, and the class of each byte stands at the start of `classes`. Else the refusal's number, and `classes` is as it was.
+#[no_mangle]
+pub extern "C" fn furlazon_take_classes(sheet: &[u8], classes: &mut [u8]) -> u64
+    ensures { λ r. ⌜ ClassesCall (now (sheet .entry)) (now (classes .entry)) (now (classes .exit)) r ⌝ }
+{
+    let taken = take_classes(sheet);
+    let answer = taken.answer;
+    let given = taken.classes;
+    put_classes(answer, given, classes)
+}
+
 // Gives the built-in code of the twelve Turkish types. 0: its table's image stands at the start of `table`. Else 13, and `table` is as it was.
 #[no_mangle]
 pub extern "C" fn furlazon_turkish(table: &mut [u8]) -> u64
@@ -76,6 +53,15 @@ pub extern "C" fn furlazon_turkish(table: &mut [u8]) -> u64
 {
     let value = plain(turkish::twelve());
     put_table(SheetAnswer::Accepted, value, table)
+}
+
+// Gives the built-in classes of the Turkish letters. 0: they stand at the start of `classes`. Else 13, and `classes` is as it was.
+#[no_mangle]
+pub extern "C" fn furlazon_turkish_classes(classes: &mut [u8]) -> u64
+    ensures { λ r. ⌜ TurkishClassesCall (now (classes .entry)) (now (classes .exit)) r ⌝ }
+{
+    let given = letters::turkish();
+    put_classes(SheetAnswer::Accepted, given, classes)
 }
 
 // Enlarges a table by a list of bans that look two words back. 0: accepted, and the image of the enlarged table stands at the start of `enlarged`. Else the
@@ -167,11 +153,12 @@ pub extern "C" fn furlazon_verdict(
     put_judgement(e, answer)
 }
 
-// Splits a text of Turkish letters into syllables. 0: the output stands at the start of `out`, `answer` has its length, and `message`, `first`, `second` and `work`
+// Splits a text of letters of these classes into syllables. 0: the output stands at the start of `out`, `answer` has its length, and `message`, `first`, `second` and `work`
 // are all zero. Else the refusal's number, and nothing is changed.
 #[no_mangle]
 pub extern "C" fn furlazon_split(
     table: &[u8],
+    classes: &[u8],
     text: &[u8],
     out: &mut [u8],
     message: &mut [u8],
@@ -180,17 +167,21 @@ pub extern "C" fn furlazon_split(
     work: &mut [u64],
     answer: &mut [u64],
 ) -> u64
-    ensures { λ r. ⌜ SplitCall (now (table .entry)) (now (text .entry)) (now (out .entry)) (now (message .entry)) (now (first .entry)) (now (second .entry))
-        (now (work .entry)) (now (answer .entry)) (now (out .exit)) (now (message .exit)) (now (first .exit)) (now (second .exit)) (now (work .exit))
+    ensures { λ r. ⌜ SplitCall (now (table .entry)) (now (classes .entry)) (now (text .entry)) (now (out .entry)) (now (message .entry)) (now (first .entry))
+        (now (second .entry)) (now (work .entry)) (now (answer .entry)) (now (out .exit)) (now (message .exit)) (now (first .exit)) (now (second .exit)) (now (work .exit))
         (now (answer .exit)) r ⌝ }
 {
     if table.len() < Image::LENGTH {
         return number(Refusal::ShortBuffer);
     }
-    let value = unpack(table);
-    if is_short(answer.len()) {
-        return untold_splitting(value, text);
+    if classes.len() < Classes::BYTES {
+        return number(Refusal::ShortBuffer);
     }
-    let e = splitting::split(value, text, out, message, first, second, work);
+    let value = unpack(table);
+    let letters = classes_in(classes);
+    if is_short(answer.len()) {
+        return untold_splitting(value, letters, text);
+    }
+    let e = splitting::split(value, letters, text, out, message, first, second, work);
     put_splitting(e, answer)
 }

@@ -3,11 +3,13 @@ use mathlib.Core.Path.{_≡_}
 use mathlib.Core.List.{List}
 use Prim.Native.Nat.{ℕ, min}
 use lib.Dec.{ltb}
-use lib.ListN.{length}
+use lib.ListN.{length, take}
 use Rattle.answers.specs.Answers.{shortNumber}
+use Rattle.code.specs.declared.Classes.{Classes}
 use Rattle.code.specs.declared.SheetAnswer.{SheetAnswer}
 use Rattle.code.specs.declared.SheetAnswer.the-variants.{Accepted, Refused}
 use Rattle.code.specs.Definitions.Answers.{refusalNumber}
+use Rattle.code.specs.Definitions.ClassSheets.{differentBytes}
 use Rattle.code.specs.Definitions.Lists.{if_then_else_}
 use Rattle.code.specs.Definitions.Operations.{written}
 
@@ -25,3 +27,7 @@ afterSheet (Refused r) n bytes b = b
 pub record Answered (a : SheetAnswer) (n : ℕ) (bytes b b′ : List ℕ) (r : ℕ) : Type 0 where
   pub number : r ≡ sheetNumber a n b
   pub buffer : b′ ≡ afterSheet a n bytes b
+
+-- The classes that stand at the start of some bytes.
+abbrev pub classesIn : List ℕ → Classes
+classesIn b = record { entries = take differentBytes b }

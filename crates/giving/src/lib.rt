@@ -10,13 +10,13 @@ use image::Image;
 use image::pack;
 ghost use mathlib.Core.Path.{_≡_};
 ghost use Prim.Native.Nat.{min, _≤_};
-ghost use lib.ListN.{length, take};
+ghost use lib.ListN.{length};
 ghost use Rattle.answers.specs.Answers.{shortNumber};
 ghost use Rattle.code.specs.declared.SheetAnswer.the-variants.{Accepted};
 ghost use Rattle.code.specs.Definitions.ClassSheets.{differentBytes};
 ghost use Rattle.code.specs.Definitions.Lists.{if_then_else_};
 ghost use Rattle.image.specs.Image.{imageLength, imageOf, Packable};
-ghost use Rattle.giving.specs.Given.{Answered};
+ghost use Rattle.giving.specs.Given.{Answered, classesIn};
 
 // The lower of a refusal and 13, where a buffer is too short.
 fn lower(refusal: u64, short: bool) -> u64
@@ -70,7 +70,7 @@ pub fn put_classes(answer: SheetAnswer, classes: Classes, out: &mut [u8]) -> u64
 // The classes that stand at the start of the bytes.
 pub fn classes_in(bytes: &[u8]) -> Classes
     requires { ⌜ differentBytes ≤ length (now bytes) ⌝ }
-    ensures { λ r. ⌜ r ≡ record { entries = take differentBytes (now (bytes .entry)) } ⌝ }
+    ensures { λ r. ⌜ r ≡ classesIn (now (bytes .entry)) ⌝ }
 {
     let mut entries = [0u8; Classes::BYTES];
     copy_at(&mut entries, 0, bytes, Classes::BYTES);

@@ -4,6 +4,8 @@ use mathlib.Core.List.{List, [], _∷_, _++_}
 use mathlib.Core.Logic.{inl, inr}
 use Prim.Native.Nat.{ℕ}
 use native.Mathlib.Omega.{arith}
+use Rattle.answers.specs.Answers.{shortNumber}
+use Rattle.code.specs.declared.Classes.{Classes}
 use Rattle.code.specs.declared.Enlarged.{Enlarged}
 use Rattle.code.specs.declared.Refusal.{Refusal}
 use Rattle.code.specs.declared.Refusal.the-variants.{ShortBuffer}
@@ -18,10 +20,7 @@ use Rattle.code.specs.declared.Splitting.the-variants.{Split, Refused as Not-sp
 use Rattle.code.specs.Definitions.Answers.{refusalNumber}
 use Rattle.code.specs.Definitions.Operations.{Condition, Lowest, NoneHolds, encodingConditions, readingConditions, verdictConditions, Encodes, ReadsMessage, Judges}
 use Rattle.code.specs.Definitions.Sheets.{limits}
-use Rattle.code.specs.Definitions.Texts.{splittingConditions, SplitsText}
-
-abbrev pub shortNumber : ℕ
-shortNumber = refusalNumber ShortBuffer
+use Rattle.code.specs.Definitions.Splitting.{splittingConditions, SplitsText}
 
 -- The answer is too short to be told, whatever the other buffers are.
 abbrev pub noAnswer : Condition
@@ -61,8 +60,8 @@ abbrev untoldSplitting : Splitting → ℕ
 untoldSplitting (Split k) = shortNumber
 untoldSplitting (Not-split r) = refusalNumber r
 
-pub untold-splitting : {classes : List ℕ} {v : Enlarged} {s b m f g w : List ℕ} {e : Splitting} {n : ℕ} → SplitsText limits classes v s [] [] [] [] [] b m f g w e
-    → n ≡ untoldSplitting e → Untold (splittingConditions limits classes v s [] [] [] [] []) n
+pub untold-splitting : {v : Enlarged} {classes : Classes} {s b m f g w : List ℕ} {e : Splitting} {n : ℕ} → SplitsText limits v classes s [] [] [] [] [] b m f g w e
+    → n ≡ untoldSplitting e → Untold (splittingConditions limits v classes s [] [] [] [] []) n
 untold-splitting (SplitsText.refused {r} h i j k l m) = untold-refused r _ h
 untold-splitting (SplitsText.split h d c o i j k l) = untold-none _ h
 

@@ -2,6 +2,7 @@
 // holds.
 
 use answers::number;
+use code::Classes;
 use code::Encoding;
 use code::Enlarged;
 use code::Judgement;
@@ -11,8 +12,7 @@ use code::Splitting;
 ghost use mathlib.Core.List.{[]};
 ghost use Rattle.code.specs.Definitions.Operations.{encodingConditions, readingConditions, verdictConditions};
 ghost use Rattle.code.specs.Definitions.Sheets.{limits};
-ghost use Rattle.code.specs.Definitions.Texts.{splittingConditions};
-ghost use Rattle.letters.specs.Letters.{turkishClasses};
+ghost use Rattle.code.specs.Definitions.Splitting.{splittingConditions};
 ghost use Rattle.untold.specs.Untold.{Untold};
 
 pub fn untold_encoding(value: Enlarged, words: &[u8]) -> u64
@@ -54,8 +54,8 @@ pub fn untold_verdict(value: Enlarged) -> u64
     }
 }
 
-pub fn untold_splitting(value: Enlarged, text: &[u8]) -> u64
-    ensures { λ r. ⌜ Untold (splittingConditions limits turkishClasses value (now (text .entry)) [] [] [] [] []) r ⌝ }
+pub fn untold_splitting(value: Enlarged, classes: Classes, text: &[u8]) -> u64
+    ensures { λ r. ⌜ Untold (splittingConditions limits value classes (now (text .entry)) [] [] [] [] []) r ⌝ }
 {
     let mut out = [0u8; 0];
     let mut message = [0u8; 0];
@@ -64,6 +64,7 @@ pub fn untold_splitting(value: Enlarged, text: &[u8]) -> u64
     let mut work = [0u64; 0];
     let e = splitting::split(
         value,
+        classes,
         text,
         &mut out,
         &mut message,

@@ -1,17 +1,14 @@
 -- `some_mark_letter` looks at each of the marks.
-use mathlib.Core.Bool.{_||_, or-assoc, or-false}
 use borrow.Author.Needs.{needs}
-use Rattle.code.specs.Definitions.Lists.{any}
 use Rattle.code.specs.Definitions.Texts.{isLetter}
+use Rattle.classes.specs.Marks.{marks-tested}
 use Rattle.classed.proofs.some_mark_letter.Statement.{statement}
 use Rattle.classed.proofs.some_mark_letter.Tie as tie
 
 returns : tie.Need-returns
-unfolding any
 returns c =
     let square = c .before .before .before in
     let round = square .before .before .before in
-    let letter = isLetter (round .before .before .before .args .classes .now) in
     rw (
       c .or4 .ensures,
       c .before .or3 .ensures,
@@ -22,9 +19,8 @@ returns c =
       round .or .ensures,
       round .before .is-letter2 .ensures,
       round .before .before .is-letter .ensures,
-      or-assoc (letter 40) (letter 41) (letter 91 || letter 93),
-      or-false (letter 93),
     )
+    (marks-tested (isLetter (round .before .before .before .args .classes .now)))
 
 pub some-mark-letter-spec : {M : Type 1} → statement M
 some-mark-letter-spec =

@@ -1,18 +1,15 @@
--- The five tests are joined as `any` joins them.
-use mathlib.Core.Bool.{_||_, or-assoc, or-false}
+-- The five tests are joined as `any` joins them (`marks-tested`).
 use borrow.Author.Needs.{needs}
-use Rattle.code.specs.Definitions.Lists.{any}
 use Rattle.classes.specs.Filling.{fromTo}
+use Rattle.classes.specs.Marks.{marks-tested}
 use Rattle.classes.proofs.takes_mark.Statement.{statement}
 use Rattle.classes.proofs.takes_mark.Tie as tie
 
 returns : tie.Need-returns
-unfolding any
 returns c =
     let square = c .before .before .before in
     let round = square .before .before .before in
     let a = round .before .before .before .args in
-    let taken = fromTo (a .lowest) (a .highest) in
     rw (
       c .or4 .ensures,
       c .before .or3 .ensures,
@@ -23,9 +20,8 @@ returns c =
       round .or .ensures,
       round .before .takes-in2 .ensures,
       round .before .before .takes-in .ensures,
-      or-assoc (taken 40) (taken 41) (taken 91 || taken 93),
-      or-false (taken 93),
     )
+    (marks-tested (fromTo (a .lowest) (a .highest)))
 
 pub takes-mark-spec : {M : Type 1} → statement M
 takes-mark-spec =
