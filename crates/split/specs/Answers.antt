@@ -1,4 +1,4 @@
--- What the program answers for a text, whole: the refusal of the sheet, that of the text, or the text split into syllables.
+-- What the program answers for a text, whole: the refusal of the code sheet, that of the class sheet, that of the text, or the text split into syllables.
 use mathlib.Core.Path.{_≡_}
 use mathlib.Core.Bool.{Bool, true}
 use mathlib.Core.List.{List, []}
@@ -12,6 +12,8 @@ use Rattle.code.specs.declared.Splitting.{Splitting}
 use Rattle.code.specs.declared.Splitting.the-variants.{Split, Refused as Not-split}
 use Rattle.code.specs.declared.Judgement.the-variants.{Refused as Not-judged}
 use Rattle.code.specs.declared.Taken.{Taken}
+use Rattle.code.specs.declared.TakenClasses.{TakenClasses}
+use Rattle.code.specs.Definitions.ClassSheets.{takenClasses}
 use Rattle.code.specs.Definitions.Lists.{if_then_else_}
 use Rattle.code.specs.Definitions.Sheets.{limits, taken}
 use Rattle.code.specs.Definitions.Tables.{tableOf}
@@ -29,38 +31,47 @@ codeGiven named sheet = if named then taken limits sheet else record { answer = 
 abbrev pub refusedRecord : Refusal → List ℕ
 refusedRecord r = printed (Not-judged r) [] [] []
 
--- What is printed for a text by what the sheet gives.
-pub data Answer (t : Taken) (text : List ℕ) : List ℕ → Type 0 where
-  sheet-refused : {r : Refusal} → t .answer ≡ Refused r → Answer t text (refusedRecord r)
-  text-refused : t .answer ≡ Accepted → limits .text < length text → Answer t text (refusedRecord MessageLength)
-  output : {o : List ℕ} → t .answer ≡ Accepted → length text ≤ limits .text → Splits (tableOf (t .code)) turkishClasses text o → Answer t text o
+-- What a named class sheet gives; the Turkish letters where none is named.
+unfoldable pub classesGiven : Bool → List ℕ → TakenClasses
+classesGiven named sheet = if named then takenClasses limits sheet else record { answer = Accepted; classes = record { entries = turkishClasses } }
+
+-- What is printed for a text by what the two sheets give. The refusal of the code sheet comes first, then that of the class sheet, then that of the text.
+pub data Answer (t : Taken) (k : TakenClasses) (text : List ℕ) : List ℕ → Type 0 where
+  sheet-refused : {r : Refusal} → t .answer ≡ Refused r → Answer t k text (refusedRecord r)
+  classes-refused : {r : Refusal} → t .answer ≡ Accepted → k .answer ≡ Refused r → Answer t k text (refusedRecord r)
+  text-refused : t .answer ≡ Accepted → k .answer ≡ Accepted → limits .text < length text → Answer t k text (refusedRecord MessageLength)
+  output : {o : List ℕ} → t .answer ≡ Accepted → k .answer ≡ Accepted → length text ≤ limits .text → Splits (tableOf (t .code)) (k .classes .entries) text o
+      → Answer t k text o
 
 -- the bytes that the longest result may take
 abbrev pub outputRoom : ℕ
 outputRoom = 2 * limits .text + 1
 
 -- This is printed, and stands at the start of the output buffer.
-pub record Shown (t : Taken) (text o o′ : List ℕ) (r : ℕ) : Type 0 where
+pub record Shown (t : Taken) (k : TakenClasses) (text o o′ : List ℕ) (r : ℕ) : Type 0 where
   pub bytes : List ℕ
-  pub right : Answer t text bytes
+  pub right : Answer t k text bytes
   pub starts : Starts bytes o o′ r
 
 -- A splitting is right: its output stands in the buffer, or its refusal is to be printed.
-pub data SplitsGiven (t : Taken) (text o o′ : List ℕ) : Splitting → Type 0 where
-  stands : {n : ByteCount} → Shown t text o o′ (n .0) → SplitsGiven t text o o′ (Split n)
-  refused : {r : Refusal} → o′ ≡ o → Answer t text (refusedRecord r) → SplitsGiven t text o o′ (Not-split r)
+pub data SplitsGiven (t : Taken) (k : TakenClasses) (text o o′ : List ℕ) : Splitting → Type 0 where
+  stands : {n : ByteCount} → Shown t k text o o′ (n .0) → SplitsGiven t k text o o′ (Split n)
+  refused : {r : Refusal} → o′ ≡ o → Answer t k text (refusedRecord r) → SplitsGiven t k text o o′ (Not-split r)
 
 -- A refusal is put into the buffer; an output stays.
 pub data Printed (o o′ : List ℕ) (r : ℕ) : Splitting → Type 0 where
   stays : {n : ByteCount} → o′ ≡ o → r ≡ n .0 → Printed o o′ r (Split n)
   put : {q : Refusal} → Starts (refusedRecord q) o o′ r → Printed o o′ r (Not-split q)
 
--- The answer to a text, with a sheet or without: o is the output buffer.
-abbrev pub Answers : Bool → (sheet text o o′ : List ℕ) → ℕ → Type 0
-Answers named sheet text o o′ r = Shown (codeGiven named sheet) text o o′ r
+-- The answer to a text, with each sheet or without: o is the output buffer.
+abbrev pub Answers : Bool → List ℕ → Bool → (classSheet text o o′ : List ℕ) → ℕ → Type 0
+Answers named sheet lettered classSheet text o o′ r = Shown (codeGiven named sheet) (classesGiven lettered classSheet) text o o′ r
 
--- The same for the first k bytes of a file's buffer and the first n of an input's. A text or a sheet that fills its buffer is refused, however long it is.
-pub record AnswersInput (named : Bool) (file : List ℕ) (k : ℕ) (input : List ℕ) (n : ℕ) (o o′ : List ℕ) (r : ℕ) : Type 0 where
-  pub answers : Answers named (take k file) (take n input) o o′ r
-  pub full : codeGiven named (take k file) .answer ≡ Accepted → n ≡ length input → answers .bytes ≡ refusedRecord MessageLength
+-- The same for the first k bytes of the buffer of a code sheet's file, the first j of a class sheet's and the first n of an input's. What fills its buffer is
+-- refused, however long it is.
+pub record AnswersInput (named : Bool) (file : List ℕ) (k : ℕ) (lettered : Bool) (classFile : List ℕ) (j : ℕ) (input : List ℕ) (n : ℕ) (o o′ : List ℕ) (r : ℕ) : Type 0 where
+  pub answers : Answers named (take k file) lettered (take j classFile) (take n input) o o′ r
   pub sheet-full : named ≡ true → k ≡ length file → answers .bytes ≡ refusedRecord SheetLength
+  pub classes-full : codeGiven named (take k file) .answer ≡ Accepted → lettered ≡ true → j ≡ length classFile → answers .bytes ≡ refusedRecord SheetLength
+  pub full : codeGiven named (take k file) .answer ≡ Accepted → classesGiven lettered (take j classFile) .answer ≡ Accepted → n ≡ length input
+      → answers .bytes ≡ refusedRecord MessageLength

@@ -1,12 +1,16 @@
-// Splits the text on standard input into syllables, by the twelve Turkish types or by the code sheet in the file that its argument names. Writes the result on
-// standard output.
+// Splits the text on standard input into syllables: by the twelve Turkish types and letters, or by the code sheet in the file that its first argument names, and
+// by the letters of the class sheet in the file that its second argument names. Writes the result on standard output.
 
+use classes::take_classes;
+use code::ClassSheet;
+use code::Code;
 use code::Judgement;
 use code::Refusal;
 use code::Sheet;
 use code::SheetAnswer;
 use code::Splitting;
 use code::Taken;
+use code::TakenClasses;
 use code::Text;
 use enlargements::plain;
 use libc::STDERR_FILENO;
@@ -18,10 +22,11 @@ ghost use mathlib.Core.Path.{_≡_};
 ghost use Prim.Native.Nat.{_<_};
 ghost use lib.ListN.{length};
 ghost use Rattle.code.specs.declared.SheetAnswer.the-variants.{Accepted};
+ghost use Rattle.code.specs.Definitions.ClassSheets.{FromClassSheet};
 ghost use Rattle.code.specs.Definitions.Sheets.{limits, FromSheet};
 ghost use Rattle.io.specs.Counts.{Counts};
 ghost use Rattle.writing.specs.Puts.{Starts};
-ghost use Rattle.split.specs.Answers.{codeGiven, outputRoom, refusedRecord, SplitsGiven, Printed, Answers, AnswersInput};
+ghost use Rattle.split.specs.Answers.{codeGiven, classesGiven, outputRoom, refusedRecord, SplitsGiven, Printed, Answers, AnswersInput};
 
 pub struct Output {}
 
@@ -44,22 +49,37 @@ fn give(named: bool, sheet: &[u8]) -> Taken
     }
 }
 
-// The refusal of the sheet, or the text split by its code.
-fn split_by(given: Taken, text: &[u8], out: &mut [u8]) -> Splitting
-    requires { ⌜ (given .answer ≡ Accepted → FromSheet limits (given .code)) × (length (now out) ≡ outputRoom) ⌝ }
-    ensures { λ r. ⌜ SplitsGiven given (now (text .entry)) (now (out .entry)) (now (out .exit)) r ⌝ }
+// The classes of a program that a class sheet was named to, or was not.
+fn give_classes(named: bool, sheet: &[u8]) -> TakenClasses
+    ensures { λ r. ⌜ r ≡ classesGiven named (now (sheet .entry)) ⌝ }
 {
-    let answer = given.answer;
+    if named {
+        return take_classes(sheet);
+    }
+    let letters = letters::turkish();
+    TakenClasses {
+        answer: SheetAnswer::Accepted,
+        classes: letters,
+    }
+}
+
+// The refusal of the class sheet, or the text split by an accepted code and its classes.
+fn split_by(code: Code, letters: TakenClasses, text: &[u8], out: &mut [u8]) -> Splitting
+    requires { ⌜ FromSheet limits code × (letters .answer ≡ Accepted → FromClassSheet limits (letters .classes)) × (length (now out) ≡ outputRoom) ⌝ }
+    ensures { λ r. ⌜ SplitsGiven (record { answer = Accepted; code = code }) letters (now (text .entry)) (now (out .entry)) (now (out .exit)) r ⌝ }
+{
+    let answer = letters.answer;
     match answer {
         SheetAnswer::Refused(refusal) => Splitting::Refused(refusal),
         SheetAnswer::Accepted => {
-            let value = plain(given.code);
+            let value = plain(code);
             let mut message = [0u8; Text::BYTES];
             let mut first = [0u8; Text::BYTES];
             let mut second = [0u8; Text::BYTES];
             let mut work = [0u64; Text::BYTES + 1];
             splitting::split(
                 value,
+                letters.classes,
                 text,
                 out,
                 &mut message,
@@ -68,6 +88,18 @@ fn split_by(given: Taken, text: &[u8], out: &mut [u8]) -> Splitting
                 &mut work,
             )
         }
+    }
+}
+
+// The refusal of the code sheet, which comes first; or what its code gives.
+fn split_given(given: Taken, letters: TakenClasses, text: &[u8], out: &mut [u8]) -> Splitting
+    requires { ⌜ (given .answer ≡ Accepted → FromSheet limits (given .code)) × (letters .answer ≡ Accepted → FromClassSheet limits (letters .classes)) × (length (now out) ≡ outputRoom) ⌝ }
+    ensures { λ r. ⌜ SplitsGiven given letters (now (text .entry)) (now (out .entry)) (now (out .exit)) r ⌝ }
+{
+    let answer = given.answer;
+    match answer {
+        SheetAnswer::Refused(refusal) => Splitting::Refused(refusal),
+        SheetAnswer::Accepted => split_by(given.code, letters, text, out),
     }
 }
 
@@ -90,32 +122,52 @@ fn put_splitting(s: Splitting, out: &mut [u8]) -> usize
     }
 }
 
-// Puts what is printed for a text at the start of `out`, and gives its length.
-fn answer(named: bool, sheet: &[u8], text: &[u8], out: &mut [u8]) -> usize
+// Puts what is printed for a text at the start of `out`, and gives its length. Each sheet is named or not.
+fn answer(
+    named: bool,
+    sheet: &[u8],
+    lettered: bool,
+    classes: &[u8],
+    text: &[u8],
+    out: &mut [u8],
+) -> usize
     requires { ⌜ length (now out) ≡ outputRoom ⌝ }
-    ensures { λ r. ⌜ Answers named (now (sheet .entry)) (now (text .entry)) (now (out .entry)) (now (out .exit)) r ⌝ }
+    ensures { λ r. ⌜ Answers named (now (sheet .entry)) lettered (now (classes .entry)) (now (text .entry)) (now (out .entry)) (now (out .exit)) r ⌝ }
 {
     let given = give(named, sheet);
-    let s = split_by(given, text, out);
+    let letters = give_classes(lettered, classes);
+    let s = split_given(given, letters, text, out);
     put_splitting(s, out)
 }
 
-// The answer to the first n bytes of an input and the first k of a file. Each buffer is longer than a text or a sheet may be, so what fills it is refused.
-fn answer_input(named: bool, file: &[u8], k: usize, input: &[u8], n: usize, out: &mut [u8]) -> usize
-    requires { ⌜ Counts k (now file) × Counts n (now input) × (limits .bytes < length (now file)) × (limits .text < length (now input)) × (length (now out) ≡ outputRoom) ⌝ }
-    ensures { λ r. ⌜ AnswersInput named (now (file .entry)) k (now (input .entry)) n (now (out .entry)) (now (out .exit)) r ⌝ }
+// The answer to the first n bytes of an input, the first k of a code sheet's file and the first j of a class sheet's. Each buffer is longer than what it may hold, so
+// what fills it is refused.
+fn answer_input(
+    named: bool,
+    file: &[u8],
+    k: usize,
+    lettered: bool,
+    classes: &[u8],
+    j: usize,
+    input: &[u8],
+    n: usize,
+    out: &mut [u8],
+) -> usize
+    requires { ⌜ Counts k (now file) × Counts j (now classes) × Counts n (now input) × (limits .bytes < length (now file)) × (limits .classes < length (now classes))
+        × (limits .text < length (now input)) × (length (now out) ≡ outputRoom) ⌝ }
+    ensures { λ r. ⌜ AnswersInput named (now (file .entry)) k lettered (now (classes .entry)) j (now (input .entry)) n (now (out .entry)) (now (out .exit)) r ⌝ }
 {
-    answer(named, &file[..k], &input[..n], out)
+    answer(named, &file[..k], lettered, &classes[..j], &input[..n], out)
 }
 
-// The answer to standard input on standard output. What cannot be read or written is told on standard error, and a sheet or a text that was not read whole gets
-// no answer.
+// The answer to standard input on standard output. What cannot be read or written is told on standard error, and a sheet, a class sheet or a text that was not
+// read whole gets no answer.
 fn main() {
     let arguments = os::arg_count();
-    if 2 < arguments {
+    if 3 < arguments {
         io::write_all(
             STDERR_FILENO,
-            b"split takes at most one argument; usage: split [SHEET.csv] < TEXT\n",
+            b"split takes at most two arguments; usage: split [SHEET.csv [CLASSES.classes]] < TEXT\n",
         );
         return;
     }
@@ -125,6 +177,12 @@ fn main() {
         os::fail(b"split: cannot read the code sheet");
         return;
     };
+    let mut classes = [0u8; ClassSheet::BYTES + 1];
+    let classed = streams::read_named(2, arguments, &mut classes);
+    let Input::Bytes(j) = classed else {
+        os::fail(b"split: cannot read the class sheet");
+        return;
+    };
     let mut input = [0u8; Text::BYTES + 1];
     let read = streams::read_input(STDIN_FILENO, &mut input);
     let Input::Bytes(n) = read else {
@@ -132,7 +190,17 @@ fn main() {
         return;
     };
     let mut out = [0u8; Output::BYTES];
-    let length = answer_input(1 < arguments, &file, k, &input, n, &mut out);
+    let length = answer_input(
+        1 < arguments,
+        &file,
+        k,
+        2 < arguments,
+        &classes,
+        j,
+        &input,
+        n,
+        &mut out,
+    );
     if !io::write_all(STDOUT_FILENO, &out[..length]) {
         os::fail(b"split: cannot write standard output");
     }

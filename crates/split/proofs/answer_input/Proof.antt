@@ -1,4 +1,4 @@
--- Parts of the file and of the input are answered, and a full buffer is refused.
+-- Parts of the files and of the input are answered, and a full buffer is refused.
 use borrow.Author.Needs.{needs}
 use Rattle.split.specs.Ways.{input-answered}
 use Rattle.split.proofs.answer_input.Statement.{statement}
@@ -8,4 +8,4 @@ returns : tie.Need-returns
 returns c = search input-answered
 
 pub answer-input-spec : {M : Type 1} → statement M
-answer-input-spec = tie.close (tie.spec (λ c. search needs) (λ c. search needs) (λ c κs. search needs) (λ c. search needs) returns)
+answer-input-spec = tie.close (tie.spec (λ c. search needs) (λ c. search needs) (λ c. search needs) (λ c κs. search needs) (λ c. search needs) returns)

@@ -7,11 +7,13 @@ use Rattle.split.proofs.main.Tie as tie
 
 answer-input-requires : tie.Need-answer-input-requires
 answer-input-requires c κs =
-    let told = c .before .before .before .before in
+    let told = c .before .before .before .before .before in
     let counts = holds-bytes _ (told .read .given .1) (told .before .before .before .read-input .ensures) in
-    let sheet-told = told .before .before .before .before .before .before in
+    let classes-told = told .before .before .before .before .before .before in
+    let classes-counts = holds-bytes _ (classes-told .classed .given .1) (classes-told .before .before .before .read-named2 .ensures .holds) in
+    let sheet-told = classes-told .before .before .before .before .before .before in
     let sheet-counts = holds-bytes _ (sheet-told .listed .given .1) (sheet-told .before .before .before .read-named .ensures .holds) in
-    search (needs, counts, sheet-counts)
+    search (needs, counts, classes-counts, sheet-counts)
 
 array-share-prefix-out : tie.Need-array-share-prefix-out
 array-share-prefix-out c = answer-counts (c .before .answer-input .ensures .answers) .0
@@ -40,6 +42,14 @@ main-spec =
     (λ c. search needs)
     (λ c. search needs)
     (λ c κs. search needs)
+    (λ c. search needs)
+    (λ c. search needs)
+    (λ c κs. search needs)
+    (λ c. search needs)
+    (λ c. search needs)
+    (λ c. search needs)
+    (λ c κs. search needs)
+    (λ c. search needs)
     (λ c. search needs)
     (λ c. search needs)
     (λ c. search needs)
