@@ -1,9 +1,11 @@
-// A trial of splitting: lends the buffers, writes the answer, and what the buffers hold then.
+// Trials of splitting: lends the buffers, writes the answer, and what the buffers hold then.
 
 use crate::buffers;
+use crate::class_sheets;
 use crate::lists;
 use crate::tables;
 use crate::trials;
+use code::Classes;
 use code::Enlarged;
 use code::Splitting;
 use copying::copy_at;
@@ -82,6 +84,7 @@ fn write_splitting(answer: Splitting, quoted: bool, out: &[u8]) -> usize {
 
 fn split_in(
     value: Enlarged,
+    letters: Classes,
     quoted: bool,
     text: &[u8],
     out: &mut [u8],
@@ -90,7 +93,7 @@ fn split_in(
     second: &mut [u8],
     work: &mut [u64],
 ) {
-    let answer = splitting::split(value, text, out, message, first, second, work);
+    let answer = splitting::split(value, letters, text, out, message, first, second, work);
     let n = write_splitting(answer, quoted, out);
     buffers::write_kept(buffers::is_kept(out, n));
     buffers::write_used(b"; message ", message);
@@ -99,8 +102,7 @@ fn split_in(
     buffers::write_work(work);
 }
 
-pub fn split(line: &[u8]) {
-    let value = tables::of_trial(line, 8);
+fn split_by(line: &[u8], value: Enlarged, letters: Classes) {
     let mut text = [0u8; trials::ENTRIES];
     let n = put_text(line, &mut text);
     let a = fields::number_within(line, 3, buffers::OUTPUT);
@@ -115,6 +117,7 @@ pub fn split(line: &[u8]) {
     let mut work = [buffers::WORK_BEFORE; buffers::ROOM];
     split_in(
         value,
+        letters,
         is_quoted(line),
         &text[0..n],
         &mut out[0..a],
@@ -123,4 +126,16 @@ pub fn split(line: &[u8]) {
         &mut second[0..d],
         &mut work[0..e],
     );
+}
+
+// By the Turkish letters.
+pub fn split(line: &[u8]) {
+    let value = tables::of_trial(line, 8);
+    split_by(line, value, letters::turkish());
+}
+
+// By the letters of a class sheet.
+pub fn split_lettered(line: &[u8]) {
+    let value = tables::of_trial(line, 9);
+    split_by(line, value, class_sheets::of_trial(line, 8));
 }
