@@ -109,14 +109,19 @@ module _ {whole : List (List (List ℕ))} {c : List ℕ} {upside twice : Bool} (
       by-test b h true e = refl
       by-test b h false e = sym (s .others b h e)
 
-  sofar-ends : {a : SheetAnswer} → a ≡ judged upside twice → Answers whole c a
+  sofar-ends : {a : SheetAnswer} → a ≡ judged false upside twice → Answers whole c a
   unfolding takenRecords any
   sofar-ends e = rw e (by-flags upside twice is-upside is-twice)
     where
-      by-flags : (u t : Bool) → refused19 (rangesIn whole) ≡ u → refused20 (rangesIn whole) ≡ t → Answers whole c (judged u t)
+      by-flags : (u t : Bool) → refused19 (rangesIn whole) ≡ u → refused20 (rangesIn whole) ≡ t → Answers whole c (judged false u t)
       by-flags true t p q = refused {r = ClassRange} (rw (← s .bad, p))
       by-flags false true p q = refused {r = ClassOverlap} (rw (← s .bad, p, q))
       by-flags false false p q = accepted (rw (← s .bad, p, q, is-classes))
+
+-- A record is malformed, or takes in a mark.
+refused-18 : (g : List (List (List ℕ))) {c : List ℕ} → badRecords g ≡ true → {a : SheetAnswer} → a ≡ Refused ClassRecord → Answers g c a
+unfolding takenRecords
+refused-18 g bad e = rw e (refused {r = ClassRecord} (rw bad))
 
 -- The same by position
 pub record Passed (s c : List ℕ) (upside twice : Bool) (at : ℕ) : Type 0 where
@@ -144,7 +149,7 @@ was-found {low = low} {high = high} {symbol = symbol} {next = next} (found {lowe
 -- One record further
 module _ {s c : List ℕ} {upside twice : Bool} {at : ℕ} (p : Passed s c upside twice at) where
   -- past the last record
-  pub passing-ends : {a : SheetAnswer} → length s < at → a ≡ judged upside twice → Answers (recordFields s) c a
+  pub passing-ends : {a : SheetAnswer} → length s < at → a ≡ judged false upside twice → Answers (recordFields s) c a
   passing-ends h = sofar-ends (rw (rest-past s at h) at (p .sofar))
 
   pub passing-long : length c ≡ differentBytes
@@ -155,11 +160,10 @@ module _ {s c : List ℕ} {upside twice : Bool} {at : ℕ} (p : Passed s c upsid
     passing-clean = p .clean h
 
     module _ {r : Record} (a : RecordFrom s at r) where
-      pub passing-wrong : r ≡ Wrong → Answers (recordFields s) c (Refused ClassRecord)
-      unfolding takenRecords
+      pub passing-wrong : {b : SheetAnswer} → r ≡ Wrong → b ≡ judged true upside twice → Answers (recordFields s) c b
       passing-wrong e =
           let bad : any malformed (restOf s at) ≡ true = rw (rest-within s at h) (was-wrong a e) in
-          refused {r = ClassRecord} (rw (← p .sofar .bad, bad))
+          refused-18 (recordFields s) (sym (p .sofar .bad) ∙ rw bad)
 
       module _ {low high symbol next : ℕ} (e : r ≡ Found low high symbol next) where
         here : RangeFrom s at low high symbol next
@@ -168,9 +172,8 @@ module _ {s c : List ℕ} {upside twice : Bool} {at : ℕ} (p : Passed s c upsid
         sofar-here : Sofar (recordFields s) (here .fields ∷ restOf s next) c upside twice
         sofar-here = rw (rest-within s at h, here .first) at (p .sofar)
 
-        pub passing-mark : {t : Bool} → t ≡ any (fromTo low high) marks → t ≡ true → Answers (recordFields s) c (Refused ClassRecord)
-        unfolding takenRecords
-        passing-mark q y = refused {r = ClassRecord} (rw (sofar-mark sofar-here low high symbol (here .same) (sym q ∙ y)))
+        pub passing-mark : {b : SheetAnswer} {t : Bool} → t ≡ any (fromTo low high) marks → t ≡ true → b ≡ judged true upside twice → Answers (recordFields s) c b
+        passing-mark q y = refused-18 (recordFields s) (sofar-mark sofar-here low high symbol (here .same) (sym q ∙ y))
 
         pub passing-less : length s + 2 - next < length s + 2 - at
         passing-less = let b = here in omega (arith, b .long, b .within)

@@ -25,9 +25,13 @@ takenRecords g =
     if refused20 (rangesIn g) then noClasses ClassOverlap else
     record { answer = Accepted; classes = classesOf (rangesIn g) }
 
--- 19 and 20, by what was seen
-abbrev pub judged : Bool → Bool → SheetAnswer
-judged upside twice = if upside then Refused ClassRange else if twice then Refused ClassOverlap else Accepted
+-- 18 to 20, by what was seen
+abbrev pub judged : Bool → Bool → Bool → SheetAnswer
+judged bad upside twice =
+    if bad then Refused ClassRecord else
+    if upside then Refused ClassRange else
+    if twice then Refused ClassOverlap else
+    Accepted
 
 -- The answer, and the classes of an accepted sheet.
 pub data Answers (g : List (List (List ℕ))) (c : List ℕ) : SheetAnswer → Type 0 where

@@ -64,10 +64,13 @@ fn fill(entries: &mut [u8], lowest: u8, highest: u8, symbol: u8) -> bool
     twice
 }
 
-// The answer to a sheet without refusal 18: whether a range is upside down, whether two take in a byte.
-fn judge(upside: bool, twice: bool) -> SheetAnswer
-    ensures { λ r. ⌜ r ≡ judged upside twice ⌝ }
+// The lowest refusal, by what was seen: a record that is malformed or takes in a mark, a range that is upside down, a byte in two records.
+fn judge(bad: bool, upside: bool, twice: bool) -> SheetAnswer
+    ensures { λ r. ⌜ r ≡ judged bad upside twice ⌝ }
 {
+    if bad {
+        return SheetAnswer::Refused(Refusal::ClassRecord);
+    }
     if upside {
         return SheetAnswer::Refused(Refusal::ClassRange);
     }
@@ -88,11 +91,11 @@ fn take_records(s: &[u8], entries: &mut [u8]) -> SheetAnswer
     while at <= s.len() {
         match read_range(s, at) {
             Record::Wrong => {
-                return SheetAnswer::Refused(Refusal::ClassRecord);
+                return judge(true, upside, twice);
             }
             Record::Range(lowest, highest, symbol, next) => {
                 if takes_mark(lowest, highest) {
-                    return SheetAnswer::Refused(Refusal::ClassRecord);
+                    return judge(true, upside, twice);
                 }
                 upside = or(upside, highest < lowest);
                 twice = or(fill(entries, lowest, highest, symbol), twice);
@@ -100,7 +103,7 @@ fn take_records(s: &[u8], entries: &mut [u8]) -> SheetAnswer
             }
         }
     }
-    judge(upside, twice)
+    judge(false, upside, twice)
 }
 
 // A refused sheet gives the classes without any letter.

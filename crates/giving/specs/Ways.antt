@@ -23,19 +23,19 @@ module _ {a : SheetAnswer} {n : ℕ} {bytes b : List ℕ} {s : Bool} (short : s 
   pub given-written : {b′ : List ℕ} → a ≡ Accepted → s ≡ false → b′ ≡ written bytes b → Answered a n bytes b b′ 0
   given-written d h k = let l = sym short ∙ h in record { number = rw (d, l); buffer = rw (d, l) k }
 
-  pub given-refused : {r : Refusal} {k m : ℕ} → a ≡ Refused r → k ≡ refusalNumber r → m ≡ (if s then min k shortNumber else k) → Answered a n bytes b b m
-  given-refused d k h = record { number = rw (d, ← k, ← short) h; buffer = rw d }
+  pub given-refused : {r : Refusal} {m : ℕ} → a ≡ Refused r → m ≡ (if s then min (refusalNumber r) shortNumber else refusalNumber r) → Answered a n bytes b b m
+  given-refused d h = record { number = rw (d, ← short) h; buffer = rw d }
 
 -- The lower number
-module _ (k : ℕ) {s : Bool} {least : ℕ} (is : least ≡ shortNumber) where
-  pub lower-least : s ≡ true → least < k → least ≡ (if s then min k shortNumber else k)
+module _ (r : Refusal) {s : Bool} {own least : ℕ} (first : own ≡ refusalNumber r) (second : least ≡ shortNumber) where
+  pub lower-least : s ≡ true → least < own → least ≡ (if s then min (refusalNumber r) shortNumber else refusalNumber r)
   lower-least h l = rw h (omega arith)
 
-  pub lower-own : s ≡ true → k ≤ least → k ≡ (if s then min k shortNumber else k)
+  pub lower-own : s ≡ true → own ≤ least → own ≡ (if s then min (refusalNumber r) shortNumber else refusalNumber r)
   lower-own h l = rw h (omega arith)
 
-  pub lower-long : s ≡ false → k ≡ (if s then min k shortNumber else k)
-  lower-long h = rw h
+  pub lower-long : s ≡ false → own ≡ (if s then min (refusalNumber r) shortNumber else refusalNumber r)
+  lower-long h = rw h first
 
 -- Bytes copied to the start of a buffer
 pub front-pasted : (b s : List ℕ) (n : ℕ) {b′ : List ℕ} → length s ≡ n → b′ ≡ paste b 0 s n → b′ ≡ written s b

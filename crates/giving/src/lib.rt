@@ -13,22 +13,24 @@ ghost use Prim.Native.Nat.{min, _≤_};
 ghost use lib.ListN.{length};
 ghost use Rattle.answers.specs.Answers.{shortNumber};
 ghost use Rattle.code.specs.declared.SheetAnswer.the-variants.{Accepted};
+ghost use Rattle.code.specs.Definitions.Answers.{refusalNumber};
 ghost use Rattle.code.specs.Definitions.ClassSheets.{differentBytes};
 ghost use Rattle.code.specs.Definitions.Lists.{if_then_else_};
 ghost use Rattle.image.specs.Image.{imageLength, imageOf, Packable};
 ghost use Rattle.giving.specs.Given.{Answered, classesIn};
 
-// The lower of a refusal and 13, where a buffer is too short.
-fn lower(refusal: u64, short: bool) -> u64
-    ensures { λ r. ⌜ r ≡ (if short then min refusal shortNumber else refusal) ⌝ }
+// The number of a refusal, or 13 where that is lower and the buffer is too short.
+fn lower(refusal: Refusal, short: bool) -> u64
+    ensures { λ r. ⌜ r ≡ (if short then min (refusalNumber refusal) shortNumber else refusalNumber refusal) ⌝ }
 {
+    let own = number(refusal);
     let least = number(Refusal::ShortBuffer);
     if short {
-        if least < refusal {
+        if least < own {
             return least;
         }
     }
-    refusal
+    own
 }
 
 // Answers a sheet or a ban list that gives the value `e`: 0, and its image stands at the start of `table`; or the refusal's number.
@@ -45,7 +47,7 @@ pub fn put_table(answer: SheetAnswer, e: Enlarged, table: &mut [u8]) -> u64
             pack(e, table);
             0
         }
-        SheetAnswer::Refused(r) => lower(number(r), short),
+        SheetAnswer::Refused(r) => lower(r, short),
     }
 }
 
@@ -63,7 +65,7 @@ pub fn put_classes(answer: SheetAnswer, classes: Classes, out: &mut [u8]) -> u64
             copy_at(out, 0, &entries, Classes::BYTES);
             0
         }
-        SheetAnswer::Refused(r) => lower(number(r), short),
+        SheetAnswer::Refused(r) => lower(r, short),
     }
 }
 

@@ -50,10 +50,10 @@ fn give(named: bool, sheet: &[u8]) -> Taken
 }
 
 // The classes of a program that a class sheet was named to, or was not.
-fn give_classes(named: bool, sheet: &[u8]) -> TakenClasses
-    ensures { λ r. ⌜ r ≡ classesGiven named (now (sheet .entry)) ⌝ }
+fn give_classes(lettered: bool, sheet: &[u8]) -> TakenClasses
+    ensures { λ r. ⌜ r ≡ classesGiven lettered (now (sheet .entry)) ⌝ }
 {
-    if named {
+    if lettered {
         return take_classes(sheet);
     }
     let letters = letters::turkish();
@@ -70,7 +70,7 @@ fn split_by(code: Code, letters: TakenClasses, text: &[u8], out: &mut [u8]) -> S
 {
     let answer = letters.answer;
     match answer {
-        SheetAnswer::Refused(refusal) => Splitting::Refused(refusal),
+        SheetAnswer::Refused(r) => Splitting::Refused(r),
         SheetAnswer::Accepted => {
             let value = plain(code);
             let mut message = [0u8; Text::BYTES];

@@ -27,7 +27,7 @@ returns-2 c =
     (front-pasted (a .out .now) (a .classes .entries) differentBytes whole (c .before .before .copy-at .ensures))
 
 returns-3 : tie.Need-returns-3
-returns-3 c = given-refused refl (c .before .before .before .answer .given .1) (c .before .number2 .ensures) (c .lower .ensures)
+returns-3 c = given-refused refl (c .before .before .answer .given .1) (c .lower .ensures)
 
 pub put-classes-spec : {M : Type 1} → statement M
 put-classes-spec =
@@ -39,7 +39,6 @@ put-classes-spec =
     (λ c. search needs)
     copy-at-requires
     (λ c. search needs)
-    (λ c κs. search needs)
     (λ c κs. search needs)
     (λ c. search needs)
     returns-2

@@ -16,7 +16,7 @@ returns-2 : tie.Need-returns-2
 returns-2 c = given-written refl (c .before .before .before .before .before .enum-told .given .1) (c .before .before .before .before .if1 .left) (c .before .before .pack .ensures)
 
 returns-3 : tie.Need-returns-3
-returns-3 c = given-refused refl (c .before .before .before .answer .given .1) (c .before .number2 .ensures) (c .lower .ensures)
+returns-3 c = given-refused refl (c .before .before .answer .given .1) (c .lower .ensures)
 
 pub put-table-spec : {M : Type 1} → statement M
 put-table-spec =
@@ -27,7 +27,6 @@ put-table-spec =
     returns
     pack-requires
     (λ c. search needs)
-    (λ c κs. search needs)
     (λ c κs. search needs)
     (λ c. search needs)
     returns-2
