@@ -1,11 +1,10 @@
 -- One range more: what filling its bytes does to the classes, and to the test for a byte in two records.
 use mathlib.Core.Path.{_≡_, refl, sym, ap, _∙_}
-use mathlib.Core.Bool.{Bool, true, false, _&&_, _||_, true≢false, and-false}
+use mathlib.Core.Bool.{Bool, true, false, _&&_, _||_, true≢false}
 use mathlib.Core.List.{List, _∷_}
-use Prim.Native.Nat.{ℕ, _+_, _≤_, _<_}
+use Prim.Native.Nat.{ℕ, _+_, _<_}
 use native.Mathlib.Omega.{arith}
-use lib.Dec.{ltb, leb}
-use lib.ListN.{length}
+use lib.Dec.{ltb}
 use borrow.Author.Tests.{lt-ltb}
 use Rattle.code.specs.Definitions.ClassSheets.{Range, takesIn, differentBytes, allBytes, takers, classBy}
 use Rattle.code.specs.Definitions.Lists.{if_then_else_, any}
@@ -54,7 +53,7 @@ module _ (low high symbol : ℕ) {c d : List ℕ} {m : Bool} (f : FilledBy (from
   unfolding allBytes
   twice-next t =
       let split = any-alike (λ b. ltb 1 (seen c b + takers b (r ∷ g))) (λ b. (isLetter c b && takesIn b r) || ltb 1 (seen d b + takers b g)) (λ b. b) differentBytes
-          (λ b h. twice-at b refl (turned f small b h)) in
+      (λ b h. twice-at b refl (turned f small b h)) in
       let parts = split ∙ any-either (λ b. isLetter c b && takesIn b r) (λ b. ltb 1 (seen d b + takers b g)) allBytes in
       rw (parts, ← f .met) (exchange m t (any (λ b. ltb 1 (seen d b + takers b g)) allBytes))
     where

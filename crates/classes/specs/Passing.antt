@@ -1,17 +1,16 @@
 -- How a class sheet is passed record by record: what is known so far and the records to come are the sheet's.
 use mathlib.Core.Path.{_≡_, refl, sym, ap, subst, _∙_}
 use mathlib.Core.Bool.{Bool, true, false, _||_, or-assoc, or-false}
-use mathlib.Core.List.{List, [], _∷_, map}
+use mathlib.Core.List.{List, [], _∷_}
 use Prim.Native.Nat.{ℕ, _+_, _-_, _≤_, _<_}
 use native.Mathlib.Omega.{arith}
 use lib.Dec.{ltb}
-use lib.ListN.{length, drop, getD, replicate, length-replicate, getD-replicate}
-use borrow.Author.Tests.{le-ltb}
+use lib.ListN.{length, drop, replicate, length-replicate, getD-replicate}
 use Rattle.code.specs.declared.Refusal.the-variants.{ClassRecord, ClassRange, ClassOverlap}
 use Rattle.code.specs.declared.SheetAnswer.{SheetAnswer}
-use Rattle.code.specs.declared.SheetAnswer.the-variants.{Accepted, Refused}
+use Rattle.code.specs.declared.SheetAnswer.the-variants.{Refused}
 use Rattle.code.specs.Definitions.ClassSheets.{Range, rangeOf, malformed, takesMark, refused19, differentBytes, allBytes, takers, refused20, classBy, classesOf}
-use Rattle.code.specs.Definitions.Lists.{if_then_else_, any, table}
+use Rattle.code.specs.Definitions.Lists.{if_then_else_, any}
 use Rattle.code.specs.Definitions.Texts.{other, classOf, isLetter, marks}
 use Rattle.code.specs.Laws.Clean.{Clean, recordFields}
 use Rattle.code.specs.Laws.Lists.{any-table, any-alike, table-list}

@@ -33,8 +33,14 @@ fn takes_in(lowest: u8, highest: u8, b: u8) -> bool
 fn takes_mark(lowest: u8, highest: u8) -> bool
     ensures { λ r. ⌜ r ≡ any (fromTo lowest highest) marks ⌝ }
 {
-    let round = or(takes_in(lowest, highest, b'('), takes_in(lowest, highest, b')'));
-    let square = or(takes_in(lowest, highest, b'['), takes_in(lowest, highest, b']'));
+    let round = or(
+        takes_in(lowest, highest, b'('),
+        takes_in(lowest, highest, b')'),
+    );
+    let square = or(
+        takes_in(lowest, highest, b'['),
+        takes_in(lowest, highest, b']'),
+    );
     or(takes_in(lowest, highest, 0xB7), or(round, square))
 }
 

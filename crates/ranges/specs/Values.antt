@@ -9,7 +9,7 @@ use lib.Dec.{eqb}
 use lib.ListN.{length, drop, getD, List·getD-eq-default}
 use borrow.Author.Tests.{eqb-true}
 use Rattle.building.specs.Building.{word-digit, word-symbol}
-use Rattle.code.specs.Definitions.ClassSheets.{symbolOf, byteOf, digits}
+use Rattle.code.specs.Definitions.ClassSheets.{byteOf, digits}
 use Rattle.code.specs.Definitions.Lists.{every}
 use Rattle.code.specs.Definitions.Sheets.{isDigit, valueOf}
 use Rattle.code.specs.Definitions.Texts.{other}
