@@ -52,8 +52,8 @@ module _ (s : List ℕ) (from : ℕ) where
     pub low-digit : DigitAt s (leading (drop from s)) (from + 1) 1
     low-digit = field-digit s from 2 1 (from + 1) (omega arith) d (omega arith)
 
-    pub byte-small : {high low : ℕ} → high ≡ valueOf (getD s from 0) → low ≡ valueOf (getD s (from + 1) 0) → 16 * high + low < 256
-    byte-small p q = omega (arith, high-digit .small, low-digit .small)
+    pub digits-small : {high low : ℕ} → high ≡ valueOf (getD s from 0) → low ≡ valueOf (getD s (from + 1) 0) → (high < other) × (low < other)
+    digits-small p q = (omega (arith, high-digit .small), omega (arith, low-digit .small))
 
     pub byte-read : {high low : ℕ} → high ≡ valueOf (getD s from 0) → low ≡ valueOf (getD s (from + 1) 0) → 16 * high + low ≡ byteOf (leading (drop from s))
     byte-read p q = rw (p, q, high-digit .value, low-digit .value)

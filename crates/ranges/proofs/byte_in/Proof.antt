@@ -1,6 +1,6 @@
 -- Both bytes are digits of the field, so what they stand for makes a byte.
 use native.Mathlib.Omega.{arith}
-use Rattle.ranges.specs.Values.{high-digit, low-digit, byte-small, byte-read}
+use Rattle.ranges.specs.Values.{high-digit, low-digit, digits-small, byte-read}
 use Rattle.ranges.proofs.byte_in.Statement.{statement}
 use Rattle.ranges.proofs.byte_in.Tie as tie
 
@@ -20,10 +20,12 @@ value-of-requires-2 : tie.Need-value-of-requires-2
 value-of-requires-2 c κs = low-digit (c .before .before .before .before .args .s .now) (c .before .before .before .before .args .at) (c .before .before .before .before .pre) .digit
 
 mul-result : tie.Need-mul-result
-mul-result c = omega (arith, byte-small (c .before .before .before .before .before .args .s .now) (c .before .before .before .before .before .args .at) (c .before .before .before .before .before .pre) (c .before .before .value-of .ensures) (c .value-of2 .ensures))
+mul-result c = let small = digits-small (c .before .before .before .before .before .args .s .now) (c .before .before .before .before .before .args .at) (c .before .before .before .before .before .pre) (c .before .before .value-of .ensures) (c .value-of2 .ensures) in
+    omega (arith, small .0, small .1)
 
 add-result : tie.Need-add-result
-add-result c = omega (arith, byte-small (c .before .before .before .before .before .args .s .now) (c .before .before .before .before .before .args .at) (c .before .before .before .before .before .pre) (c .before .before .value-of .ensures) (c .value-of2 .ensures))
+add-result c = let small = digits-small (c .before .before .before .before .before .args .s .now) (c .before .before .before .before .before .args .at) (c .before .before .before .before .before .pre) (c .before .before .value-of .ensures) (c .value-of2 .ensures) in
+    omega (arith, small .0, small .1)
 
 returns : tie.Need-returns
 returns c = byte-read (c .before .before .before .before .before .args .s .now) (c .before .before .before .before .before .args .at) (c .before .before .before .before .before .pre) (c .before .before .value-of .ensures) (c .value-of2 .ensures)
