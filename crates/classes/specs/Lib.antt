@@ -2,5 +2,6 @@ pub mod Marks
 pub mod Filling
 pub mod Records
 pub mod Counting
+pub mod Sofar
 pub mod Passing
 pub mod Taking

@@ -61,7 +61,7 @@ upsideDown r = ltb (r .highest) (r .lowest)
 unfoldable pub refused19 : List Range → Bool
 refused19 g = any upsideDown g
 
--- every byte
+-- how many bytes there are, and all of them
 abbrev pub differentBytes : ℕ
 differentBytes = 256
 
