@@ -2,22 +2,21 @@
 -- enough.
 use mathlib.Core.Path.{_≡_, refl, _∙_}
 use mathlib.Core.Bool.{true, false}
-use mathlib.Core.List.{List, [], _∷_, map}
+use mathlib.Core.List.{List, map}
 use Prim.Native.Nat.{ℕ, _+_, _*_, _/_, _%_, _≤_, _<_}
 use native.Mathlib.Omega.{arith}
-use lib.ListN.{length, getD, length-append}
+use lib.ListN.{length, getD}
 use borrow.Author.Tests.{ltb-true}
 use Rattle.code.specs.Definitions.Lists.{any, every, table, sum, join}
 use Rattle.code.specs.Definitions.Sheets.{isDigit, fields, grid, badBytes}
 use Rattle.code.specs.Definitions.ClassSheets.{rangeOf, rangesOf, malformed, differentBytes}
 use Rattle.code.specs.Definitions.Texts.{other, classOf, isLetter}
-use Rattle.code.specs.Laws.Clean.{bad-end, body-end}
-use Rattle.code.specs.Laws.Lists.{length-table, table-same, table-map, map-table, any-table, every-table, sum-past, sum-bound}
+use Rattle.code.specs.Laws.Lists.{length-table, table-same, table-map, map-table, any-table, sum-past, sum-bound}
 use Rattle.table.specs.Digits.{digitOf, value-digit, digit-digit}
-use Rattle.table.specs.Join.{isPlain, fields-join, records-join, bad-join, plain-join, length-join}
+use Rattle.table.specs.Sheets.{recordOf, sheetOf, Digital, digital-table, sheet-bytes, sheet-grid, sheet-some, sheet-length}
 use Rattle.classed.specs.Letters.{Letters, letter-at}
 use Rattle.classed.specs.Singles.{single}
-use Rattle.classed.specs.Print.{fieldsOf, fieldsAt, gridOf, recordAt, bodyOf, print}
+use Rattle.classed.specs.Print.{fieldsOf, fieldsAt, gridOf, print}
 
 module _ (c : List ℕ) where
   -- The record of a letter: its fields are digits, it is not malformed, and its range is that letter.
@@ -43,22 +42,19 @@ module _ (c : List ℕ) where
 
   pub written-some : (l : List ℕ) → 1 ≤ length (print c l)
   unfolding print
-  written-some l = omega (arith, length-append (bodyOf c l) (13 ∷ 10 ∷ []))
+  written-some l = sheet-some (gridOf c l)
 
   module _ {l : List ℕ} (letters : Letters c differentBytes l) where
     -- What holds of the record of every letter holds of each record.
     at-each : (P : ℕ → Type 0) → ((b : ℕ) → b < differentBytes → isLetter c b ≡ true → P b) → (k : ℕ) → k < length l → P (getD l k 0)
     at-each P all k h = let at = letter-at c letters k h in all (getD l k 0) (at .0) (at .1)
 
-    digits-at : (k : ℕ) → k < length l → every (every isDigit) (fieldsAt c l k) ≡ true
-    digits-at = at-each (λ b. every (every isDigit) (fieldsOf c b) ≡ true) fields-digits
-
-    records-plain : every (every isPlain) (table (recordAt c l) (length l)) ≡ true
-    records-plain = every-table (every isPlain) (recordAt c l) (length l) (λ k h. plain-join (fieldsAt c l k) (digits-at k h))
+    digital : Digital (gridOf c l)
+    digital = digital-table (fieldsAt c l) (length l) (λ k h. (omega arith, at-each (λ b. every (every isDigit) (fieldsOf c b) ≡ true) fields-digits k h))
 
     pub written-bytes : badBytes false (print c l) ≡ false
     unfolding print
-    written-bytes = bad-end false (bodyOf c l) ∙ bad-join (table (recordAt c l) (length l)) records-plain
+    written-bytes = sheet-bytes digital
 
     pub written-formed : any malformed (gridOf c l) ≡ false
     written-formed = any-table malformed (fieldsAt c l) (length l) (at-each (λ b. malformed (fieldsOf c b) ≡ false) fields-formed)
@@ -70,12 +66,12 @@ module _ (c : List ℕ) where
         ∙ table-map (single c) l 0
 
     module _ (some : 1 ≤ length l) where
+      records-some : 1 ≤ length (gridOf c l)
+      records-some = rw (length-table (fieldsAt c l) (length l)) some
+
       pub written-grid : grid (print c l) ≡ gridOf c l
-      unfolding grid print
-      written-grid =
-          rw (body-end (bodyOf c l), records-join (table (recordAt c l) (length l)) (rw (length-table (recordAt c l) (length l)) some) records-plain)
-          (map-table fields (recordAt c l) (length l)
-          ∙ table-same (λ k. fields (recordAt c l k)) (fieldsAt c l) (length l) (λ k h. fields-join (fieldsAt c l k) (omega arith) (digits-at k h)))
+      unfolding print
+      written-grid = sheet-grid digital records-some
 
       pub written-ranges : rangesOf (print c l) ≡ map (single c) l
       unfolding rangesOf
@@ -86,11 +82,6 @@ module _ (c : List ℕ) where
       unfolding print join sum table
       written-short =
           let none : ℕ → ℕ = λ k. 0 in
-          let joined = length-join (13 ∷ 10 ∷ []) (table (recordAt c l) (length l)) (rw (length-table (recordAt c l) (length l)) some) in
-          omega (
-            arith,
-            length-append (bodyOf c l) (13 ∷ 10 ∷ []),
-            rw (map-table (λ (r : List ℕ). length r + 2) (recordAt c l) (length l)) at joined,
-            sum-bound (λ k. 9) none 9 (length l) (λ k h. omega arith),
-            sum-past none 0 (length l) (omega arith) (λ k i j. refl),
-          )
+          let joined : length (sheetOf (gridOf c l)) ≤ sum (table (λ k. length (recordOf (fieldsAt c l k)) + 2) (length l)) =
+          rw (map-table recordOf (fieldsAt c l) (length l), map-table (λ (r : List ℕ). length r + 2) (λ k. recordOf (fieldsAt c l k)) (length l)) at (sheet-length (gridOf c l) records-some) in
+          omega (arith, joined, sum-bound (λ k. 9) none 9 (length l) (λ k h. omega arith), sum-past none 0 (length l) (omega arith) (λ k i j. refl))

@@ -2,39 +2,30 @@
 -- back, and it has at most ten bytes for each ban.
 use mathlib.Core.Path.{_≡_, refl, sym, ap₂, _∙_}
 use mathlib.Core.Bool.{true, false, false≢true}
-use mathlib.Core.List.{List, [], _∷_, _++_, map}
+use mathlib.Core.List.{List, [], _∷_, map}
 use Prim.Native.Nat.{ℕ, _+_, _*_, _≤_, _<_}
 use native.Mathlib.Omega.{arith}
 use lib.Dec.{eqb}
-use lib.ListN.{length, length-append}
+use lib.ListN.{length}
 use borrow.Author.Tests.{eq-eqb, ne-eqb}
-use Rattle.code.specs.Definitions.Lists.{any, every, sum, join}
-use Rattle.code.specs.Definitions.Sheets.{isDigit, fields, grid, badBytes}
+use Rattle.code.specs.Definitions.Lists.{any, every, sum}
+use Rattle.code.specs.Definitions.Sheets.{isDigit, fields, badBytes}
 use Rattle.code.specs.Definitions.Bans.{Ban, isBan, bannedBy}
 use Rattle.code.specs.Definitions.BanLists.{banOf, badBan, banRecords, refused16, bansOf}
-use Rattle.code.specs.Laws.Clean.{bad-end, body-end}
 use Rattle.code.specs.Laws.Lists.{or-neither}
 use Rattle.copies.specs.BanLists.{Known, ban}
 use Rattle.copies.specs.Triples.{KnownBan}
-use Rattle.table.specs.Join.{isPlain, fields-join, records-join, bad-join, plain-join, length-join}
+use Rattle.table.specs.Join.{length-join}
+use Rattle.table.specs.Sheets.{recordOf, sheetOf, Digital, none, more, sheet-bytes, sheet-grid, sheet-some, sheet-length}
 use Rattle.listing.specs.Numbers.{numberField, number-back, number-digits, number-short, number-known}
 
-abbrev crlf : List ℕ
-crlf = 13 ∷ 10 ∷ []
-
-abbrev comma : List ℕ
-comma = 44 ∷ []
-
--- the fields of a ban's record, and its bytes
+-- the fields of a ban's record
 abbrev pub fieldsOf : Ban → List (List ℕ)
 fieldsOf b = numberField (b .x) ∷ numberField (b .y) ∷ numberField (b .z) ∷ []
 
-abbrev pub recordOf : Ban → List ℕ
-recordOf b = join comma (fieldsOf b)
-
 unfoldable pub print : List Ban → List ℕ
 print [] = []
-print (b ∷ bs) = join crlf (map recordOf (b ∷ bs)) ++ crlf
+print (b ∷ bs) = sheetOf (map fieldsOf (b ∷ bs))
 
 -- Where nothing is banned after one word twice, no ban names one word twice.
 ban-apart : (b : Ban) (bs : List Ban) → ((x y : ℕ) → bannedBy (b ∷ bs) x y y ≡ false) → b .y ≡ b .z → ⊥
@@ -67,35 +58,27 @@ module _ (n : ℕ) (few : n ≤ 100) where
     ban-good d =
         rw (number-known (b .x) x< n (w .x), number-known (b .y) y< n (w .y), number-known (b .z) z< n (w .z), number-back (b .y) y<, number-back (b .z) z<) (ne-eqb (b .y) (b .z) d)
 
-    record-short : length (recordOf b) ≤ 8
+    record-short : length (recordOf (fieldsOf b)) ≤ 8
     unfolding sum
-    record-short = omega (arith, length-join comma (fieldsOf b) (omega arith), number-short (b .x) x<, number-short (b .y) y<, number-short (b .z) z<)
+    record-short = omega (arith, length-join (44 ∷ []) (fieldsOf b) (omega arith), number-short (b .x) x<, number-short (b .y) y<, number-short (b .z) z<)
 
-  records-plain : (bs : List Ban) → Known n bs → every (every isPlain) (map recordOf bs) ≡ true
-  unfolding every
-  records-plain [] k = refl
-  records-plain (b ∷ bs) (ban x y z k) = rw (plain-join (fieldsOf b) (fields-digits b (record { x = x; y = y; z = z })), records-plain bs k)
-
-  fields-back : (bs : List Ban) → Known n bs → map fields (map recordOf bs) ≡ map fieldsOf bs
-  fields-back [] k = refl
-  fields-back (b ∷ bs) (ban x y z k) =
-      ap₂ (λ (r : List (List ℕ)) (g : List (List (List ℕ))). r ∷ g)
-      (fields-join (fieldsOf b) (omega arith) (fields-digits b (record { x = x; y = y; z = z })))
-      (fields-back bs k)
+  digital : (bs : List Ban) → Known n bs → Digital (map fieldsOf bs)
+  digital [] k = none
+  digital (b ∷ bs) (ban x y z k) = more {r = fieldsOf b} (omega arith) (fields-digits b (record { x = x; y = y; z = z })) (digital bs k)
 
   -- The records of the list are those that were written.
   records-back : (bs : List Ban) → Known n bs → banRecords (print bs) ≡ map fieldsOf bs
-  unfolding banRecords print grid
+  unfolding banRecords print
   records-back [] k = refl
   records-back (b ∷ bs) k =
-      let s : List ℕ = join crlf (map recordOf (b ∷ bs)) in
-      let some : eqb (length (s ++ crlf)) 0 ≡ false = ne-eqb (length (s ++ crlf)) 0 (λ e. omega (arith, length-append s crlf)) in
-      rw (some, body-end s, records-join (map recordOf (b ∷ bs)) (omega arith) (records-plain (b ∷ bs) k)) (fields-back (b ∷ bs) k)
+      let g = map fieldsOf (b ∷ bs) in
+      let some : eqb (length (sheetOf g)) 0 ≡ false = ne-eqb (length (sheetOf g)) 0 (λ e. omega (arith, sheet-some g)) in
+      rw some (sheet-grid (digital (b ∷ bs) k) (omega arith))
 
   bytes-good : (bs : List Ban) → Known n bs → badBytes false (print bs) ≡ false
   unfolding print badBytes
   bytes-good [] k = refl
-  bytes-good (b ∷ bs) k = bad-end false (join crlf (map recordOf (b ∷ bs))) ∙ bad-join (map recordOf (b ∷ bs)) (records-plain (b ∷ bs) k)
+  bytes-good (b ∷ bs) k = sheet-bytes (digital (b ∷ bs) k)
 
   bans-good : (bs : List Ban) → Known n bs → ((x y : ℕ) → bannedBy bs x y y ≡ false) → any (badBan n) (map fieldsOf bs) ≡ false
   unfolding any bannedBy
@@ -118,7 +101,7 @@ module _ (n : ℕ) (few : n ≤ 100) where
   unfolding refused16
   print-accepted bs k a = rw (bytes-good bs k, records-back bs k) (bans-good bs k a)
 
-  joined-short : (bs : List Ban) → Known n bs → sum (map (λ (f : List ℕ). length f + 2) (map recordOf bs)) ≤ 10 * length bs
+  joined-short : (bs : List Ban) → Known n bs → sum (map (λ (r : List ℕ). length r + 2) (map recordOf (map fieldsOf bs))) ≤ 10 * length bs
   unfolding sum
   joined-short [] k = omega arith
   joined-short (b ∷ bs) (ban x y z k) = omega (arith, record-short b (record { x = x; y = y; z = z }), joined-short bs k)
@@ -127,6 +110,4 @@ module _ (n : ℕ) (few : n ≤ 100) where
   pub print-short : (bs : List Ban) → Known n bs → length (print bs) ≤ 10 * length bs
   unfolding print
   print-short [] k = omega arith
-  print-short (b ∷ bs) k =
-      let s : List ℕ = join crlf (map recordOf (b ∷ bs)) in
-      omega (arith, length-append s crlf, length-join crlf (map recordOf (b ∷ bs)) (omega arith), joined-short (b ∷ bs) k)
+  print-short (b ∷ bs) k = omega (arith, sheet-length (map fieldsOf (b ∷ bs)) (omega arith), joined-short (b ∷ bs) k)

@@ -7,6 +7,7 @@ pub mod Accepts
 pub mod Digits
 pub mod Given
 pub mod Join
+pub mod Sheets
 pub mod Print
 pub mod Written
 pub mod Round

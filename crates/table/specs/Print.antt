@@ -1,11 +1,12 @@
--- The sheet that is written for a table: its words, start marks and entries in digits, fields joined by commas, records by CR LF, and a CR LF at the end.
-use mathlib.Core.List.{List, [], _∷_, _++_, map}
+-- The sheet that is written for a table: its words, start marks and entries in digits.
+use mathlib.Core.List.{List, [], _∷_, map}
 use Prim.Native.Nat.{ℕ}
 use lib.ListN.{getD}
 use Rattle.code.specs.declared.Code.{Code}
-use Rattle.code.specs.Definitions.Lists.{table, join}
+use Rattle.code.specs.Definitions.Lists.{table}
 use Rattle.code.specs.Definitions.Tables.{noWord, symbolsOf, entryOf}
 use Rattle.table.specs.Digits.{digitOf}
+use Rattle.table.specs.Sheets.{sheetOf}
 
 module _ (c : Code) where
   abbrev pub wordField : ℕ → List ℕ
@@ -24,12 +25,5 @@ module _ (c : Code) where
   abbrev pub gridOf : List (List (List ℕ))
   gridOf = table fieldsOf (c .count)
 
-  -- the bytes of record x, and of all records
-  abbrev pub recordOf : ℕ → List ℕ
-  recordOf x = join (44 ∷ []) (fieldsOf x)
-
-  abbrev pub bodyOf : List ℕ
-  bodyOf = join (13 ∷ 10 ∷ []) (table recordOf (c .count))
-
   unfoldable pub print : List ℕ
-  print = bodyOf ++ (13 ∷ 10 ∷ [])
+  print = sheetOf gridOf

@@ -6,19 +6,19 @@ use Prim.Native.Nat.{ℕ, _+_, _*_, _≤_, _<_}
 use native.Mathlib.Omega.{arith}
 use native.Mathlib.Nat.{mul-le-mul}
 use native.Mathlib.Decide.{decLt}
-use lib.ListN.{length, take, getD, length-append, length-map, length-take, List·getD-map, List·getD-eq-default}
+use lib.ListN.{length, take, getD, length-map, length-take, List·getD-map, List·getD-eq-default}
 use lib.Seq.{getD-take, length-take-le}
 use Rattle.code.specs.declared.Code.{Code}
 use Rattle.code.specs.declared.Limits.{Limits}
 use Rattle.code.specs.Definitions.Lists.{every, table, sum}
 use Rattle.code.specs.Definitions.Tables.{noWord, symbolsOf, entryOf}
 use Rattle.code.specs.Definitions.Sheets.{isDigit, grid, fields, badBytes}
-use Rattle.code.specs.Laws.Lists.{length-table, table-same, map-table, every-all, every-table, sum-past, sum-bound}
-use Rattle.code.specs.Laws.Clean.{bad-end, body-end}
+use Rattle.code.specs.Laws.Lists.{length-table, map-table, every-all, every-table, sum-past, sum-bound}
 use Rattle.table.specs.WellFormed.{lenOf, WellFormed}
 use Rattle.table.specs.Digits.{digitOf, digit-digit}
-use Rattle.table.specs.Join.{isPlain, fields-join, records-join, bad-join, plain-join, length-join}
-use Rattle.table.specs.Print.{wordField, entryField, fieldsOf, gridOf, recordOf, bodyOf, print}
+use Rattle.table.specs.Join.{length-join}
+use Rattle.table.specs.Sheets.{recordOf, sheetOf, Digital, digital-table, sheet-bytes, sheet-grid, sheet-some, sheet-length}
+use Rattle.table.specs.Print.{wordField, entryField, fieldsOf, gridOf, print}
 
 -- A sheet has room for every table: for the symbols, and in every record for the start mark and each of the entries with a comma, and for the CR LF.
 abbrev pub Roomy : Limits → Type 0
@@ -60,26 +60,26 @@ module _ (l : Limits) (c : Code) (w : WellFormed l c) where
         rw (map-table (λ (f : List ℕ). length f + 1) (entryField c k) (c .count))
         (omega (arith, sum-bound (λ y. 2) none 2 (c .count) (λ y i. omega arith), sum-past none 0 (c .count) (omega arith) (λ y i j. refl)))
 
-    record-length : length (recordOf c k) + 2 ≤ lenOf c k + (c .count * 2 + 4)
+    record-length : length (recordOf (fieldsOf c k)) + 2 ≤ lenOf c k + (c .count * 2 + 4)
     unfolding sum
     record-length = omega (arith, length-join (44 ∷ []) (fieldsOf c k) (omega arith), length-word, entries-length)
 
   pub within : (k : ℕ) → k < c .count → k < l .words
   within k h = omega (arith, w .most)
 
-  records-plain : every (every isPlain) (table (recordOf c) (c .count)) ≡ true
-  records-plain = every-table (every isPlain) (recordOf c) (c .count) (λ x i. plain-join (fieldsOf c x) (fields-digits x (within x i)))
+  digital : Digital (gridOf c)
+  digital = digital-table (fieldsOf c) (c .count) (λ x h. (omega arith, fields-digits x (within x h)))
+
+  some : 1 ≤ length (gridOf c)
+  some = rw (length-table (fieldsOf c) (c .count)) (w .one)
 
   pub written-bytes : badBytes false (print c) ≡ false
   unfolding print
-  written-bytes = bad-end false (bodyOf c) ∙ bad-join (table (recordOf c) (c .count)) records-plain
+  written-bytes = sheet-bytes digital
 
   pub written-grid : grid (print c) ≡ gridOf c
-  unfolding grid print
-  written-grid =
-      rw (body-end (bodyOf c), records-join (table (recordOf c) (c .count)) (rw (length-table (recordOf c) (c .count)) (w .one)) records-plain)
-      (map-table fields (recordOf c) (c .count)
-      ∙ table-same (λ x. fields (recordOf c x)) (fieldsOf c) (c .count) (λ x h. fields-join (fieldsOf c x) (omega arith) (fields-digits x (within x h))))
+  unfolding print
+  written-grid = sheet-grid digital some
 
   -- the symbols of the words in use are all there are
   pub total-used : sum (table (lenOf c) (c .count)) ≤ l .total
@@ -87,14 +87,13 @@ module _ (l : Limits) (c : Code) (w : WellFormed l c) where
 
   pub written-some : 0 < length (print c)
   unfolding print
-  written-some = omega (arith, length-append (bodyOf c) (13 ∷ 10 ∷ []))
+  written-some = sheet-some (gridOf c)
 
   pub written-short : Roomy l → length (print c) ≤ l .bytes
   unfolding print
   written-short room =
-      let some : 1 ≤ length (table (recordOf c) (c .count)) = rw (length-table (recordOf c) (c .count)) (w .one) in
-      let joined : length (bodyOf c) + 2 ≤ sum (table (λ x. length (recordOf c x) + 2) (c .count)) =
-      rw (map-table (λ (f : List ℕ). length f + 2) (recordOf c) (c .count)) at (length-join (13 ∷ 10 ∷ []) (table (recordOf c) (c .count)) some) in
-      let bound = sum-bound (λ x. length (recordOf c x) + 2) (lenOf c) (c .count * 2 + 4) (c .count) (λ x h. record-length x (within x h)) in
+      let joined : length (sheetOf (gridOf c)) ≤ sum (table (λ x. length (recordOf (fieldsOf c x)) + 2) (c .count)) =
+      rw (map-table recordOf (fieldsOf c) (c .count), map-table (λ (r : List ℕ). length r + 2) (λ x. recordOf (fieldsOf c x)) (c .count)) at (sheet-length (gridOf c) some) in
+      let bound = sum-bound (λ x. length (recordOf (fieldsOf c x)) + 2) (lenOf c) (c .count * 2 + 4) (c .count) (λ x h. record-length x (within x h)) in
       let square : c .count * (c .count * 2 + 4) ≤ l .words * (l .words * 2 + 4) = mul-le-mul (w .most) (omega (arith, w .most)) in
-      omega (arith, length-append (bodyOf c) (13 ∷ 10 ∷ []), total-used)
+      omega (arith, total-used)
