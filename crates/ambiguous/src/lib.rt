@@ -5,9 +5,10 @@ use code::Reading;
 use code::SymbolCount;
 use code::Verdict;
 use reading::named::find_named;
-ghost use Prim.Native.Nat.{_≤_};
+ghost use Prim.Native.Nat.{_*_, _≤_};
 ghost use lib.ListN.{length};
 ghost use Rattle.code.specs.Definitions.Enlarged.{originalTable};
+ghost use Rattle.code.specs.Definitions.Operations.{unorderedPairs};
 ghost use Rattle.code.specs.Definitions.Readings.{TwoReadings};
 ghost use Rattle.code.specs.Definitions.Sheets.{limits};
 ghost use Rattle.enlargements.specs.WellEnlarged.{WellEnlarged};
@@ -21,8 +22,9 @@ pub fn ambiguous(
     second: &mut [u8],
     work: &mut [u64],
 ) -> Verdict
-    requires { ⌜ WellEnlarged limits e × TwoReadings (originalTable e) (now message) × (length (now message) ≤ 8256)
-        × (8256 ≤ length (now first)) × (8256 ≤ length (now second)) × (16384 ≤ length (now work)) ⌝ }
+    requires { ⌜ WellEnlarged limits e × TwoReadings (originalTable e) (now message) × (length (now message) ≤ unorderedPairs limits)
+        × (unorderedPairs limits ≤ length (now first)) × (unorderedPairs limits ≤ length (now second))
+        × (limits .total * limits .total ≤ length (now work)) ⌝ }
     ensures { λ r. ⌜ ReadTwice (originalTable e) (now (message .entry)) (now (first .entry)) (now (second .entry)) (now (work .entry))
         (now (first .exit)) (now (second .exit)) (now (work .exit)) r ⌝ }
 {

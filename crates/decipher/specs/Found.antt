@@ -6,7 +6,7 @@ use native.Mathlib.Omega.{arith}
 use lib.ListN.{length, take, drop, length-take}
 use lib.Seq.{take-at}
 use Rattle.code.specs.declared.Enlarged.{Enlarged}
-use Rattle.code.specs.Definitions.Operations.{written}
+use Rattle.code.specs.Definitions.Operations.{written, unorderedPairs}
 use Rattle.code.specs.Definitions.Readings.{TwoReadings}
 use Rattle.code.specs.Definitions.Enlarged.{originalTable}
 use Rattle.code.specs.Definitions.Sheets.{limits}
@@ -56,6 +56,6 @@ module _ {places m m′ : List ℕ} where
     pub found-two : {e : Enlarged} → WellEnlarged limits e → LaidOut (tableOf (e .code)) places → Ended (tableOf (e .code)) places → TwoReadings (originalTable e) (take n m′)
     found-two value laid ended = named-two (value-covers value) (ends→readings (laid .fits .plain) (open-finds laid (ended .closed) .ends (found-least .goal)))
 
-    -- and at most 8,256 symbols.
-    pub found-few : {t : Table} → LaidOut t places → Ended t places → length (take n m′) ≤ 8256
+    -- and no more symbols than there are pairs.
+    pub found-few : {t : Table} → LaidOut t places → Ended t places → length (take n m′) ≤ unorderedPairs limits
     found-few laid ended = least-few (laid .fits) (least-goal (open-finds laid (ended .closed)) found-least)

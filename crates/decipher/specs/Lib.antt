@@ -1,3 +1,4 @@
+pub mod Lent
 pub mod Buffers
 pub mod Lengths
 pub mod Found

@@ -26,7 +26,7 @@ impl Pairs {
     pub const UNORDERED: usize = Code::SYMBOLS * (Code::SYMBOLS + 1) / 2;
     // Entries of a verdict's message buffer and of each reading buffer: as many, and one for each place, for the shared opening.
     pub const ROOM: usize = Pairs::UNORDERED + Code::SYMBOLS;
-    // How many marks a search over them has.
+    // How many marks a search over them has at most.
     pub const MARKS: usize = Marks::COUNT;
 }
 
@@ -60,7 +60,8 @@ fn decide(
 {
     let mut marks = [0u16; Pairs::MARKS];
     let places = endings::lay_out(e.code);
-    match shortest::shortest(&places, &mut marks, work, message) {
+    let cells = storage::cell_count(&places);
+    match shortest::shortest(&places, &mut marks[..cells], work, message) {
         Search::Found(n) => ambiguous::ambiguous(e, &message[..n], first, second, work),
         Search::Nothing => decipherable::decipherable(&places, work),
     }

@@ -2,33 +2,37 @@
 use mathlib.Core.Path.{_≡_, refl}
 use mathlib.Core.Bool.{Bool, true, false}
 use mathlib.Core.List.{List}
-use Prim.Native.Nat.{ℕ, _+_, _≤_}
+use Prim.Native.Nat.{ℕ, _+_, _*_, _≤_}
 use native.Mathlib.Numerals.{add-one}
 use native.Mathlib.Omega.{arith}
-use lib.ListN.{length, replicate}
+use lib.ListN.{length, take, replicate}
 use Rattle.code.specs.declared.SymbolCount.{SymbolCount}
 use Rattle.code.specs.declared.Verdict.{Verdict}
 use Rattle.code.specs.declared.Verdict.the-variants.{Finite, Unbounded}
 use Rattle.code.specs.Definitions.Answers.{VerdictMeans}
 use Rattle.code.specs.Definitions.Delays.{Delay}
 use Rattle.code.specs.Definitions.Lists.{if_then_else_}
-use Rattle.code.specs.Definitions.Operations.{zeroed}
+use Rattle.code.specs.Definitions.Operations.{zeroed, unorderedPairs}
 use Rattle.code.specs.Definitions.Readings.{Decipherable}
+use Rattle.code.specs.Definitions.Sheets.{limits}
 use Rattle.code.specs.Definitions.Tables.{Table}
 use Rattle.code.specs.Laws.Delays.{no-rivals-delay}
 use Rattle.delay.specs.declared.Extent.{Extent}
 use Rattle.delay.specs.declared.Extent.the-variants.{Finite as Most, Unbounded as Without-most}
 use Rattle.delay.specs.Answer.{was-finite}
 use Rattle.delay.specs.Answer as Answer
-use Rattle.delay.specs.Extents.{ExtentOf}
+use Rattle.delay.specs.Extents.{Given, ExtentOf}
 use Rattle.graph.specs.Goals.{NoGoal}
 use Rattle.graph.specs.Graph.{Longest, Endless}
 use Rattle.pairs.specs.OpenPairs.{open-finds}
 use Rattle.pairs.specs.RivalPairs.{Ended, some-parting, none-part, rival-shows}
-use Rattle.places.specs.Flat.{pairGraph}
+use Rattle.places.specs.Flat.{Laid, cellCount, pairGraph}
+use Rattle.places.specs.Nodes.{pairs-limited}
 use Rattle.places.specs.Opens.{openGraph}
-use Rattle.rivals.specs.Rivals.{someRivals}
+use Rattle.places.specs.Roots.{Numbered}
 use Rattle.places.specs.Whole.{LaidOut}
+use Rattle.rivals.specs.Rivals.{someRivals}
+use Rattle.storage.specs.Cleared.{clear-part}
 use Rattle.theory.specs.Searches.{search-decipherable, search-delay, search-without-bound}
 
 -- 01: "if the longest path has r steps from the start, the step to a first pair included, the delay is r + 1". 02, request 1: "Where no two words, whatever
@@ -46,9 +50,14 @@ pub record Measured (f w w′ : List ℕ) (v : Verdict) : Type 0 where
   pub delay : DelayBy f v
   pub work : w′ ≡ zeroed w
 
+-- The search is lent a clear mark for each cell.
+pub given : {f w : List ℕ} {n : ℕ} → Laid f → Numbered f → n ≡ cellCount f → n ≤ limits .total * limits .total → limits .total * limits .total ≤ length w
+    → Given f (take n (replicate (limits .total * limits .total) 0)) w
+given {n = n} l m e h k = record { laid = l; numbered = m; clear = rw (← e) (clear-part n (limits .total * limits .total) h); wide = omega arith }
+
 -- The longest walk reads few enough symbols that one more can be counted.
-pub extent-low : {f : List ℕ} {e : Extent} {r : ℕ} → ExtentOf f e → e ≡ Most r → r ≤ 8256
-extent-low x p = was-finite x p .low
+pub extent-low : {f : List ℕ} {e : Extent} {r : ℕ} → Laid f → ExtentOf f e → e ≡ Most r → r ≤ unorderedPairs limits
+extent-low l x p = omega (arith, pairs-limited l, was-finite x p .low)
 
 module _ {f w w′ : List ℕ} {n : ℕ} (long : n ≡ length w) (clear : w′ ≡ replicate n 0) where
   pub measured-finite : {e : Extent} {r : ℕ} {b : Bool} {d : SymbolCount} → ExtentOf f e → e ≡ Most r → b ≡ someRivals f → d .0 ≡ delayOf b r → Measured f w w′ (Finite d)

@@ -11,7 +11,7 @@ use native.Mathlib.Omega.{arith}
 use Rattle.code.specs.Definitions.Orders.{Shortlex}
 use Rattle.graph.specs.Goals.{NoGoal, LeastGoal}
 use Rattle.graph.specs.Graph.{Graph}
-use Rattle.places.specs.Entries.{nodeAt}
+use Rattle.storage.specs.Entries.{nodeAt}
 use Rattle.groups.specs.Backward.{NoLater, ahead, no-later-trans, sooner-no-later, sooner-longer, more-no-later, sooner-shortlex}
 use Rattle.groups.specs.Links.{Link, Walk, none, more, link-node, reach-node, reach-walk, walk-reach}
 use Rattle.groups.specs.Queue.{Met, Queue, Stage, Between, after-source}

@@ -8,7 +8,7 @@ use native.Mathlib.Nat.{lt-trans, eq-or-lt-of-le}
 use native.Mathlib.Decide.{ℕ-discrete, decLt}
 use native.Mathlib.Omega.{arith}
 use Rattle.graph.specs.Graph.{Graph}
-use Rattle.places.specs.Entries.{nodeAt, aboveAt}
+use Rattle.storage.specs.Entries.{nodeAt, aboveAt}
 use Rattle.groups.specs.Backward.{Sooner, NoLater, empty, ahead, last}
 use Rattle.groups.specs.Links.{Walk, none, more}
 use Rattle.groups.specs.Queue.{key, Queue, from-early}

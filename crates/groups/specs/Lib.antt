@@ -1,4 +1,5 @@
 pub mod Backward
+pub mod Carrying
 pub mod Contracts
 pub mod Frontier
 pub mod Labels
@@ -13,6 +14,5 @@ pub mod Slots
 pub mod Steps
 pub mod Straights
 pub mod Symbols
-pub mod Triangle
 pub mod Turns
 pub mod Words

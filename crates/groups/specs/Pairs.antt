@@ -4,56 +4,57 @@ use mathlib.Core.Path.{_≡_, refl, sym, ap, _∙_, subst}
 use mathlib.Core.Bool.{Bool, true, false}
 use mathlib.Core.List.{List}
 use mathlib.Core.Logic.{_⊎_, inl, inr}
-use Prim.Native.Nat.{ℕ, _+_, _*_, _/_, _%_, _≤_, _<_}
+use Prim.Native.Nat.{ℕ, _+_, _*_, _≤_, _<_}
 use native.Mathlib.Decide.{decLt, decLe, ℕ-discrete}
 use native.Mathlib.Omega.{arith}
 use borrow.Author.Tests.{eq-eqb}
 use Rattle.graph.specs.Graph.{Edge}
-use Rattle.places.specs.Flat.{symbolAt, endAt, opensAt, firstAt, Laid, onward, slotsOf, arcFrom}
-use Rattle.places.specs.Nodes.{NodeOf, Leads, node-of, of-node, node-high, node-pair}
+use Rattle.places.specs.Flat.{symbolAt, endAt, opensAt, firstAt, Laid, onward, slotsOf, arcFrom, cellCount, lower, higher}
+use Rattle.places.specs.Nodes.{NodeOf, Leads, node-of, of-node, node-high, node-pair, lower-below}
 use Rattle.places.specs.Onward.{inside, arc-within}
 use Rattle.places.specs.Opens.{turning, pairBehind, toward, openGraph, Comes, in-order-le, behind-comes, comes-behind, turning-source, turning-end, turning-apart, turning-closed, turning-inside, toward-turning, toward-other, arc-leads, leads-open, comes-open, root-comes, comes-root}
-use Rattle.places.specs.Roots.{Numbered}
+use Rattle.places.specs.Roots.{Numbered, symbol-low}
 use Rattle.slots.specs.Widths.{leadsOn, width, width-on, width-turning}
 use Rattle.groups.specs.Links.{Link, begin, along}
 use Rattle.groups.specs.Queue.{Bounded}
 use Rattle.groups.specs.Slots.{Slot, Slots}
 
 -- The symbol of an arrival is that of either place.
-pub arrival-symbol : {f : List ℕ} {p q w : ℕ} → NodeOf f p q w → Dec (p ≤ q) → (symbolAt f p ≡ symbolAt f (w % 128)) × (symbolAt f q ≡ symbolAt f (w % 128))
-arrival-symbol {f} {p} {q} {w} m (yes l) = let e : w % 128 ≡ q = node-high m ∙ omega arith in rw e (m .same, refl)
-arrival-symbol {f} {p} {q} {w} m (no l) = let e : w % 128 ≡ p = node-high m ∙ omega arith in rw e (refl, sym (m .same))
+pub arrival-symbol : {f : List ℕ} {p q w : ℕ} → NodeOf f p q w → Dec (p ≤ q) → (symbolAt f p ≡ symbolAt f (higher f w)) × (symbolAt f q ≡ symbolAt f (higher f w))
+arrival-symbol {f} {p} {q} {w} m (yes l) = let e : higher f w ≡ q = node-high m ∙ omega arith in rw e (m .same, refl)
+arrival-symbol {f} {p} {q} {w} m (no l) = let e : higher f w ≡ p = node-high m ∙ omega arith in rw e (refl, sym (m .same))
 
 module _ {f : List ℕ} (laid : Laid f) (n : Numbered f) where
-  turning-else : (v : ℕ) → v < 16384 → (turning f v < 33 → ⊥) → Dec (v / 128 ≡ v % 128) → (b o : Bool) → endAt f (v / 128) ≡ b → opensAt f ≡ o → turning f v ≡ 33
+  turning-else : (v : ℕ) → v < cellCount f → (turning f v < 33 → ⊥) → Dec (lower f v ≡ higher f v) → (b o : Bool) → endAt f (lower f v) ≡ b → opensAt f ≡ o
+      → turning f v ≡ 33
   turning-else v h l (yes d) false o e u = turning-inside f v h e
   turning-else v h l (no d) b o e u = turning-apart f v h d
   turning-else v h l (yes d) true false e u = turning-closed f v h u
   turning-else v h l (yes d) true true e u =
       let z = turning-end f v h d e u in
-      let o = laid .owners (v / 128) (omega arith) in
+      let o = laid .owners (lower f v) (lower-below f laid h) in
       absurd (l (omega arith))
 
-  turning-most : (v : ℕ) → v < 16384 → Dec (turning f v < 33) → (turning f v < 33) ⊎ (turning f v ≡ 33)
+  turning-most : (v : ℕ) → v < cellCount f → Dec (turning f v < 33) → (turning f v < 33) ⊎ (turning f v ≡ 33)
   turning-most v h (yes l) = inl l
-  turning-most v h (no l) = inr (turning-else v h l (ℕ-discrete (v / 128) (v % 128)) (endAt f (v / 128)) (opensAt f) refl refl)
+  turning-most v h (no l) = inr (turning-else v h l (ℕ-discrete (lower f v) (higher f v)) (endAt f (lower f v)) (opensAt f) refl refl)
 
-  sound-node : (v j : ℕ) → v < 16384 → toward f v j < 16384 → (turning f v < 33) ⊎ (turning f v ≡ 33) → Link (openGraph f) v (toward f v j)
+  sound-node : (v j : ℕ) → v < cellCount f → toward f v j < cellCount f → (turning f v < 33) ⊎ (turning f v ≡ 33) → Link (openGraph f) v (toward f v j)
   sound-node v j l h (inl z) =
       let e = toward-turning f v j z in
-      let k : pairBehind f (turning f v) j < 16384 = rw e at h in
+      let k : pairBehind f (turning f v) j < cellCount f = rw e at h in
       rw e (along l (comes-open f laid z k (behind-comes f (turning f v) j k)))
   sound-node v j l h (inr z) =
       let e = toward-other f v j z in
-      let k : arcFrom f (v / 128) (v % 128) j < 16384 = rw e at h in
+      let k : arcFrom f (lower f v) (higher f v) j < cellCount f = rw e at h in
       rw e (along l (leads-open f laid z (arc-leads f v j refl k)))
 
-  pair-sound : (v j : ℕ) → v ≤ 16384 → toward f v j < 16384 → Dec (v < 16384) → Link (openGraph f) v (toward f v j)
+  pair-sound : (v j : ℕ) → v ≤ cellCount f → toward f v j < cellCount f → Dec (v < cellCount f) → Link (openGraph f) v (toward f v j)
   pair-sound v j l h (yes b) = sound-node v j b h (turning-most v b (decLt (turning f v) 33))
   pair-sound v j l h (no b) =
       let t = turning-source f v (omega arith) in
       let e = toward-turning f v j (omega arith) ∙ ap (λ (y : ℕ). pairBehind f y j) t in
-      let k : pairBehind f 32 j < 16384 = rw e at h in
+      let k : pairBehind f 32 j < cellCount f = rw e at h in
       rw e (begin {v = v} (omega arith) k (comes-root f n k (behind-comes f 32 j k)))
 
   -- A turning pair has a slot for each two words.
@@ -79,59 +80,60 @@ module _ {f : List ℕ} (laid : Laid f) (n : Numbered f) where
   on-right p q a e = simp (a, eq-eqb _ _ e)
 
   -- The symbol of an arrival leads the pair on.
-  arrival-leads : (p q j : ℕ) {w : ℕ} → j < slotsOf f p q → NodeOf f (onward f p j) (onward f q j) w → leadsOn f p q (symbolAt f (w % 128)) ≡ true
+  arrival-leads : (p q j : ℕ) {w : ℕ} → j < slotsOf f p q → NodeOf f (onward f p j) (onward f q j) w → leadsOn f p q (symbolAt f (higher f w)) ≡ true
   arrival-leads p q j {w} l m = go (endAt f p) refl (endAt f q) refl
     where
-      s : (symbolAt f (onward f p j) ≡ symbolAt f (w % 128)) × (symbolAt f (onward f q j) ≡ symbolAt f (w % 128))
+      s : (symbolAt f (onward f p j) ≡ symbolAt f (higher f w)) × (symbolAt f (onward f q j) ≡ symbolAt f (higher f w))
       s = arrival-symbol m (decLe (onward f p j) (onward f q j))
 
-      go : (a : Bool) → endAt f p ≡ a → (b : Bool) → endAt f q ≡ b → leadsOn f p q (symbolAt f (w % 128)) ≡ true
+      go : (a : Bool) → endAt f p ≡ a → (b : Bool) → endAt f q ≡ b → leadsOn f p q (symbolAt f (higher f w)) ≡ true
       go false x b y = on-left p q x (ap (symbolAt f) (sym (inside f p j x)) ∙ s .0)
       go true x false y = on-right p q x (ap (symbolAt f) (sym (inside f q j y)) ∙ s .1)
       go true x true y = let e = ends-none p q x y in absurd (omega arith)
 
-  complete-node : (v : ℕ) {w : ℕ} → turning f v ≡ 33 → Leads f v w → Slot (toward f) (width f v (symbolAt f (w % 128))) v w
+  complete-node : (v : ℕ) {w : ℕ} → turning f v ≡ 33 → Leads f v w → Slot (toward f) (width f v (symbolAt f (higher f w))) v w
   complete-node v {w} z d =
-      let e = width-on f v (symbolAt f (w % 128)) z (arrival-leads (v / 128) (v % 128) (d .slot) (d .within) (d .pair)) in
+      let e = width-on f v (symbolAt f (higher f w)) z (arrival-leads (lower f v) (higher f v) (d .slot) (d .within) (d .pair)) in
       record {
         slot = d .slot;
         below = rw e (d .within);
-        leads = toward-other f v (d .slot) z ∙ arc-within f (v / 128) (v % 128) (d .slot) (d .within) ∙ of-node (d .pair);
+        leads = toward-other f v (d .slot) z ∙ arc-within f (lower f v) (higher f v) (d .slot) (d .within) ∙ of-node (d .pair);
       }
 
   by-turning : (v w : ℕ) → Edge (openGraph f) v w → (turning f v < 33) ⊎ (turning f v ≡ 33) → Comes f (turning f v) w ⊎ Leads f v w
   by-turning v w e (inl z) =
       let a = sym (toward-turning f v (e .slot) z) ∙ e .leads in
-      inl (subst (Comes f (turning f v)) a (behind-comes f (turning f v) (e .slot) (subst (λ (k : ℕ). k < 16384) (sym a) (e .node))))
+      inl (subst (Comes f (turning f v)) a (behind-comes f (turning f v) (e .slot) (subst (λ (k : ℕ). k < cellCount f) (sym a) (e .node))))
   by-turning v w e (inr z) = inr (arc-leads f v (e .slot) (sym (toward-other f v (e .slot) z) ∙ e .leads) (e .node))
 
-  complete-edge : (v w : ℕ) → Edge (openGraph f) v w → (turning f v < 33) ⊎ (turning f v ≡ 33) → Slot (toward f) (width f v (symbolAt f (w % 128))) v w
+  complete-edge : (v w : ℕ) → Edge (openGraph f) v w → (turning f v < 33) ⊎ (turning f v ≡ 33) → Slot (toward f) (width f v (symbolAt f (higher f w))) v w
   complete-edge v w e (inl z) =
       let a = sym (toward-turning f v (e .slot) z) ∙ e .leads in
-      complete-turning v (symbolAt f (w % 128)) z (subst (Comes f (turning f v)) a (behind-comes f (turning f v) (e .slot) (subst (λ (k : ℕ). k < 16384) (sym a) (e .node))))
+      complete-turning v (symbolAt f (higher f w)) z (subst (Comes f (turning f v)) a
+      (behind-comes f (turning f v) (e .slot) (subst (λ (k : ℕ). k < cellCount f) (sym a) (e .node))))
   complete-edge v w e (inr z) = complete-node v z (arc-leads f v (e .slot) (sym (toward-other f v (e .slot) z) ∙ e .leads) (e .node))
 
-  pair-complete : (v w : ℕ) → Link (openGraph f) v w → Slot (toward f) (width f v (symbolAt f (w % 128))) v w
+  pair-complete : (v w : ℕ) → Link (openGraph f) v w → Slot (toward f) (width f v (symbolAt f (higher f w))) v w
   pair-complete v w (begin e l r) =
       let t = turning-source f v (omega arith) in
-      complete-turning v (symbolAt f (w % 128)) (omega arith) (subst (λ (y : ℕ). Comes f y w) (sym t) (root-comes f laid n l r))
+      complete-turning v (symbolAt f (higher f w)) (omega arith) (subst (λ (y : ℕ). Comes f y w) (sym t) (root-comes f laid n l r))
   pair-complete v w (along l e) = complete-edge v w e (turning-most v l (decLt (turning f v) 33))
 
   -- The slots lead along the links, and along every link.
   pub pair-slots : Slots (openGraph f) (toward f) (width f)
-  pair-slots = record { sound = λ v j l h. pair-sound v j l h (decLt v 16384); complete = pair-complete }
+  pair-slots = record { sound = λ v j l h. pair-sound v j l h (decLt v (cellCount f)); complete = pair-complete }
 
   pub pair-bounded : Bounded (openGraph f)
-  pair-bounded = record { symbols = λ v. n .symbols (v % 128) (omega arith); nodes = omega arith }
+  pair-bounded = record { symbols = symbol-low laid n }
 
-  comes-order : {y w : ℕ} → w < 16384 → Comes f y w → w / 128 ≤ w % 128
+  comes-order : {y w : ℕ} → w < cellCount f → Comes f y w → lower f w ≤ higher f w
   comes-order h c = node-pair (node-of {f = f} (firstAt f (c .x)) (firstAt f (c .y)) (c .node) h) .order
 
-  edge-order : {v w : ℕ} → w < 16384 → Comes f (turning f v) w ⊎ Leads f v w → w / 128 ≤ w % 128
+  edge-order : {v w : ℕ} → w < cellCount f → Comes f (turning f v) w ⊎ Leads f v w → lower f w ≤ higher f w
   edge-order h (inl c) = comes-order h c
   edge-order h (inr d) = node-pair (d .pair) .order
 
   -- Every link leads to a pair with the lower place first.
-  pub link-order : {v w : ℕ} → Link (openGraph f) v w → w / 128 ≤ w % 128
+  pub link-order : {v w : ℕ} → Link (openGraph f) v w → lower f w ≤ higher f w
   link-order (begin e l r) = comes-order l (root-comes f laid n l r)
   link-order {v} {w} (along l e) = edge-order {v = v} (e .node) (by-turning v w e (turning-most v l (decLt (turning f v) 33)))

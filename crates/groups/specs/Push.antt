@@ -9,7 +9,8 @@ use lib.ListN.{length, getD, set, length-set}
 use lib.Seq.{getD-set-same, getD-set-other}
 use Rattle.graph.specs.Graph.{Graph}
 use Rattle.graph.specs.Cells.{on-set, on-push, total, total-set}
-use Rattle.places.specs.Entries.{nodeIn, aboveIn, nodeAt, aboveAt}
+use Rattle.storage.specs.Entries.{nodeIn, nodeAt, aboveAt}
+use Rattle.storage.specs.Fields.{aboveIn}
 use Rattle.groups.specs.Links.{Link, link-node}
 use Rattle.groups.specs.Queue.{mark, key, Queued, Met, Origin, Queue, IsGroup, Stage, from-early}
 
@@ -69,6 +70,16 @@ module _ {g : Graph} {ms q : List ℕ} {tail a b t k : ℕ} (s : Stage g ms q ta
       (λ h. record { index = tail; below = omega arith; node = at-tail })
       (λ v ne h. queued-old q tail e (s .queue .found v h))
 
+  -- A mark stays.
+  mark-old : (v : ℕ) → 1 ≤ getD ms v 0 → 1 ≤ getD (set ms w 1) v 0
+  mark-old = on-set ms w 1 in-marks (λ v x. 1 ≤ getD ms v 0 → 1 ≤ x) (λ h. omega arith) (λ v ne h. h)
+
+  push-marked : (i : ℕ) → 1 ≤ i → i < tail + 1 → 1 ≤ getD (set ms w 1) (nodeAt (set q tail e) i) 0
+  push-marked i p l =
+      on-push q tail e wide (λ j x. 1 ≤ j → 1 ≤ getD (set ms w 1) (nodeIn x) 0) (λ h. rw (node, getD-set-same ms w 1 0 in-marks) (omega arith))
+      (λ j h d. mark-old (nodeAt q j) (s .queue .marked j d h))
+      i l p
+
   push-room : tail + 1 ≤ total mark (set ms w 1) + 1
   unfolding mark
   push-room = let r = s .queue .room in omega (arith, total-set mark ms w 1 in-marks)
@@ -117,6 +128,7 @@ module _ {g : Graph} {ms q : List ℕ} {tail a b t k : ℕ} (s : Stage g ms q ta
         size = length-set ms w 1 ∙ s .queue .size;
         some = omega arith;
         found = push-found;
+        marked = push-marked;
         room = push-room;
         source-node = rw (entry-old q tail e 0 l) (s .queue .source-node);
         source-from = rw (entry-old q tail e 0 l) (s .queue .source-from);

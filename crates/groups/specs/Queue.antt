@@ -9,17 +9,16 @@ use native.Mathlib.Omega.{arith}
 use lib.ListN.{length, getD}
 use Rattle.graph.specs.Graph.{Graph}
 use Rattle.graph.specs.Cells.{total}
-use Rattle.places.specs.Entries.{nodeAt, aboveAt}
+use Rattle.storage.specs.Entries.{nodeAt, aboveAt}
 use Rattle.groups.specs.Links.{Link, link-node}
 
 -- 1 for a mark, 0 for a clear cell
 unfoldable pub mark : ℕ → ℕ
 mark x = min x 1
 
--- The graph's numbers fit an entry and a key.
+-- The graph's symbols fit a key.
 pub record Bounded (g : Graph) : Type 0 where
   pub symbols : (v : ℕ) → g .symbol v < 16
-  pub nodes : g .nodes ≤ 16384
 
 -- The group of entry i: where the group of its predecessor begins, and its own symbol.
 abbrev pub key : Graph → List ℕ → ℕ → ℕ
@@ -60,6 +59,8 @@ pub record Queue (g : Graph) (ms q : List ℕ) (tail : ℕ) : Type 0 where
   pub some : 1 ≤ tail
   -- a marked node is queued
   pub found : (v : ℕ) → 1 ≤ getD ms v 0 → Queued q tail v
+  -- every entry but the source is marked
+  pub marked : (i : ℕ) → 1 ≤ i → i < tail → 1 ≤ getD ms (nodeAt q i) 0
   -- no more entries than marks, and the source
   pub room : tail ≤ total mark ms + 1
   pub source-node : nodeAt q 0 ≡ g .nodes

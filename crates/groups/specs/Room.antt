@@ -1,20 +1,29 @@
--- The queue of a search over pairs has at most 8,257 entries, for the source and for every pair with the lower place first; and at most 8,256 where a goal is met,
--- which is never queued. So no message is longer.
+-- The queue of a search over pairs has at most one entry for the source and one for every pair with the lower place first; and one less where a goal is met, which
+-- is never queued. So no message has more symbols than there are such pairs.
 use mathlib.Core.Path.{_≡_, sym, _∙_}
 use mathlib.Core.Bool.{Bool, true, false}
 use mathlib.Core.List.{List}
-use Prim.Native.Nat.{ℕ, _/_, _%_, _≤_, _<_}
+use Prim.Native.Nat.{ℕ, _+_, _≤_, _<_}
 use native.Mathlib.Decide.{ℕ-discrete}
 use native.Mathlib.Omega.{arith}
 use lib.ListN.{length, getD, set, length-set}
-use Rattle.graph.specs.Cells.{on-set, inside, total-set}
-use Rattle.places.specs.Flat.{Laid}
+use Rattle.graph.specs.Cells.{on-set, inside, total, total-set}
+use Rattle.places.specs.Flat.{Laid, placeCount, cellCount, pairCount, lower, higher}
 use Rattle.places.specs.Opens.{openGraph}
 use Rattle.places.specs.Roots.{Numbered}
+use Rattle.places.specs.Triangle.{ordered, ordered-one, pairs-most}
 use Rattle.groups.specs.Links.{Link, link-node}
 use Rattle.groups.specs.Queue.{mark, Queue, Queued, after-source}
 use Rattle.groups.specs.Pairs.{link-order}
-use Rattle.groups.specs.Triangle.{marks-few}
+
+-- Marks that stand only at pairs with the lower place first are no more than these pairs.
+marks-few : (f ms : List ℕ) → length ms ≡ cellCount f → ((v : ℕ) → 1 ≤ getD ms v 0 → lower f v ≤ higher f v) → total mark ms ≤ pairCount f
+unfolding mark cellCount pairCount
+marks-few f ms e p = pairs-most (placeCount f) mark ms e (λ v. by v (ℕ-discrete (getD ms v 0) 0))
+  where
+    by : (v : ℕ) → Dec (getD ms v 0 ≡ 0) → mark (getD ms v 0) ≤ ordered (placeCount f) v
+    by v (yes z) = omega arith
+    by v (no n) = omega (arith, ordered-one (placeCount f) v (p v (omega arith)))
 
 module _ {f ms q : List ℕ} {tail : ℕ} (laid : Laid f) (n : Numbered f) (s : Queue (openGraph f) ms q tail) where
   -- A marked node stands at an index after the source.
@@ -24,13 +33,13 @@ module _ {f ms q : List ℕ} {tail : ℕ} (laid : Laid f) (n : Numbered f) (s : 
       let z = s .size in
       after-source s (m .index) (let e = m .node in omega arith)
 
-  marked-order : (v : ℕ) → 1 ≤ getD ms v 0 → v / 128 ≤ v % 128
+  marked-order : (v : ℕ) → 1 ≤ getD ms v 0 → lower f v ≤ higher f v
   marked-order v h =
       let m = s .found v h in
       rw (m .node) at (link-order laid n (s .origin (m .index) (marked-index v h m) (m .below) .link))
 
-  pub tail-most : tail ≤ 8257
-  tail-most = let r = s .room in omega (arith, marks-few ms (s .size) marked-order)
+  pub tail-most : tail ≤ pairCount f + 1
+  tail-most = let r = s .room in omega (arith, marks-few f ms (s .size) marked-order)
 
   -- A goal is not marked.
   goal-clear : (w : ℕ) → openGraph f .goal w ≡ true → getD ms w 0 ≡ 0
@@ -46,7 +55,7 @@ module _ {f ms q : List ℕ} {tail : ℕ} (laid : Laid f) (n : Numbered f) (s : 
           let z : _≡_ {A = ℕ} 0 1 = cc in
           absurd (omega arith)
 
-  pub tail-before-goal : {v w : ℕ} → Link (openGraph f) v w → openGraph f .goal w ≡ true → tail ≤ 8256
+  pub tail-before-goal : {v w : ℕ} → Link (openGraph f) v w → openGraph f .goal w ≡ true → tail ≤ pairCount f
   unfolding mark
   tail-before-goal {v} {w} d e =
       let z = s .size in
@@ -56,5 +65,6 @@ module _ {f ms q : List ℕ} {tail : ℕ} (laid : Laid f) (n : Numbered f) (s : 
         arith,
         goal-clear w e,
         total-set mark ms w 1 l,
-        marks-few (set ms w 1) (length-set ms w 1 ∙ z) (on-set ms w 1 l (λ u x. 1 ≤ x → u / 128 ≤ u % 128) (λ h. link-order laid n d) (λ u ne. marked-order u)),
+        marks-few f (set ms w 1) (length-set ms w 1 ∙ z) (on-set ms w 1 l (λ u x. 1 ≤ x → lower f u ≤ higher f u)
+            (λ h. link-order laid n d) (λ u ne. marked-order u)),
       )

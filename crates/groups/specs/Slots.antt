@@ -8,7 +8,8 @@ use native.Mathlib.Omega.{arith}
 use borrow.Author.Count.{below-more}
 use lib.ListN.{length, getD, set}
 use Rattle.graph.specs.Graph.{Graph}
-use Rattle.places.specs.Entries.{nodeIn, aboveIn, nodeAt}
+use Rattle.storage.specs.Entries.{nodeIn, nodeAt}
+use Rattle.storage.specs.Fields.{aboveIn}
 use Rattle.groups.specs.Links.{Link, link-node}
 use Rattle.groups.specs.Queue.{Met, Stage}
 use Rattle.groups.specs.Push.{pushed, pushed-met, met-old, entry-old}

@@ -1,22 +1,24 @@
 -- The symbols that lead no member of a group on are passed over: by such a symbol nothing comes next.
 use mathlib.Core.Path.{_≡_, sym, ap, _∙_}
 use mathlib.Core.List.{List}
-use Prim.Native.Nat.{ℕ, _+_, _*_, _≤_, _<_}
+use Prim.Native.Nat.{ℕ, _+_, _≤_, _<_}
 use native.Mathlib.Decide.{decLt}
 use native.Mathlib.Omega.{arith}
 use borrow.Author.Count.{below-more}
 use lib.ListN.{getD}
 use Rattle.graph.specs.Graph.{Graph}
 use Rattle.places.specs.declared.Pair.{Pair}
-use Rattle.places.specs.Flat.{Laid}
+use Rattle.places.specs.Flat.{Laid, placeCount, cell}
 use Rattle.places.specs.Opens.{turning}
 use Rattle.places.specs.Roots.{Numbered}
-use Rattle.places.specs.Entries.{PlacesOf, nodeIn, nodeAt}
+use Rattle.storage.specs.Entries.{nodeAt, held}
+use Rattle.storage.specs.Fields.{Carries}
 use Rattle.slots.specs.declared.Progress.{Progress}
 use Rattle.slots.specs.declared.Progress.the-variants.{Tail}
 use Rattle.slots.specs.Leaves.{goes-straight, width-none}
 use Rattle.slots.specs.Widths.{innerOf, width}
-use Rattle.groups.specs.Contracts.{Stands, Progressed}
+use Rattle.groups.specs.Carrying.{known-pair}
+use Rattle.groups.specs.Contracts.{Known, Stands, Progressed}
 use Rattle.groups.specs.Links.{Link}
 use Rattle.groups.specs.Pairs.{pair-slots}
 use Rattle.groups.specs.Parts.{was-tail}
@@ -34,33 +36,35 @@ pub record NoneLed (f q : List ℕ) (a b t u : ℕ) : Type 0 where
   pub none : (i : ℕ) → i < b → a ≤ i → (s : ℕ) → t ≤ s → s < u → width f (nodeAt q i) s ≡ 0
 
 -- A symbol other than that after the inner place p leads no pair on.
-module _ {f : List ℕ} (laid : Laid f) (pair : Pair) {p t u y : ℕ} (z : y ≡ turning f (pair .low * 128 + pair .high)) (l : y ≤ 33) (m : 33 ≤ y)
-    (h : pair .high < 128) (e : p ≡ innerOf f (pair .low) (pair .high)) (o : t ≤ u) where
-  not-led : ((s : ℕ) → t ≤ s → s < u → getD f (p + 1) 0 ≡ s → ⊥) → NotLed f (pair .low * 128 + pair .high) t u
+module _ {f : List ℕ} (laid : Laid f) (pair : Pair) {p t u y : ℕ} (z : y ≡ turning f (cell f (pair .low) (pair .high))) (l : y ≤ 33) (m : 33 ≤ y)
+    (h : pair .high < placeCount f) (e : p ≡ innerOf f (pair .low) (pair .high)) (o : t ≤ u) where
+  not-led : ((s : ℕ) → t ≤ s → s < u → getD f (p + 1) 0 ≡ s → ⊥) → NotLed f (cell f (pair .low) (pair .high)) t u
   not-led n = record { order = o; none = λ s a b. sym (width-none laid pair s (goes-straight laid pair z l m h) e (n s a b)) }
 
-  pub not-led-above : u ≤ getD f (p + 1) 0 → NotLed f (pair .low * 128 + pair .high) t u
+  pub not-led-above : u ≤ getD f (p + 1) 0 → NotLed f (cell f (pair .low) (pair .high)) t u
   not-led-above d = not-led (λ s a b z. omega arith)
 
-  pub not-led-below : getD f (p + 1) 0 < t → NotLed f (pair .low * 128 + pair .high) t u
+  pub not-led-below : getD f (p + 1) 0 < t → NotLed f (cell f (pair .low) (pair .high)) t u
   not-led-below d = not-led (λ s a b z. omega arith)
 
 module _ {f q : List ℕ} {a t : ℕ} where
   pub none-led-begin : {u : ℕ} → t ≤ u → NoneLed f q a a t u
   none-led-begin o = record { order = o; none = λ i l h. absurd (omega arith) }
 
-  pub none-led-more : {k u n : ℕ} {p : Pair} → NoneLed f q a k t u → PlacesOf (nodeIn (getD q k 0)) p → NotLed f (p .low * 128 + p .high) t n → n ≤ u
-      → NoneLed f q a (k + 1) t n
-  none-led-more {k} {u} {n} r d x l =
-      record {
-        order = x .order;
-        none =
-            below-more (λ i. a ≤ i → (s : ℕ) → t ≤ s → s < n → width f (nodeAt q i) s ≡ 0) k (λ i h o s e z. r .none i h o s e (omega arith))
-            (λ o s e z. ap (λ (v : ℕ). width f v s) (sym (d .node)) ∙ x .none s e z);
-      }
-
   pub none-led-end : {k b u : ℕ} → NoneLed f q a k t u → b ≤ k → NoneLed f q a b t u
   none-led-end r l = record { order = r .order; none = λ i h. r .none i (omega arith) }
+
+-- One member more, by the two places that its link carries.
+pub none-led-more : {f : List ℕ} (q : List ℕ) {a b t k u n : ℕ} {p : Pair} → Laid f → Known f (held f q) b → k < b → NoneLed f (held f q) a k t u
+    → Carries (getD q k 0) p → NotLed f (cell f (p .low) (p .high)) t n → n ≤ u → NoneLed f (held f q) a (k + 1) t n
+none-led-more {f} q {a} {b} {t} {k} {u} {n} laid known m r c x l =
+    let d = known-pair q laid known m c in
+    record {
+      order = x .order;
+      none =
+          below-more (λ i. a ≤ i → (s : ℕ) → t ≤ s → s < n → width f (nodeAt (held f q) i) s ≡ 0) k (λ i h o s e z. r .none i h o s e (omega arith))
+          (λ o s e z. ap (λ (v : ℕ). width f v s) (sym (d .node)) ∙ x .none s e z);
+    }
 
 -- What comes next by the symbols below u was met, if none from t to u - 1 leads a member on.
 module _ {g : Graph} {to width : ℕ → ℕ → ℕ} {ms q : List ℕ} {tail a b t u : ℕ} (z : Slots g to width) (s : Stage g ms q tail a b t a)

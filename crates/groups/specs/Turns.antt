@@ -6,7 +6,7 @@ use native.Mathlib.Decide.{decLt}
 use native.Mathlib.Omega.{arith}
 use lib.ListN.{length, getD}
 use Rattle.graph.specs.Graph.{Graph}
-use Rattle.places.specs.Entries.{nodeAt, aboveAt}
+use Rattle.storage.specs.Entries.{nodeAt, aboveAt}
 use Rattle.groups.specs.Queue.{Bounded, key, IsGroup, Stage, Between}
 
 -- The search starts with the source alone and no mark.
@@ -20,6 +20,7 @@ begun {g} {ms} {q} u n clear e z =
             size = n;
             some = omega arith;
             found = λ v h. let d = clear v in absurd (omega arith);
+            marked = λ i p l. absurd (omega arith);
             room = omega arith;
             source-node = e;
             source-from = z;

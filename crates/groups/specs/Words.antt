@@ -10,10 +10,10 @@ use lib.Dec.{eqb}
 use lib.ListN.{length}
 use borrow.Author.Tests.{eq-eqb, not-true, not-false}
 use Rattle.code.specs.Definitions.Lists.{if_then_else_}
-use Rattle.places.specs.Entries.{nodeAt}
-use Rattle.places.specs.Flat.{symbolAt, firstAt, mayCome, opensAt, wordCount}
+use Rattle.places.specs.Flat.{symbolAt, firstAt, mayCome, opensAt, wordCount, cellCount, higher}
 use Rattle.places.specs.Nodes.{node-of}
 use Rattle.places.specs.Opens.{inOrder, pairBehind, toward, openGraph, behind-tests, behind-words, in-order, in-order-least, toward-turning}
+use Rattle.storage.specs.Entries.{nodeAt, held}
 use Rattle.slots.specs.declared.Progress.{Progress}
 use Rattle.slots.specs.declared.Progress.the-variants.{Goal, Tail}
 use Rattle.slots.specs.Contracts.{Turned, Arrived}
@@ -32,12 +32,12 @@ module _ (f : List ℕ) where
   leads-comes t y x {r} d e = and-eq-true-iff (eqb (symbolAt f (firstAt f x)) t) (mayCome f x y) .0 (sym d ∙ not-false r e) .1
 
   -- A slot of a word leads to pairs of its first symbol.
-  word-symbol : (y j : ℕ) → pairBehind f y j < 16384 → symbolAt f (firstAt f (j / 32)) ≡ symbolAt f (pairBehind f y j % 128)
+  word-symbol : (y j : ℕ) → pairBehind f y j < cellCount f → symbolAt f (firstAt f (j / 32)) ≡ symbolAt f (higher f (pairBehind f y j))
   word-symbol y j h =
       let c = behind-words f y j h in
       arrival-symbol (node-of {f = f} (firstAt f (j / 32)) (firstAt f (j % 32)) c h) (decLe (firstAt f (j / 32)) (firstAt f (j % 32))) .0
 
-  word-leads : (t y j : ℕ) → pairBehind f y j < 16384 → symbolAt f (pairBehind f y j % 128) ≡ t → leadsBehind f t y (j / 32) ≡ true
+  word-leads : (t y j : ℕ) → pairBehind f y j < cellCount f → symbolAt f (higher f (pairBehind f y j)) ≡ t → leadsBehind f t y (j / 32) ≡ true
   word-leads t y j h e = rw (eq-eqb _ _ (word-symbol y j h ∙ e)) (behind-tests f y j h .left)
 
   -- Words in order from the least one on.
@@ -54,20 +54,21 @@ module _ (f : List ℕ) where
 module _ {f ms q : List ℕ} {tail a b t k : ℕ} (y : ℕ) (u : Turned f (nodeAt q k) y) where
   -- Slots from c to d - 1 that lead to no pair of symbol t are done.
   pass-over : {c d : ℕ} → Stands f ms q tail a b t k c
-      → ((j : ℕ) → c ≤ j → j < d → pairBehind f y j < 16384 → symbolAt f (pairBehind f y j % 128) ≡ t → ⊥) → Stands f ms q tail a b t k d
+      → ((j : ℕ) → c ≤ j → j < d → pairBehind f y j < cellCount f → symbolAt f (higher f (pairBehind f y j)) ≡ t → ⊥) → Stands f ms q tail a b t k d
   pass-over {c} {d} s none = record { stage = s .stage; now = λ j l h i. by j l h i (decLt j c) }
     where
-      by : (j : ℕ) → j < d → toward f (nodeAt q k) j < 16384 → openGraph f .symbol (toward f (nodeAt q k) j) ≡ t → Dec (j < c)
+      by : (j : ℕ) → j < d → toward f (nodeAt q k) j < cellCount f → openGraph f .symbol (toward f (nodeAt q k) j) ≡ t → Dec (j < c)
           → Met q tail k (toward f (nodeAt q k) j)
       by j l h i (yes m) = s .now j m h i
       by j l h i (no m) = absurd (none j (omega arith) l (rw (toward-behind f u j) at h) (rw (toward-behind f u j) at i))
 
+module _ {f ms q : List ℕ} {tail a b t k : ℕ} (y : ℕ) (u : Turned f (nodeAt (held f q) k) y) where
   -- A word that does not lead by t.
   pub word-over : (x : ℕ) {r : Bool} → Expanding f ms q tail a b t k (x * 32) → r ≡ leadsBehind f t y x → not r ≡ true
-      → Progressed f ms q a b t k ((x + 1) * 32) (Tail tail)
+      → Progressed f ms (held f q) a b t k ((x + 1) * 32) (Tail tail)
   word-over x {r} s d e =
       went
-      (pass-over (s .stands) (λ j l m h i. let z : j / 32 ≡ x = omega arith in true≢false (sym (word-leads f t y j h i) ∙ rw z (sym d ∙ not-true r e))))
+      (pass-over y u (s .stands) (λ j l m h i. let z : j / 32 ≡ x = omega arith in true≢false (sym (word-leads f t y j h i) ∙ rw z (sym d ∙ not-true r e))))
 
   -- The words before the least one in order.
   pub word-begun : (x : ℕ) {z : ℕ} → Expanding f ms q tail a b t k (x * 32) → z ≡ leastBehind f x → z ≤ 32 → Expanding f ms q tail a b t k (x * 32 + z)
@@ -76,7 +77,7 @@ module _ {f ms q : List ℕ} {tail a b t k : ℕ} (y : ℕ) (u : Turned f (nodeA
         laid = s .laid;
         numbered = s .numbered;
         stands =
-            pass-over (s .stands)
+            pass-over y u (s .stands)
             (λ j l m h i.
             let w : j / 32 ≡ x = omega arith in
             let o : leastBehind f x ≤ j % 32 = rw w at (in-order-least f (j / 32) (j % 32) (behind-tests f y j h .order)) in
@@ -85,22 +86,24 @@ module _ {f ms q : List ℕ} {tail a b t k : ℕ} (y : ℕ) (u : Turned f (nodeA
       }
 
   -- After the last word.
-  pub word-ended : (x : ℕ) {z n : ℕ} → Expanding f ms q tail a b t k (x * 32 + z) → n ≡ wordCount f → n ≤ z → Progressed f ms q a b t k ((x + 1) * 32) (Tail tail)
-  word-ended x {z} {n} s e l = went (pass-over (s .stands) (λ j m o h i. let g = behind-tests f y j h .known in omega arith))
+  pub word-ended : (x : ℕ) {z n : ℕ} → Expanding f ms q tail a b t k (x * 32 + z) → n ≡ wordCount f → n ≤ z
+      → Progressed f ms (held f q) a b t k ((x + 1) * 32) (Tail tail)
+  word-ended x {z} {n} s e l = went (pass-over y u (s .stands) (λ j m o h i. let g = behind-tests f y j h .known in omega arith))
 
   -- After the pair of words x and z was met.
-  module _ (x z : ℕ) {ms′ q′ : List ℕ} {p : Progress} (s : Expanding f ms q tail a b t k (x * 32 + z))
-      (m : Arrived f ms q ms′ q′ a t tail (pairBehind f y (x * 32 + z)) p) where
-    pub word-next : {e : ℕ} → p ≡ Tail e → length q′ ≡ length q → Expanding f ms′ q′ e a b t k (x * 32 + (z + 1))
-    word-next d l =
+  module _ (x z : ℕ) {ms′ q′ : List ℕ} {p : Progress} (s : Expanding f ms q tail a b t k (x * 32 + z)) where
+    pub word-next : {e : ℕ} → Arrived f ms (held f q) ms′ (held f q′) a t tail (pairBehind f y (x * 32 + z)) p → p ≡ Tail e → length q′ ≡ length q
+        → Expanding f ms′ q′ e a b t k (x * 32 + (z + 1))
+    word-next m d l =
         let w : x * 32 + z + 1 ≡ x * 32 + (z + 1) = omega arith in
         rw w at (expanding-next s (slot-done s (toward-behind f u (x * 32 + z)) m) d l)
 
-    pub word-goal : {g t′ k′ c′ : ℕ} → p ≡ Goal g → Progressed f ms′ q′ a b t′ k′ c′ (Goal g)
-    word-goal = goal-again (slot-done s (toward-behind f u (x * 32 + z)) m)
+    pub word-goal : {g t′ k′ c′ : ℕ} → Arrived f ms (held f q) ms′ q′ a t tail (pairBehind f y (x * 32 + z)) p → p ≡ Goal g
+        → Progressed f ms′ q′ a b t′ k′ c′ (Goal g)
+    word-goal m = goal-again (slot-done s (toward-behind f u (x * 32 + z)) m)
 
   -- After the last word the member is done.
-  pub words-ended : (x : ℕ) {n : ℕ} → Expanding f ms q tail a b t k (x * 32) → n ≡ wordCount f → n ≤ x → Progressed f ms q a b t (k + 1) 0 (Tail tail)
+  pub words-ended : (x : ℕ) {n : ℕ} → Expanding f ms q tail a b t k (x * 32) → n ≡ wordCount f → n ≤ x → Progressed f ms (held f q) a b t (k + 1) 0 (Tail tail)
   words-ended x s e l =
-      let w = width-turning f (nodeAt q k) t (let g = u .turns in let h = u .behind in omega arith) in
+      let w = width-turning f (nodeAt (held f q) k) t (let g = u .turns in let h = u .behind in omega arith) in
       went (slots-begin (next-member (s .stands) (pair-slots (s .laid) (s .numbered)) (omega arith) (s .ready .member)))

@@ -7,16 +7,18 @@ use members::expand_member;
 use places::Pair;
 use slots::Progress;
 use slots::Turns;
-use slots::entries::key;
-use slots::entries::pair_of;
 use slots::inner;
+use slots::key;
 use slots::turning;
-ghost use Prim.Native.Nat.{_+_, _*_, _≤_, _<_};
+use storage::pair_at;
+ghost use Prim.Native.Nat.{_+_, _≤_, _<_};
 ghost use lib.ListN.{length};
-ghost use Rattle.places.specs.Flat.{Laid};
+ghost use Rattle.places.specs.Flat.{Laid, placeCount, pairCount};
 ghost use Rattle.places.specs.Opens.{openGraph};
 ghost use Rattle.places.specs.Roots.{Numbered};
-ghost use Rattle.groups.specs.Contracts.{Stands, Progressed};
+ghost use Rattle.places.specs.Steps.{pairCell};
+ghost use Rattle.storage.specs.Entries.{held};
+ghost use Rattle.groups.specs.Contracts.{Known, Stands, Progressed};
 ghost use Rattle.groups.specs.Queue.{Ascending, IsGroup};
 ghost use Rattle.groups.specs.Symbols.{NotLed, NoneLed};
 
@@ -37,10 +39,10 @@ fn expand_symbol(
 ) -> Progress
     requires { ⌜ Laid (now places)
         × Numbered (now places)
-        × (16384 ≤ length (now queue))
+        × (pairCount (now places) + 2 ≤ length (now queue))
         × (symbol < 16)
-        × Stands (now places) (now marks) (now queue) tail (group .start) (group .end) symbol (group .start) 0 ⌝ }
-    ensures { λ r. ⌜ Progressed (now (places .entry)) (now (marks .exit)) (now (queue .exit))
+        × Stands (now places) (now marks) (held (now places) (now queue)) tail (group .start) (group .end) symbol (group .start) 0 ⌝ }
+    ensures { λ r. ⌜ Progressed (now (places .entry)) (now (marks .exit)) (held (now (places .entry)) (now (queue .exit)))
         (group .start) (group .end) (symbol + 1) (group .start) 0 r ⌝ }
 {
     let mut member = group.start;
@@ -57,8 +59,8 @@ fn expand_symbol(
 
 // The lesser of `least` and the symbol, not below `symbol`, that leads a pair on. Any symbol may lead the source on.
 fn sooner(places: &[u8], pair: Pair, symbol: usize, least: usize) -> usize
-    requires { ⌜ Laid (now places) × (pair .high < 128) × (symbol ≤ least) ⌝ }
-    ensures { λ r. ⌜ NotLed (now (places .entry)) (pair .low * 128 + pair .high) symbol r × (r ≤ least) ⌝ }
+    requires { ⌜ Laid (now places) × (pair .high < placeCount (now places)) × (symbol ≤ least) ⌝ }
+    ensures { λ r. ⌜ NotLed (now (places .entry)) (pairCell (now (places .entry)) pair) symbol r × (r ≤ least) ⌝ }
 {
     if turning(places, pair) < Turns::NOT {
         return symbol;
@@ -75,13 +77,16 @@ fn sooner(places: &[u8], pair: Pair, symbol: usize, least: usize) -> usize
 
 // The least symbol, not below `symbol`, that may lead a member of a group on; 16 if there is none.
 fn next_symbol(places: &[u8], queue: &[u64], group: Group, symbol: usize) -> usize
-    requires { ⌜ Laid (now places) × (group .end ≤ length (now queue)) × (symbol ≤ 16) ⌝ }
-    ensures { λ r. ⌜ NoneLed (now (places .entry)) (now (queue .entry)) (group .start) (group .end) symbol r × (r ≤ 16) ⌝ }
+    requires { ⌜ Laid (now places)
+        × Known (now places) (held (now places) (now queue)) (group .end)
+        × (group .end ≤ length (now queue))
+        × (symbol ≤ 16) ⌝ }
+    ensures { λ r. ⌜ NoneLed (now (places .entry)) (held (now (places .entry)) (now (queue .entry))) (group .start) (group .end) symbol r × (r ≤ 16) ⌝ }
 {
     let mut least = Word::ALPHABET as usize;
     let mut member = group.start;
     while member < group.end {
-        least = sooner(places, pair_of(queue[member]), symbol, least);
+        least = sooner(places, pair_at(queue, member), symbol, least);
         member += 1;
     }
     least
@@ -97,9 +102,9 @@ pub fn expand_group(
 ) -> Progress
     requires { ⌜ Laid (now places)
         × Numbered (now places)
-        × (16384 ≤ length (now queue))
-        × Stands (now places) (now marks) (now queue) tail (group .start) (group .end) 0 (group .start) 0 ⌝ }
-    ensures { λ r. ⌜ Progressed (now (places .entry)) (now (marks .exit)) (now (queue .exit))
+        × (pairCount (now places) + 2 ≤ length (now queue))
+        × Stands (now places) (now marks) (held (now places) (now queue)) tail (group .start) (group .end) 0 (group .start) 0 ⌝ }
+    ensures { λ r. ⌜ Progressed (now (places .entry)) (now (marks .exit)) (held (now (places .entry)) (now (queue .exit)))
         (group .start) (group .end) 16 (group .start) 0 r ⌝ }
 {
     let mut symbol = next_symbol(places, queue, group, 0);
@@ -116,13 +121,17 @@ pub fn expand_group(
 
 // The end of the group that starts at an entry.
 pub fn group_end(places: &[u8], queue: &[u64], start: usize, tail: usize) -> usize
-    requires { ⌜ Laid (now places) × Ascending (openGraph (now places)) (now queue) tail × (start < tail) × (tail ≤ length (now queue)) ⌝ }
-    ensures { λ r. ⌜ IsGroup (openGraph (now (places .entry))) (now (queue .entry)) tail start r ⌝ }
+    requires { ⌜ Laid (now places)
+        × Known (now places) (held (now places) (now queue)) tail
+        × Ascending (openGraph (now places)) (held (now places) (now queue)) tail
+        × (start < tail)
+        × (tail ≤ length (now queue)) ⌝ }
+    ensures { λ r. ⌜ IsGroup (openGraph (now (places .entry))) (held (now (places .entry)) (now (queue .entry))) tail start r ⌝ }
 {
-    let first = key(places, queue[start]);
+    let first = key(places, queue, start);
     let mut end = start + 1;
     while end < tail {
-        if key(places, queue[end]) != first {
+        if key(places, queue, end) != first {
             return end;
         }
         end += 1;

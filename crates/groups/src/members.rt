@@ -5,18 +5,19 @@ use crate::Group;
 use places::Pair;
 use slots::Progress;
 use slots::Turns;
-use slots::entries::pair_of;
 use slots::meeting::leads;
 use slots::meeting::least_in_order;
 use slots::meeting::meet;
 use slots::meeting::meet_words;
 use slots::turning;
 use slots::width;
+use storage::pair_at;
 ghost use mathlib.Core.Path.{_≡_};
 ghost use Prim.Native.Nat.{_+_, _*_, _<_};
-ghost use Rattle.places.specs.Entries.{nodeAt};
 ghost use Rattle.places.specs.Flat.{wordCount};
+ghost use Rattle.places.specs.Steps.{pairCell};
 ghost use Rattle.slots.specs.Contracts.{Straight, Turned};
+ghost use Rattle.storage.specs.Entries.{nodeAt, held};
 ghost use Rattle.groups.specs.Contracts.{Expanding, Progressed};
 
 // Meets the pairs where the slots of a member lead that does not turn.
@@ -31,9 +32,9 @@ fn expand_slots(
     tail: usize,
 ) -> Progress
     requires { ⌜ Expanding (now places) (now marks) (now queue) tail (group .start) (group .end) symbol member 0
-        × (nodeAt (now queue) member ≡ pair .low * 128 + pair .high)
+        × (nodeAt (held (now places) (now queue)) member ≡ pairCell (now places) pair)
         × Straight (now places) pair ⌝ }
-    ensures { λ r. ⌜ Progressed (now (places .entry)) (now (marks .exit)) (now (queue .exit))
+    ensures { λ r. ⌜ Progressed (now (places .entry)) (now (marks .exit)) (held (now (places .entry)) (now (queue .exit)))
         (group .start) (group .end) symbol (member + 1) 0 r ⌝ }
 {
     let end = width(places, pair, symbol);
@@ -63,11 +64,11 @@ fn expand_word(
     tail: usize,
 ) -> Progress
     requires { ⌜ Expanding (now places) (now marks) (now queue) tail (group .start) (group .end) symbol member (x * 32)
-        × Turned (now places) (nodeAt (now queue) member) y
+        × Turned (now places) (nodeAt (held (now places) (now queue)) member) y
         × (x < wordCount (now places)) ⌝ }
-    ensures { λ r. ⌜ Progressed (now (places .entry)) (now (marks .exit)) (now (queue .exit))
+    ensures { λ r. ⌜ Progressed (now (places .entry)) (now (marks .exit)) (held (now (places .entry)) (now (queue .exit)))
         (group .start) (group .end) symbol member ((x + 1) * 32) r
-        × Turned (now (places .entry)) (nodeAt (now (queue .exit)) member) y ⌝ }
+        × Turned (now (places .entry)) (nodeAt (held (now (places .entry)) (now (queue .exit))) member) y ⌝ }
 {
     if !leads(places, symbol, y, x) {
         return Progress::Tail(tail);
@@ -97,8 +98,8 @@ fn expand_words(
     tail: usize,
 ) -> Progress
     requires { ⌜ Expanding (now places) (now marks) (now queue) tail (group .start) (group .end) symbol member 0
-        × Turned (now places) (nodeAt (now queue) member) y ⌝ }
-    ensures { λ r. ⌜ Progressed (now (places .entry)) (now (marks .exit)) (now (queue .exit))
+        × Turned (now places) (nodeAt (held (now places) (now queue)) member) y ⌝ }
+    ensures { λ r. ⌜ Progressed (now (places .entry)) (now (marks .exit)) (held (now (places .entry)) (now (queue .exit)))
         (group .start) (group .end) symbol (member + 1) 0 r ⌝ }
 {
     let n = places::word_count(places);
@@ -125,10 +126,10 @@ pub fn expand_member(
     tail: usize,
 ) -> Progress
     requires { ⌜ Expanding (now places) (now marks) (now queue) tail (group .start) (group .end) symbol member 0 ⌝ }
-    ensures { λ r. ⌜ Progressed (now (places .entry)) (now (marks .exit)) (now (queue .exit))
+    ensures { λ r. ⌜ Progressed (now (places .entry)) (now (marks .exit)) (held (now (places .entry)) (now (queue .exit)))
         (group .start) (group .end) symbol (member + 1) 0 r ⌝ }
 {
-    let pair = pair_of(queue[member]);
+    let pair = pair_at(queue, member);
     let y = turning(places, pair);
     if y < Turns::NOT {
         return expand_words(places, marks, queue, group, symbol, member, y, tail);

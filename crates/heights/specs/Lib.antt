@@ -4,7 +4,9 @@ pub mod Height
 pub mod State
 pub mod Transitions
 pub mod Pairs
+pub mod Carrying
 pub mod Search
 pub mod Pass
 pub mod Follow
+pub mod Pop
 pub mod Advance

@@ -2,17 +2,16 @@
 // search goes through its successors, an entry on the stack; the caller lends both buffers. Each slot of a pair is looked up once: its height
 // through the slots passed stands above the pair in its entry.
 
-use places::Layout;
 use places::Pair;
-use places::entries;
 ghost use mathlib.Core.Path.{_≡_};
-ghost use Prim.Native.Nat.{_+_, _-_, _≤_, _<_, max};
-ghost use lib.ListN.{length, getD, set};
-ghost use Rattle.places.specs.Entries.{aboveAt};
-ghost use Rattle.heights.specs.State.{top};
+ghost use Prim.Native.Nat.{_-_, _≤_, _<_, max};
+ghost use Rattle.storage.specs.Fields.{aboveRoom, markRoom};
+ghost use Rattle.storage.specs.Entries.{held};
+ghost use Rattle.storage.specs.Stores.{Marked, markOf};
 ghost use Rattle.heights.specs.Search.{Top, Searching, Advanced};
-ghost use Rattle.heights.specs.Pass.{Passing, Passed};
+ghost use Rattle.heights.specs.Pass.{Passed};
 ghost use Rattle.heights.specs.Follow.{Following};
+ghost use Rattle.heights.specs.Pop.{Popping};
 
 // After one transition: how many entries the stack has, or that a cycle is closed.
 pub enum Progress {
@@ -25,15 +24,15 @@ pub enum Progress {
 struct Mark {}
 
 impl Mark {
-    const FINISHED: u16 = 34;
+    const FINISHED: usize = 34;
 }
 
 // The height of a finished pair, from its mark.
-pub fn height_at(marks: &[u16], node: usize) -> usize
-    requires { ⌜ (node < length (now marks)) × (34 ≤ getD (now marks) node 0) ⌝ }
-    ensures { λ r. ⌜ (r ≡ getD (now (marks .entry)) node 0 - 34) × (r < 65536) ⌝ }
+pub fn height_at(places: &[u8], marks: &[u16], pair: Pair) -> usize
+    requires { ⌜ Marked (now places) (now marks) pair × (34 ≤ markOf (now places) (now marks) pair) ⌝ }
+    ensures { λ r. ⌜ (r ≡ markOf (now (places .entry)) (now (marks .entry)) pair - 34) × (r < markRoom) ⌝ }
 {
-    (marks[node] - Mark::FINISHED) as usize
+    storage::mark(places, marks, pair) - Mark::FINISHED
 }
 
 // The greater of two heights.
@@ -43,25 +42,17 @@ fn greater(a: usize, b: usize) -> usize
     if a < b { b } else { a }
 }
 
-// Finishes the pair on top: from now on its mark has the height on its entry.
-fn finish(marks: &mut [u16], stack: &[u64], depth: usize)
-    requires { ⌜ Top (now marks) (now stack) depth ⌝ }
-    ensures { λ _. ⌜ now (marks .exit) ≡ set (now (marks .entry)) (top (now (stack .entry)) depth) (aboveAt (now (stack .entry)) (depth - 1) + 34) ⌝ }
+// Passes the next slot of the pair on top, which leads to a finished pair. The height through that slot, one more than that pair's, is `through`.
+fn pass(places: &[u8], marks: &mut [u16], stack: &mut [u64], depth: usize, through: usize)
+    requires { ⌜ Top (now places) (now marks) (held (now places) (now stack)) depth × (through < aboveRoom) ⌝ }
+    ensures { λ _. ⌜ Passed (now (marks .entry)) (held (now (places .entry)) (now (stack .entry))) depth through
+        (now (marks .exit)) (held (now (places .entry)) (now (stack .exit))) ⌝ }
 {
-    let entry = stack[depth - 1];
-    marks[entries::node_in(entry)] = entries::above_in(entry) as u16 + Mark::FINISHED;
-}
-
-// Passes the next slot of the pair on top, which leads to the finished pair `target`.
-fn pass(marks: &mut [u16], stack: &mut [u64], depth: usize, target: usize)
-    requires { ⌜ Passing (now marks) (now stack) depth target ⌝ }
-    ensures { λ _. ⌜ Passed (now (marks .entry)) (now (stack .entry)) depth target (now (marks .exit)) (now (stack .exit)) ⌝ }
-{
-    let entry = stack[depth - 1];
-    let node = entries::node_in(entry);
-    let height = greater(entries::above_in(entry), height_at(marks, target) + 1);
-    marks[node] = marks[node] + 1;
-    stack[depth - 1] = entries::entry(height, node);
+    let rest = depth - 1;
+    let pair = storage::pair_at(stack, rest);
+    let height = greater(storage::above_at(stack, rest), through);
+    let mark = storage::mark(places, marks, pair) + 1;
+    storage::store(places, marks, stack, rest, height, pair, mark);
 }
 
 // Follows the next slot of the pair on top: it is passed, or leads to a pair that is pushed.
@@ -73,45 +64,52 @@ fn follow(
     pair: Pair,
     slot: usize,
 ) -> Progress
-    requires { ⌜ Following (now places) (now marks) (now stack) depth pair slot ⌝ }
-    ensures { λ r. ⌜ Advanced (now (places .entry)) (now (marks .entry)) (now (marks .exit)) (now (stack .exit)) r ⌝ }
+    requires { ⌜ Following (now places) (now marks) (held (now places) (now stack)) depth pair slot ⌝ }
+    ensures { λ r. ⌜ Advanced (now (places .entry)) (now (marks .entry)) (now (marks .exit)) (held (now (places .entry)) (now (stack .exit))) r ⌝ }
 {
     let next = places::successor(places, pair.low, pair.high, slot);
-    if Layout::PLACES <= next.low {
-        let node = entries::node(pair);
-        marks[node] = marks[node] + 1;
+    if places::place_count(places) <= next.low {
+        storage::set_mark(places, marks, pair, slot + 2);
         return Progress::Depth(depth);
     }
-    let target = entries::node(next);
-    if marks[target] == 0 {
-        marks[target] = 1;
-        stack[depth] = target as u64;
-        return Progress::Depth(depth + 1);
+    let met = storage::mark(places, marks, next);
+    if met == 0 {
+        storage::store(places, marks, stack, depth, 0, next, 1);
+        let deeper = depth + 1;
+        return Progress::Depth(deeper);
     }
-    if marks[target] < Mark::FINISHED {
+    if met < Mark::FINISHED {
         return Progress::Cycle;
     }
-    pass(marks, stack, depth, target);
+    let through = met - Mark::FINISHED + 1;
+    pass(places, marks, stack, depth, through);
     Progress::Depth(depth)
 }
 
-// One transition: the next slot of the pair on top is followed. With no slot left the pair is finished and popped, and the pair below
-// passes the slot that led to it.
-pub fn advance(places: &[u8], marks: &mut [u16], stack: &mut [u64], depth: usize) -> Progress
-    requires { ⌜ Searching (now places) (now marks) (now stack) depth ⌝ }
-    ensures { λ r. ⌜ Advanced (now (places .entry)) (now (marks .entry)) (now (marks .exit)) (now (stack .exit)) r ⌝ }
+// Finishes the pair on top, which has no slot left, and pops it; the pair below passes the slot that led to it.
+fn pop(places: &[u8], marks: &mut [u16], stack: &mut [u64], depth: usize, pair: Pair) -> Progress
+    requires { ⌜ Popping (now places) (now marks) (held (now places) (now stack)) depth pair ⌝ }
+    ensures { λ r. ⌜ Advanced (now (places .entry)) (now (marks .entry)) (now (marks .exit)) (held (now (places .entry)) (now (stack .exit))) r ⌝ }
 {
     let rest = depth - 1;
-    let node = entries::node_in(stack[rest]);
-    let pair = entries::pair_of(node);
-    let slot = marks[node] as usize - 1;
-    if slot < places::slots(places, pair.low, pair.high) {
-        return follow(places, marks, stack, depth, pair, slot);
-    }
-    finish(marks, stack, depth);
+    let height = storage::above_at(stack, rest);
+    storage::set_mark(places, marks, pair, height + Mark::FINISHED);
     if rest == 0 {
         return Progress::Depth(rest);
     }
-    pass(marks, stack, rest, node);
+    pass(places, marks, stack, rest, height + 1);
     Progress::Depth(rest)
+}
+
+// One transition: the next slot of the pair on top is followed, or with no slot left the pair is popped.
+pub fn advance(places: &[u8], marks: &mut [u16], stack: &mut [u64], depth: usize) -> Progress
+    requires { ⌜ Searching (now places) (now marks) (held (now places) (now stack)) depth ⌝ }
+    ensures { λ r. ⌜ Advanced (now (places .entry)) (now (marks .entry)) (now (marks .exit)) (held (now (places .entry)) (now (stack .exit))) r ⌝ }
+{
+    let pair = storage::pair_at(stack, depth - 1);
+    let slot = storage::mark(places, marks, pair) - 1;
+    if slot < places::slots(places, pair.low, pair.high) {
+        return follow(places, marks, stack, depth, pair, slot);
+    }
+    pop(places, marks, stack, depth, pair)
 }

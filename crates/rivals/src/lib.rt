@@ -5,6 +5,7 @@ use places::Layout;
 use places::Pair;
 use places::first_pair;
 use places::may_come;
+use places::no_pair;
 use places::word_count;
 ghost use mathlib.Core.Path.{_≡_};
 ghost use Prim.Native.Nat.{_≤_, _<_};
@@ -43,15 +44,12 @@ pub fn are_rivals(places: &[u8], x: usize, y: usize) -> bool
 // The first pair of words `x` and `y`, if they are rivals with the same first symbol.
 pub fn rival_pair(places: &[u8], x: usize, y: usize) -> Pair
     requires { ⌜ Laid (now places) × (x < 32) × (y < 32) ⌝ }
-    ensures { λ r. ⌜ Arrives (firstNode (now (places .entry)) x y) r ⌝ }
+    ensures { λ r. ⌜ Arrives (now (places .entry)) (firstNode (now (places .entry)) x y) r ⌝ }
 {
     if are_rivals(places, x, y) {
         return first_pair(places, x, y);
     }
-    Pair {
-        low: Layout::PLACES,
-        high: 0,
-    }
+    no_pair(places)
 }
 
 // Whether word `x` has a rival before it.

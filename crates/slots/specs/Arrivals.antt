@@ -3,17 +3,22 @@ use mathlib.Core.Path.{_≡_, refl}
 use mathlib.Core.List.{List}
 use Prim.Native.Nat.{ℕ, _+_, _≤_, _<_}
 use native.Mathlib.Omega.{arith}
-use lib.ListN.{length, getD, set}
-use Rattle.places.specs.Entries.{entryOf}
+use lib.ListN.{getD}
+use Rattle.places.specs.declared.Pair.{Pair}
+use Rattle.places.specs.Flat.{Laid, placeCount, cellCount, cell}
+use Rattle.places.specs.Nodes.{low-inside, pairs-limited}
 use Rattle.places.specs.Opens.{openGraph}
+use Rattle.storage.specs.Entries.{held}
+use Rattle.storage.specs.Fields.{aboveRoom}
+use Rattle.storage.specs.Stores.{Stored}
 use Rattle.slots.specs.declared.Arrival.{Arrival}
 use Rattle.slots.specs.declared.Arrival.the-variants.{Passed, Fresh, Goal as Final}
 use Rattle.slots.specs.declared.Progress.the-variants.{Goal, Tail}
-use Rattle.slots.specs.Contracts.{IsFresh, IsGoal, Seen, passed, fresh, goal, Arrived, known, final, queued}
+use Rattle.slots.specs.Contracts.{IsFresh, IsGoal, Seen, passed, fresh, goal, Space, Arrived, known, final, queued}
 
 -- What each arrival says.
 module _ {f ms : List ℕ} {v t : ℕ} where
-  was-passed : {x : Arrival} → Seen f ms v t x → x ≡ Passed → v < 16384 → openGraph f .symbol v ≡ t → 1 ≤ getD ms v 0
+  was-passed : {x : Arrival} → Seen f ms v t x → x ≡ Passed → v < cellCount f → openGraph f .symbol v ≡ t → 1 ≤ getD ms v 0
   was-passed (passed h) e = h
   was-passed (fresh h) e = let y : _≡_ {A = ℕ} 0 1 = cc in absurd (omega arith)
   was-passed (goal h) e = let y : _≡_ {A = ℕ} 0 1 = cc in absurd (omega arith)
@@ -22,10 +27,6 @@ module _ {f ms : List ℕ} {v t : ℕ} where
   was-fresh (passed h) e = let y : _≡_ {A = ℕ} 0 1 = cc in absurd (omega arith)
   was-fresh (fresh h) e = h
   was-fresh (goal h) e = let y : _≡_ {A = ℕ} 0 1 = cc in absurd (omega arith)
-
-  -- A new node has a mark.
-  pub fresh-within : {x : Arrival} {i : ℕ} → Seen f ms v t x → x ≡ Fresh → i ≡ v → length ms ≡ 16384 → i < length ms
-  fresh-within y h z l = let m = was-fresh y h .node in omega arith
 
   was-final : {x : Arrival} → Seen f ms v t x → x ≡ Final → IsGoal f v t
   was-final (passed h) e = let y : _≡_ {A = ℕ} 0 1 = cc in absurd (omega arith)
@@ -40,5 +41,15 @@ module _ {f ms : List ℕ} {v t : ℕ} where
     pub meets-goal : x ≡ Final → Arrived f ms q ms q a t tail v (Goal t)
     meets-goal e = final (was-final y e) refl refl
 
-    pub meets-fresh : {i e : ℕ} → x ≡ Fresh → i ≡ v → e ≡ entryOf (a + 1) v → Arrived f ms q (set ms i 1) (set q tail e) a t tail v (Tail (tail + 1))
-    meets-fresh {i} {e} h z w = queued (was-fresh y h) (rw z refl) (rw w refl)
+-- A pair that is stored has two places,
+pub fresh-low : {f ms : List ℕ} {t : ℕ} {x : Arrival} (p : Pair) → Seen f ms (cell f (p .low) (p .high)) t x → x ≡ Fresh → p .low < placeCount f
+fresh-low {f} p y e = low-inside f (p .low) (p .high) (was-fresh y e .node)
+
+-- and the mark that is set and the entry that is stored are those of one pair.
+pub meets-fresh : {f ms q ms′ q′ : List ℕ} {a t tail : ℕ} {x : Arrival} (p : Pair) → Seen f ms (cell f (p .low) (p .high)) t x → x ≡ Fresh
+    → Stored f ms q tail (a + 1) p 1 ms′ q′ → Arrived f ms (held f q) ms′ (held f q′) a t tail (cell f (p .low) (p .high)) (Tail (tail + 1))
+meets-fresh p y e s = queued (was-fresh y e) (s .marks) (s .entries)
+
+-- The number above an entry fits its field.
+pub above-fits : {f ms q : List ℕ} {tail a : ℕ} → Laid f → Space f ms q tail a → a + 1 < aboveRoom
+above-fits laid s = let n = pairs-limited laid in let h = s .few in let l = s .start in omega arith

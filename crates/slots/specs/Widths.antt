@@ -2,11 +2,11 @@
 use mathlib.Core.Path.{_≡_}
 use mathlib.Core.Bool.{Bool, true, false}
 use mathlib.Core.List.{List}
-use Prim.Native.Nat.{ℕ, _+_, _*_, _/_, _%_, _<_}
+use Prim.Native.Nat.{ℕ, _+_, _*_, _<_}
 use lib.Dec.{ltb, eqb}
 use borrow.Author.Tests.{lt-ltb}
 use Rattle.code.specs.Definitions.Lists.{if_then_else_}
-use Rattle.places.specs.Flat.{symbolAt, endAt, wordCount, slotsOf}
+use Rattle.places.specs.Flat.{symbolAt, endAt, wordCount, slotsOf, lower, higher}
 use Rattle.places.specs.Opens.{turning}
 
 module _ (f : List ℕ) where
@@ -21,13 +21,13 @@ module _ (f : List ℕ) where
   -- How many slots of node v, or of the source, may lead on by t.
   unfoldable pub width : ℕ → ℕ → ℕ
   unfolding turning
-  width v t = if ltb (turning f v) 33 then wordCount f * 32 else if leadsOn (v / 128) (v % 128) t then slotsOf f (v / 128) (v % 128) else 0
+  width v t = if ltb (turning f v) 33 then wordCount f * 32 else if leadsOn (lower f v) (higher f v) t then slotsOf f (lower f v) (higher f v) else 0
 
-  pub width-on : (v t : ℕ) → turning f v ≡ 33 → leadsOn (v / 128) (v % 128) t ≡ true → width v t ≡ slotsOf f (v / 128) (v % 128)
+  pub width-on : (v t : ℕ) → turning f v ≡ 33 → leadsOn (lower f v) (higher f v) t ≡ true → width v t ≡ slotsOf f (lower f v) (higher f v)
   unfolding width
   width-on v t z e = rw z (rw e)
 
-  pub width-off : (v t : ℕ) → turning f v ≡ 33 → leadsOn (v / 128) (v % 128) t ≡ false → width v t ≡ 0
+  pub width-off : (v t : ℕ) → turning f v ≡ 33 → leadsOn (lower f v) (higher f v) t ≡ false → width v t ≡ 0
   unfolding width
   width-off v t z e = rw z (rw e)
 

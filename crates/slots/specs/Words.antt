@@ -8,7 +8,7 @@ use lib.Dec.{eqb}
 use borrow.Author.Tests.{eq-eqb, ne-eqb}
 use Rattle.code.specs.Definitions.Lists.{if_then_else_}
 use Rattle.places.specs.declared.Pair.{Pair}
-use Rattle.places.specs.Flat.{Laid, symbolAt, firstAt, mayCome, opensAt, wordCount}
+use Rattle.places.specs.Flat.{Laid, symbolAt, firstAt, mayCome, opensAt, wordCount, cell}
 use Rattle.places.specs.Opens.{inOrder, pairBehind, Behind, behind-tests, behind-both, in-order-le}
 use Rattle.places.specs.Steps.{Arrives, startNode}
 use Rattle.slots.specs.declared.Progress.{Progress}
@@ -51,7 +51,7 @@ at-words laid x z k = let n = laid .words in (omega arith, omega arith)
 
 module _ {f ms q : List ℕ} {a t tail : ℕ} (laid : Laid f) (y x z : ℕ) (known : z < wordCount f) where
   pub meets-pair : {b : Bool} {r : Pair} {ms′ q′ : List ℕ} {p : Progress} → mayCome f x y ≡ true → inOrder f x z ≡ true → b ≡ mayCome f z y → b ≡ true
-      → Arrives (startNode f x z) r → Arrived f ms q ms′ q′ a t tail (r .low * 128 + r .high) p → Arrived f ms q ms′ q′ a t tail (pairBehind f y (x * 32 + z)) p
+      → Arrives f (startNode f x z) r → Arrived f ms q ms′ q′ a t tail (cell f (r .low) (r .high)) p → Arrived f ms q ms′ q′ a t tail (pairBehind f y (x * 32 + z)) p
   meets-pair left order d e arrives h =
       let w = at-words laid x z known in
       let both : Behind f y (x * 32 + z) = record { order = rw (w .0, w .1) order; known = rw (w .1) known; left = rw (w .0) left; right = rw (w .1) (sym d ∙ e) } in

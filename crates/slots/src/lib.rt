@@ -1,19 +1,18 @@
 // One pair of the search for the shortest message, or the source of all walks: whether it turns, how many of its slots may lead on by a symbol, what stands
-// where one leads, its entry of the queue, and how a pair is met.
+// where one leads, the key of its entry of the queue, and how a pair is met.
 
-pub mod entries;
 pub mod meeting;
 
 use code::Code;
-use places::Layout;
 use places::Pair;
-use places::entries::node;
 ghost use mathlib.Core.Path.{_≡_};
-ghost use Prim.Native.Nat.{_+_, _*_, _≤_, _<_};
-ghost use lib.ListN.{length};
-ghost use Rattle.places.specs.Flat.{Laid};
+ghost use Prim.Native.Nat.{_≤_, _<_};
+ghost use lib.ListN.{length, getD};
+ghost use Rattle.places.specs.Flat.{Laid, placeCount, cellCount};
 ghost use Rattle.places.specs.Opens.{turning, openGraph};
-ghost use Rattle.slots.specs.Contracts.{Straight, Seen};
+ghost use Rattle.places.specs.Steps.{pairCell};
+ghost use Rattle.storage.specs.Entries.{nodeAt, held};
+ghost use Rattle.slots.specs.Contracts.{keyOf, Straight, Seen};
 ghost use Rattle.slots.specs.Widths.{innerOf, width};
 
 pub struct Turns {}
@@ -39,11 +38,11 @@ pub enum Progress {
 // Behind what a pair goes on with any two words: the start, `Code::WORDS`, for the source, a word for its end with itself, if openings matter. `Turns::NOT` for
 // other pairs.
 pub fn turning(places: &[u8], pair: Pair) -> usize
-    requires { ⌜ Laid (now places) × (pair .high < 128) ⌝ }
-    ensures { λ r. ⌜ (r ≡ turning (now (places .entry)) (pair .low * 128 + pair .high)) × (r ≤ 33) ⌝ }
+    requires { ⌜ Laid (now places) × (pair .high < placeCount (now places)) ⌝ }
+    ensures { λ r. ⌜ (r ≡ turning (now (places .entry)) (pairCell (now (places .entry)) pair)) × (r ≤ 33) ⌝ }
 {
     let low = pair.low;
-    if Layout::PLACES <= low {
+    if places::place_count(places) <= low {
         return Code::WORDS;
     }
     if low == pair.high {
@@ -58,8 +57,8 @@ pub fn turning(places: &[u8], pair: Pair) -> usize
 
 // A place inside its word, if the pair is not two ends.
 pub fn inner(places: &[u8], pair: Pair) -> usize
-    requires { ⌜ Laid (now places) × (pair .low < 128) × (pair .high < 128) ⌝ }
-    ensures { λ r. ⌜ (r ≡ innerOf (now (places .entry)) (pair .low) (pair .high)) × (r < 128) ⌝ }
+    requires { ⌜ Laid (now places) × (pair .low < placeCount (now places)) × (pair .high < placeCount (now places)) ⌝ }
+    ensures { λ r. ⌜ (r ≡ innerOf (now (places .entry)) (pair .low) (pair .high)) × (r < placeCount (now (places .entry))) ⌝ }
 {
     if places::is_end(places, pair.low) {
         return pair.high;
@@ -70,7 +69,7 @@ pub fn inner(places: &[u8], pair: Pair) -> usize
 // How many slots of a pair that does not turn may lead on by a symbol.
 pub fn width(places: &[u8], pair: Pair, symbol: usize) -> usize
     requires { ⌜ Laid (now places) × Straight (now places) pair ⌝ }
-    ensures { λ r. ⌜ r ≡ width (now (places .entry)) (pair .low * 128 + pair .high) symbol ⌝ }
+    ensures { λ r. ⌜ r ≡ width (now (places .entry)) (pairCell (now (places .entry)) pair) symbol ⌝ }
 {
     let place = inner(places, pair);
     if places[place + 1] as usize == symbol {
@@ -81,8 +80,8 @@ pub fn width(places: &[u8], pair: Pair, symbol: usize) -> usize
 
 // Whether the places of a pair are ends of different words.
 fn two_ends(places: &[u8], pair: Pair) -> bool
-    requires { ⌜ Laid (now places) × (pair .low < 128) × (pair .high < 128) ⌝ }
-    ensures { λ r. ⌜ r ≡ openGraph (now (places .entry)) .goal (pair .low * 128 + pair .high) ⌝ }
+    requires { ⌜ Laid (now places) × (pair .low < placeCount (now places)) × (pair .high < placeCount (now places)) ⌝ }
+    ensures { λ r. ⌜ r ≡ openGraph (now (places .entry)) .goal (pairCell (now (places .entry)) pair) ⌝ }
 {
     if pair.low == pair.high {
         return false;
@@ -95,20 +94,33 @@ fn two_ends(places: &[u8], pair: Pair) -> bool
 
 // What stands where a slot leads, for a symbol.
 pub fn look(places: &[u8], marks: &[u16], pair: Pair, symbol: usize) -> Arrival
-    requires { ⌜ Laid (now places) × (length (now marks) ≡ 16384) × (pair .low ≤ 128) × (pair .high < 128) ⌝ }
-    ensures { λ r. ⌜ Seen (now (places .entry)) (now (marks .entry)) (pair .low * 128 + pair .high) symbol r ⌝ }
+    requires { ⌜ Laid (now places)
+        × (length (now marks) ≡ cellCount (now places))
+        × (pair .low ≤ placeCount (now places))
+        × (pair .high < placeCount (now places)) ⌝ }
+    ensures { λ r. ⌜ Seen (now (places .entry)) (now (marks .entry)) (pairCell (now (places .entry)) pair) symbol r ⌝ }
 {
-    if Layout::PLACES <= pair.low {
+    if places::place_count(places) <= pair.low {
         return Arrival::Passed;
     }
     if places::symbol(places, pair.high) != symbol {
         return Arrival::Passed;
     }
-    if marks[node(pair)] != 0 {
+    if storage::mark(places, marks, pair) != 0 {
         return Arrival::Passed;
     }
     if two_ends(places, pair) {
         return Arrival::Goal;
     }
     Arrival::Fresh
+}
+
+// The group of entry `i` of the queue, as a number: where the group of its predecessor begins, and its symbol. An entry has a pair, or the source, and above it
+// one more than where the group of its predecessor begins; 0 for the source.
+pub fn key(places: &[u8], queue: &[u64], i: usize) -> usize
+    requires { ⌜ Laid (now places) × (i < length (now queue)) × (nodeAt (held (now places) (now queue)) i ≤ cellCount (now places)) ⌝ }
+    ensures { λ r. ⌜ r ≡ keyOf (now (places .entry)) (getD (held (now (places .entry)) (now (queue .entry))) i 0) ⌝ }
+{
+    let pair = storage::pair_at(queue, i);
+    (storage::above_at(queue, i) << 4) + places::symbol(places, pair.high)
 }

@@ -3,15 +3,16 @@
 
 use crate::Arrival;
 use crate::Progress;
-use crate::entries::entry;
 use crate::look;
 use places::Pair;
-use places::entries::node;
+use storage::store;
 ghost use mathlib.Core.Path.{_≡_};
 ghost use mathlib.Core.Bool.{true};
 ghost use Prim.Native.Nat.{_+_, _*_, _≤_, _<_};
-ghost use Rattle.places.specs.Flat.{Laid, mayCome, wordCount};
+ghost use Rattle.places.specs.Flat.{Laid, mayCome, wordCount, placeCount};
 ghost use Rattle.places.specs.Opens.{inOrder, pairBehind};
+ghost use Rattle.places.specs.Steps.{pairCell};
+ghost use Rattle.storage.specs.Entries.{held};
 ghost use Rattle.slots.specs.Contracts.{Space, Arrived};
 ghost use Rattle.slots.specs.Words.{leadsBehind, leastBehind};
 
@@ -25,16 +26,19 @@ pub fn meet(
     pair: Pair,
     tail: usize,
 ) -> Progress
-    requires { ⌜ Laid (now places) × Space (now marks) (now queue) tail start × (pair .low ≤ 128) × (pair .high < 128) ⌝ }
-    ensures { λ r. ⌜ Arrived (now (places .entry)) (now (marks .entry)) (now (queue .entry)) (now (marks .exit)) (now (queue .exit))
-        start symbol tail (pair .low * 128 + pair .high) r ⌝ }
+    requires { ⌜ Laid (now places)
+        × Space (now places) (now marks) (now queue) tail start
+        × (pair .low ≤ placeCount (now places))
+        × (pair .high < placeCount (now places)) ⌝ }
+    ensures { λ r. ⌜ Arrived (now (places .entry)) (now (marks .entry)) (held (now (places .entry)) (now (queue .entry)))
+        (now (marks .exit)) (held (now (places .entry)) (now (queue .exit)))
+        start symbol tail (pairCell (now (places .entry)) pair) r ⌝ }
 {
     match look(places, marks, pair, symbol) {
         Arrival::Passed => Progress::Tail(tail),
         Arrival::Goal => Progress::Goal(symbol),
         Arrival::Fresh => {
-            marks[node(pair)] = 1;
-            queue[tail] = entry(start + 1, pair);
+            store(places, marks, queue, tail, start + 1, pair, 1);
             Progress::Tail(tail + 1)
         }
     }
@@ -52,9 +56,10 @@ pub fn meet_words(
     z: usize,
     tail: usize,
 ) -> Progress
-    requires { ⌜ Laid (now places) × Space (now marks) (now queue) tail start × (y ≤ 32) × (mayCome (now places) x y ≡ true)
+    requires { ⌜ Laid (now places) × Space (now places) (now marks) (now queue) tail start × (y ≤ 32) × (mayCome (now places) x y ≡ true)
         × (inOrder (now places) x z ≡ true) × (z < wordCount (now places)) ⌝ }
-    ensures { λ r. ⌜ Arrived (now (places .entry)) (now (marks .entry)) (now (queue .entry)) (now (marks .exit)) (now (queue .exit))
+    ensures { λ r. ⌜ Arrived (now (places .entry)) (now (marks .entry)) (held (now (places .entry)) (now (queue .entry)))
+        (now (marks .exit)) (held (now (places .entry)) (now (queue .exit)))
         start symbol tail (pairBehind (now (places .entry)) y (x * 32 + z)) r ⌝ }
 {
     if places::may_come(places, z, y) {

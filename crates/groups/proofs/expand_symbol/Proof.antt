@@ -2,8 +2,10 @@
 -- group.
 use borrow.Author.Needs.{needs}
 use mathlib.Core.Path.{_≡_}
-use Prim.Native.Nat.{_≤_, _-_}
+use Prim.Native.Nat.{_+_, _≤_, _-_}
 use lib.ListN.{length}
+use Rattle.places.specs.Flat.{pairCount}
+use Rattle.storage.specs.Entries.{held}
 use Rattle.groups.specs.Contracts.{Stands}
 use Rattle.groups.specs.Parts.{was-tail, goal-again, expanding, symbol-end}
 use Rattle.groups.proofs.expand_symbol.Statement.{statement}
@@ -12,7 +14,7 @@ use Rattle.groups.proofs.expand_symbol.Tie as tie
 abbrev Inv-loop : tie.InvT-loop
 Inv-loop places marks₀ queue₀ group symbol tail member₀ tail₀ marks queue member tail'
     =
-    Stands places marks queue tail' (group .start) (group .end) symbol member 0 × (16384 ≤ length queue)
+    Stands places marks (held places queue) tail' (group .start) (group .end) symbol member 0 × (pairCount places + 2 ≤ length queue)
     × (length marks ≡ length marks₀)
     × (length queue ≡ length queue₀)
 

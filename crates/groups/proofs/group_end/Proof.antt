@@ -2,31 +2,38 @@
 use borrow.Author.Needs.{needs}
 use Prim.Native.Nat.{_-_}
 use Rattle.places.specs.Opens.{openGraph}
-use Rattle.groups.specs.Runs.{group-more, group-differs, group-last}
-use Rattle.groups.specs.Runs.{Run, run-one}
+use Rattle.storage.specs.Entries.{held}
+use Rattle.groups.specs.Carrying.{known-node}
+use Rattle.groups.specs.Runs.{Run, run-one, group-more, group-differs, group-last}
 use Rattle.groups.proofs.group_end.Statement.{statement}
 use Rattle.groups.proofs.group_end.Tie as tie
 
 abbrev Inv-loop : tie.InvT-loop
-Inv-loop places queue start tail first end₀ end = Run (openGraph places) queue tail start end
+Inv-loop places queue start tail first end₀ end = Run (openGraph places) (held places queue) tail start end
 
 abbrev μ-loop : tie.MeasureT-loop
 μ-loop places queue start tail first end₀ end = tail - end
 
+key-requires : tie.Need-key-requires Inv-loop μ-loop
+key-requires c κs = (search needs, search needs, search known-node)
+
 loop-holds : tie.Need-loop-holds Inv-loop μ-loop
 loop-holds c = search run-one
 
+key-requires-2 : tie.Need-key-requires-2 Inv-loop μ-loop
+key-requires-2 c κs = (search needs, search needs, search known-node)
+
 returns : tie.Need-returns Inv-loop μ-loop
 returns c =
-    let l = c .before .before .before .before in
-    let s = l .before .before .before .before .before in
-    group-differs (s .pre .0) (s .pre .1) (l .loop .inv) (c .before .key2 .ensures) (l .before .key .ensures) (c .if1 .taken)
+    let l = c .before .before .before in
+    let s = l .before .before .before .before in
+    group-differs (s .pre .0) (s .pre .2) (l .loop .inv) (c .before .key2 .ensures) (l .before .key .ensures) (c .if1 .taken)
 
 loop-again : tie.Need-loop-again Inv-loop μ-loop
 loop-again c =
-    let l = c .before .before .before .before in
-    let s = l .before .before .before .before .before in
-    group-more (s .pre .0) (s .pre .1) (l .loop .inv) (c .before .key2 .ensures) (l .before .key .ensures) (c .if1 .left) (search needs)
+    let l = c .before .before .before in
+    let s = l .before .before .before .before in
+    group-more (s .pre .0) (s .pre .2) (l .loop .inv) (c .before .key2 .ensures) (l .before .key .ensures) (c .if1 .left) (search needs)
 
 returns-2 : tie.Need-returns-2 Inv-loop μ-loop
 returns-2 c = search group-last
@@ -37,14 +44,10 @@ group-end-spec =
     (tie.spec
     Inv-loop
     μ-loop
-    (λ c. search needs)
-    (λ c. search needs)
-    (λ c κs. search needs)
+    key-requires
     (λ c. search needs)
     loop-holds
-    (λ c. search needs)
-    (λ c. search needs)
-    (λ c κs. search needs)
+    key-requires-2
     returns
     (λ c. search needs)
     (λ c. search needs)

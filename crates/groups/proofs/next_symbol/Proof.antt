@@ -2,18 +2,23 @@
 -- left of the group.
 use borrow.Author.Needs.{needs}
 use Prim.Native.Nat.{_≤_, _-_}
+use Rattle.storage.specs.Entries.{held}
+use Rattle.groups.specs.Carrying.{known-high}
 use Rattle.groups.specs.Symbols.{NoneLed, none-led-begin, none-led-more, none-led-end}
 use Rattle.groups.proofs.next_symbol.Statement.{statement}
 use Rattle.groups.proofs.next_symbol.Tie as tie
 
 abbrev Inv-loop : tie.InvT-loop
-Inv-loop places queue group symbol least₀ member₀ least member = NoneLed places queue (group .start) member symbol least × (least ≤ 16)
+Inv-loop places queue group symbol least₀ member₀ least member = NoneLed places (held places queue) (group .start) member symbol least × (least ≤ 16)
 
 abbrev μ-loop : tie.MeasureT-loop
 μ-loop places queue group symbol least₀ member₀ least member = group .end - member
 
 loop-holds : tie.Need-loop-holds Inv-loop μ-loop
 loop-holds c = (search none-led-begin, search needs)
+
+sooner-requires : tie.Need-sooner-requires Inv-loop μ-loop
+sooner-requires c κs = (search needs, search known-high, search needs)
 
 loop-again : tie.Need-loop-again Inv-loop μ-loop
 loop-again c = (search none-led-more, search needs)
@@ -29,10 +34,8 @@ next-symbol-spec =
     μ-loop
     (λ c. search needs)
     loop-holds
-    (λ c. search needs)
-    (λ c. search needs)
     (λ c κs. search needs)
-    (λ c κs. search needs)
+    sooner-requires
     (λ c. search needs)
     (λ c. search needs)
     loop-again

@@ -11,8 +11,8 @@ returns c =
 
 returns-2 : tie.Need-returns-2
 returns-2 c =
-    let a = c .before .before .before .args in
-    arrives-not (a .places .now) (a .x) (a .y) (c .before .are-rivals .ensures) (c .if1 .left)
+    let a = c .before .before .before .before .args in
+    arrives-not (a .places .now) (a .x) (a .y) (c .before .before .are-rivals .ensures) (c .before .if1 .left) (c .no-pair .ensures)
 
 pub rival-pair-spec : {M : Type 1} → statement M
 rival-pair-spec =
@@ -21,4 +21,5 @@ rival-pair-spec =
     (λ c κs. search needs)
     (λ c κs. search needs)
     returns
+    (λ c κs. search needs)
     returns-2)

@@ -23,6 +23,7 @@ pub turning-spec : {M : Type 1} → statement M
 turning-spec =
     tie.close
     (tie.spec
+    (λ c κs. search needs)
     returns
     (λ c κs. search needs)
     (λ c κs. search needs)

@@ -2,9 +2,10 @@
 -- left of the slots.
 use borrow.Author.Needs.{needs}
 use mathlib.Core.Path.{_≡_}
-use Prim.Native.Nat.{_+_, _*_, _-_}
+use Prim.Native.Nat.{_-_}
 use lib.ListN.{length}
-use Rattle.places.specs.Entries.{nodeAt}
+use Rattle.places.specs.Flat.{cell}
+use Rattle.storage.specs.Entries.{nodeAt, held}
 use Rattle.groups.specs.Contracts.{Expanding}
 use Rattle.groups.specs.Parts.{space}
 use Rattle.groups.specs.Steps.{same-number}
@@ -16,7 +17,7 @@ abbrev Inv-loop : tie.InvT-loop
 Inv-loop places marks₀ queue₀ group symbol member pair tail end slot₀ tail₀ marks queue slot tail'
     =
     Expanding places marks queue tail' (group .start) (group .end) symbol member slot
-    × (nodeAt queue member ≡ pair .low * 128 + pair .high)
+    × (nodeAt (held places queue) member ≡ cell places (pair .low) (pair .high))
     × (length marks ≡ length marks₀)
     × (length queue ≡ length queue₀)
 

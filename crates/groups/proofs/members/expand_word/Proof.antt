@@ -4,7 +4,7 @@ use borrow.Author.Needs.{needs}
 use mathlib.Core.Path.{_≡_}
 use Prim.Native.Nat.{_+_, _*_, _-_, _≤_}
 use lib.ListN.{length}
-use Rattle.places.specs.Entries.{nodeAt}
+use Rattle.storage.specs.Entries.{nodeAt, held}
 use Rattle.slots.specs.Contracts.{Turned}
 use Rattle.slots.specs.Words.{leastBehind}
 use Rattle.groups.specs.Contracts.{Expanding}
@@ -18,7 +18,7 @@ abbrev Inv-loop : tie.InvT-loop
 Inv-loop places marks₀ queue₀ group symbol member y x tail n z₀ tail₀ marks queue z tail'
     =
     Expanding places marks queue tail' (group .start) (group .end) symbol member (x * 32 + z)
-    × Turned places (nodeAt queue member) y
+    × Turned places (nodeAt (held places queue) member) y
     × (leastBehind places x ≤ z)
     × (z ≤ 32)
     × (length marks ≡ length marks₀)

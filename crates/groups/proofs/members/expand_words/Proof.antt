@@ -4,7 +4,7 @@ use borrow.Author.Needs.{needs}
 use mathlib.Core.Path.{_≡_}
 use Prim.Native.Nat.{_*_, _-_}
 use lib.ListN.{length}
-use Rattle.places.specs.Entries.{nodeAt}
+use Rattle.storage.specs.Entries.{nodeAt, held}
 use Rattle.slots.specs.Contracts.{Turned}
 use Rattle.groups.specs.Contracts.{Expanding}
 use Rattle.groups.specs.Parts.{goal-again, expanding-next}
@@ -16,7 +16,7 @@ abbrev Inv-loop : tie.InvT-loop
 Inv-loop places marks₀ queue₀ group symbol member y tail n x₀ tail₀ marks queue x tail'
     =
     Expanding places marks queue tail' (group .start) (group .end) symbol member (x * 32)
-    × Turned places (nodeAt queue member) y
+    × Turned places (nodeAt (held places queue) member) y
     × (length marks ≡ length marks₀)
     × (length queue ≡ length queue₀)
 

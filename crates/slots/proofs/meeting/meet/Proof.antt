@@ -1,11 +1,16 @@
 -- `meet` by what stands at the pair: nothing new, a goal, or a pair that is marked and queued.
 use borrow.Author.Needs.{needs}
-use Rattle.slots.specs.Arrivals.{fresh-within, meets-known, meets-goal, meets-fresh}
+use Rattle.slots.specs.Arrivals.{above-fits, fresh-low, meets-known, meets-goal, meets-fresh}
 use Rattle.slots.proofs.meeting.meet.Statement.{statement}
 use Rattle.slots.proofs.meeting.meet.Tie as tie
 
-slice-write-marks : tie.Need-slice-write-marks
-slice-write-marks c = search fresh-within
+store-requires : tie.Need-store-requires
+store-requires c κs = (
+  record { laid = search needs; size = search needs; low = search (needs, fresh-low); high = search (needs, fresh-low) },
+  search needs,
+  search above-fits,
+  search needs,
+)
 
 returns : tie.Need-returns
 returns c = search meets-known
@@ -24,13 +29,8 @@ meet-spec =
     (λ c. search needs)
     (λ c. search needs)
     (λ c. search needs)
-    (λ c κs. search needs)
     (λ c. search needs)
-    slice-write-marks
-    (λ c. search needs)
-    (λ c κs. search needs)
-    (λ c. search needs)
-    (λ c. search needs)
+    store-requires
     (λ c. search needs)
     (λ c. search needs)
     returns

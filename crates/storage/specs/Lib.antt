@@ -1,0 +1,5 @@
+pub mod Fields
+pub mod Entries
+pub mod Stores
+pub mod Bounds
+pub mod Cleared
