@@ -12,15 +12,14 @@ use Rattle.places.specs.Nodes.{cell-inside, cells-most}
 use Rattle.storage.specs.Fields.{placeBits, placeRoom}
 
 module _ {f : List ℕ} (laid : Laid f) (low : ℕ) {high n : ℕ} (l : low < placeCount f) (h : high < placeCount f) (e : n ≡ placeCount f) where
+  product : low * placeCount f ≤ limits .total * limits .total
+  product = mul-le-mul {n₂ = limits .total} {m₂ = limits .total} (omega (arith, laid .places)) (laid .places)
+
   pub product-fits : low * n < 2 ^ 64
-  product-fits =
-      let p : low * placeCount f ≤ limits .total * limits .total = mul-le-mul {n₂ = limits .total} {m₂ = limits .total} (omega (arith, laid .places)) (laid .places) in
-      rw e (omega (arith, p))
+  product-fits = rw e (omega (arith, product))
 
   pub sum-fits : low * n + high < 2 ^ 64
-  sum-fits =
-      let p : low * placeCount f ≤ limits .total * limits .total = mul-le-mul {n₂ = limits .total} {m₂ = limits .total} (omega (arith, laid .places)) (laid .places) in
-      rw e (omega (arith, p, h, laid .places))
+  sum-fits = rw e (omega (arith, product, h, laid .places))
 
   pub is-cell : (low * n + high ≡ cell f low high) × (low * n + high < cellCount f)
   unfolding cellOf

@@ -1,5 +1,5 @@
--- The fields of a stored entry of a queue or a stack of pairs: the two places of a pair, and another number above them, packed into one number. Their widths are
--- named here alone.
+-- The fields of a stored entry of a queue or a stack of pairs: the two places of a pair, and another number above them, packed into one number. Contracts and
+-- proofs take their widths from here.
 use mathlib.Core.Path.{_≡_}
 use Prim.Native.Nat.{ℕ, _+_, _*_, _/_, _%_, _-_, _^_, _<_}
 use native.Mathlib.Omega.{arith}
