@@ -1,7 +1,7 @@
 pub mod Exactly
 pub mod WellFormed
 pub mod Words
-pub mod Cells
+pub mod AtMost
 pub mod Tested
 pub mod Accepts
 pub mod Digits

@@ -1,6 +1,6 @@
 -- The tests of words, rows and lengths, joined as the code joins them, say exactly whether the parts fit and the table is well-formed.
 use mathlib.Core.Path.{_≡_}
-use mathlib.Core.Bool.{Bool, _&&_}
+use mathlib.Core.Bool.{Bool, false, _&&_}
 use Prim.Native.Nat.{ℕ, _+_, _-_, _≤_, _<_}
 use native.Mathlib.Omega.{arith}
 use lib.Dec.{ltb, leb, eqb}
@@ -11,33 +11,39 @@ use Rattle.code.specs.declared.Code.{Code}
 use Rattle.code.specs.declared.Limits.{Limits}
 use Rattle.code.specs.Definitions.Lists.{table, sum}
 use Rattle.code.specs.Laws.Lists.{sum-more}
-use Rattle.table.specs.Exactly.{Exactly, exactly-iff, exactly-and, exactly-lt, exactly-le, exactly-eq}
-use Rattle.table.specs.WellFormed.{lenOf, CellsFit, WordFits, RowFits, RecordAt, WellFormed}
+use Rattle.table.specs.Exactly.{Exactly, exactly-false, exactly-iff, exactly-and, exactly-lt, exactly-le, exactly-eq}
+use Rattle.table.specs.WellFormed.{lenOf, WordFits, RowFits, RecordAt, WellFormed}
+use Rattle.table.specs.AtMost.{AtMost, greatest-fit, greatestEntries, greatestSymbols}
 
 module _ (l : Limits) (n : ℕ) where
-  module _ (k : ℕ) (w : Word) (array : length (w .symbols) ≡ l .symbols) {t : Bool} (symbols : Exactly t (CellsFit 16 (w .len) (w .symbols))) where
-    pub word-used : k < n → Exactly (leb 1 (w .len) && leb (w .len) (l .symbols) && t) (WordFits l n k w)
-    word-used h =
+  module _ (k : ℕ) (w : Word) (array : length (w .symbols) ≡ l .symbols) {t : Bool} where
+    pub word-used : k < n → w .len ≤ l .symbols → Exactly t (AtMost (w .symbols) (greatestSymbols l (w .len))) → Exactly (leb 1 (w .len) && t) (WordFits l n k w)
+    word-used h short symbols =
         exactly-iff (
-          (λ p. record { array = array; some = λ i. p .0 .0; short = p .0 .1; unused = λ i. absurd (omega arith); symbols = p .1 }),
-          (λ f. ((f .some h, f .short), f .symbols)),
+          (λ p. record { array = array; some = λ i. p .0; short = short; unused = λ i. absurd (omega arith); symbols = p .1 }),
+          (λ f. (f .some h, f .symbols)),
         )
-        (exactly-and (exactly-and (exactly-le 1 (w .len)) (exactly-le (w .len) (l .symbols))) symbols)
+        (exactly-and (exactly-le 1 (w .len)) (exactly-iff (greatest-fit 15 (w .len) (l .symbols) (w .symbols) array) symbols))
 
-    pub word-unused : n ≤ k → Exactly (eqb (w .len) 0 && t) (WordFits l n k w)
-    word-unused h =
+    pub word-unused : n ≤ k → Exactly t (AtMost (w .symbols) (greatestSymbols l 0)) → Exactly (eqb (w .len) 0 && t) (WordFits l n k w)
+    word-unused h symbols =
         exactly-iff (
-          (λ p. record { array = array; some = λ i. absurd (omega arith); short = omega (arith, p .0); unused = λ i. p .0; symbols = p .1 }),
-          (λ f. (f .unused h, f .symbols)),
+          (λ p. record { array = array; some = λ i. absurd (omega arith); short = omega (arith, p .0); unused = λ i. p .0; symbols = rw (p .0) (p .1) }),
+          (λ f. (f .unused h, rw (f .unused h) at (f .symbols))),
         )
-        (exactly-and (exactly-eq (w .len) 0) symbols)
+        (exactly-and (exactly-eq (w .len) 0) (exactly-iff (greatest-fit 15 0 (l .symbols) (w .symbols) array) symbols))
+
+  pub word-long : (k : ℕ) (w : Word) → l .symbols < w .len → Exactly false (WordFits l n k w)
+  word-long k w h = exactly-false (λ f. omega (arith, f .short))
 
   module _ (x : ℕ) (r : Row) (array : length (r .entries) ≡ l .words) {t : Bool} where
-    pub row-used : x < n → Exactly t (CellsFit 2 n (r .entries)) → Exactly t (RowFits l n x r)
-    row-used h = exactly-iff ((λ p. record { array = array; entries = p; unused = λ i. absurd (omega arith) }), (λ f. f .entries))
+    pub row-used : x < n → Exactly t (AtMost (r .entries) (greatestEntries l n)) → Exactly t (RowFits l n x r)
+    row-used h entries =
+        exactly-iff ((λ p. record { array = array; entries = p; unused = λ i. absurd (omega arith) }), (λ f. f .entries))
+        (exactly-iff (greatest-fit 1 n (l .words) (r .entries) array) entries)
 
-    pub row-unused : n ≤ x → Exactly t (CellsFit 2 0 (r .entries)) → Exactly t (RowFits l n x r)
-    row-unused h =
+    pub row-unused : n ≤ x → Exactly t (AtMost (r .entries) (greatestEntries l 0)) → Exactly t (RowFits l n x r)
+    row-unused h entries =
         exactly-iff (
           (λ p. record {
             array = array;
@@ -46,6 +52,7 @@ module _ (l : Limits) (n : ℕ) where
           }),
           (λ f. record { below = f .entries .below; zero = λ y i. f .unused h y }),
         )
+        (exactly-iff (greatest-fit 1 0 (l .words) (r .entries) array) entries)
 
 -- The room that the symbols of the first k words leave of one more than the limit: none is left where they are over the limit.
 module _ (c : Code) (limit k room : ℕ) (left : room ≡ limit + 1 - sum (table (lenOf c) k)) where
@@ -57,7 +64,7 @@ module _ (c : Code) (limit k room : ℕ) (left : room ≡ limit + 1 - sum (table
 
 module _ (l : Limits) (c : Code) (words : length (c .words) ≡ l .words) (rows : length (c .rows) ≡ l .words) (begins : length (c .begins) ≡ l .words)
     {m t u : Bool} where
-  pub table-tested : Exactly m (CellsFit 2 (c .count) (c .begins)) → Exactly t ((k : ℕ) → k < l .words → RecordAt l c k)
+  pub table-tested : Exactly m (AtMost (c .begins) (greatestEntries l (c .count))) → Exactly t ((k : ℕ) → k < l .words → RecordAt l c k)
       → Exactly u (sum (table (lenOf c) (l .words)) ≤ l .total)
       → Exactly (leb 1 (c .count) && leb (c .count) (l .words) && m && (t && u)) (WellFormed l c)
   table-tested marks records total =
@@ -75,4 +82,4 @@ module _ (l : Limits) (c : Code) (words : length (c .words) ≡ l .words) (rows 
         }),
         (λ w. (((w .one, w .most), w .marks), ((λ k h. (w .word k h, w .row k h)), w .total))),
       )
-      (exactly-and (exactly-and (exactly-and (exactly-le 1 (c .count)) (exactly-le (c .count) (l .words))) marks) (exactly-and records total))
+      (exactly-and (exactly-and (exactly-and (exactly-le 1 (c .count)) (exactly-le (c .count) (l .words))) (exactly-iff (greatest-fit 1 (c .count) (l .words) (c .begins) begins) marks)) (exactly-and records total))

@@ -6,12 +6,13 @@ use code::Row;
 use code::Word;
 ghost use mathlib.Core.Path.{_≡_};
 ghost use mathlib.Core.Bool.{_&&_};
-ghost use Prim.Native.Nat.{ℕ, _-_, _≤_, _<_};
+ghost use Prim.Native.Nat.{ℕ, _-_, _≤_, _<_, max};
+ghost use lib.ListN.{length};
 ghost use Rattle.code.specs.Definitions.Lists.{table, sum};
 ghost use Rattle.code.specs.Definitions.Sheets.{limits, FromSheet};
 ghost use Rattle.table.specs.Exactly.{Exactly};
-ghost use Rattle.table.specs.Cells.{CellFits};
-ghost use Rattle.table.specs.WellFormed.{lenOf, CellsFit, WordFits, RowFits, RecordAt};
+ghost use Rattle.table.specs.AtMost.{AtMost, filled, greatestEntries, greatestSymbols};
+ghost use Rattle.table.specs.WellFormed.{lenOf, WordFits, RowFits, RecordAt};
 
 pub fn and(a: bool, b: bool) -> bool
     ensures { λ r. ⌜ r ≡ (a && b) ⌝ }
@@ -26,25 +27,63 @@ fn minus(a: usize, b: usize) -> usize
     if b <= a { a - b } else { 0 }
 }
 
-// The value v of cell p of an array of which `used` cells are in use.
-fn cell_fits(v: u8, p: usize, used: usize, bound: u8) -> bool
-    ensures { λ r. ⌜ Exactly r (CellFits bound used p v) ⌝ }
+// How far v is above w, and 0 where it is not.
+fn excess(v: u8, w: u8) -> u8
+    ensures { λ r. ⌜ r ≡ v - w ⌝ }
 {
-    if p < used { v < bound } else { v == 0 }
+    if w <= v { v - w } else { 0 }
 }
 
-// All cells of such an array.
-fn cells_fit(a: &[u8], used: usize, bound: u8) -> bool
-    requires { ⌜ 0 < bound ⌝ }
-    ensures { λ r. ⌜ Exactly r (CellsFit bound used (now (a .entry))) ⌝ }
+// The greater of two excesses.
+fn greater(a: u8, b: u8) -> u8
+    ensures { λ r. ⌜ r ≡ max a b ⌝ }
 {
-    let mut ok = true;
+    if a < b { b } else { a }
+}
+
+// Whether no cell of an array is above the same cell of `most`. The loop keeps the greatest excess and no bool: so the compiler tests many cells at once.
+fn at_most(a: &[u8], most: &[u8]) -> bool
+    requires { ⌜ length (now a) ≤ length (now most) ⌝ }
+    ensures { λ r. ⌜ Exactly r (AtMost (now (a .entry)) (now (most .entry))) ⌝ }
+{
+    let mut over = 0;
     let mut p = 0;
     while p < a.len() {
-        ok = and(cell_fits(a[p], p, used, bound), ok);
+        over = greater(excess(a[p], most[p]), over);
         p += 1;
     }
-    ok
+    over == 0
+}
+
+// Puts v into the first n cells.
+fn fill(a: &mut [u8], n: usize, v: u8)
+    ensures { λ _. ⌜ now (a .exit) ≡ filled v n (now (a .entry)) ⌝ }
+{
+    let mut p = 0;
+    while p < a.len() {
+        if p < n {
+            a[p] = v;
+        }
+        p += 1;
+    }
+}
+
+// The greatest entries of a row in use, and the greatest start marks, in a code of n words.
+fn greatest_entries(n: usize) -> [u8; Code::WORDS]
+    ensures { λ r. ⌜ r ≡ greatestEntries limits n ⌝ }
+{
+    let mut most = [0u8; Code::WORDS];
+    fill(&mut most, n, 1);
+    most
+}
+
+// The greatest symbols of a word of n symbols, with the zeros behind them.
+fn greatest_symbols(n: usize) -> [u8; Word::SYMBOLS]
+    ensures { λ r. ⌜ r ≡ greatestSymbols limits n ⌝ }
+{
+    let mut most = [0u8; Word::SYMBOLS];
+    fill(&mut most, n, Word::ALPHABET - 1);
+    most
 }
 
 // Word k of a code of n words.
@@ -52,28 +91,34 @@ fn word_fits(w: Word, k: usize, n: usize) -> bool
     ensures { λ r. ⌜ Exactly r (WordFits limits n k w) ⌝ }
 {
     let symbols = w.symbols;
-    let cells = cells_fit(&symbols, w.len, Word::ALPHABET);
-    if k < n {
-        and(and(1 <= w.len, w.len <= Word::SYMBOLS), cells)
-    } else {
-        and(w.len == 0, cells)
+    if n <= k {
+        let none = greatest_symbols(0);
+        return and(w.len == 0, at_most(&symbols, &none));
     }
+    if Word::SYMBOLS < w.len {
+        return false;
+    }
+    let most = greatest_symbols(w.len);
+    and(1 <= w.len, at_most(&symbols, &most))
 }
 
-// Row x of a code of n words.
-fn row_fits(row: Row, x: usize, n: usize) -> bool
+// Row x of a code of n words; `most` has the greatest entries of a row in use.
+fn row_fits(row: Row, x: usize, n: usize, most: &[u8; Code::WORDS]) -> bool
+    requires { ⌜ now most ≡ greatestEntries limits n ⌝ }
     ensures { λ r. ⌜ Exactly r (RowFits limits n x row) ⌝ }
 {
     let entries = row.entries;
     if x < n {
-        cells_fit(&entries, n, 2)
+        at_most(&entries, most)
     } else {
-        cells_fit(&entries, 0, 2)
+        let none = greatest_entries(0);
+        at_most(&entries, &none)
     }
 }
 
-// All words and rows, also those past the count.
-fn records_fit(code: Code) -> bool
+// All words and rows, also those past the count; `most` is as for a row.
+fn records_fit(code: Code, most: &[u8; Code::WORDS]) -> bool
+    requires { ⌜ now most ≡ greatestEntries limits (code .count) ⌝ }
     ensures { λ r. ⌜ Exactly r ((k : ℕ) → k < limits .words → RecordAt limits code k) ⌝ }
 {
     let mut ok = true;
@@ -81,7 +126,10 @@ fn records_fit(code: Code) -> bool
     while k < Code::WORDS {
         let w = code.words[k];
         let row = code.rows[k];
-        let fits = and(word_fits(w, k, code.count), row_fits(row, k, code.count));
+        let fits = and(
+            word_fits(w, k, code.count),
+            row_fits(row, k, code.count, most),
+        );
         ok = and(fits, ok);
         k += 1;
     }
@@ -109,8 +157,9 @@ pub fn well_formed(code: Code) -> bool
 {
     let n = code.count;
     let begins = code.begins;
+    let most = greatest_entries(n);
     and(
-        and(and(1 <= n, n <= Code::WORDS), cells_fit(&begins, n, 2)),
-        and(records_fit(code), total_fits(code)),
+        and(and(1 <= n, n <= Code::WORDS), at_most(&begins, &most)),
+        and(records_fit(code, &most), total_fits(code)),
     )
 }

@@ -10,10 +10,10 @@ use Rattle.table.proofs.records_fit.Statement.{statement}
 use Rattle.table.proofs.records_fit.Tie as tie
 
 abbrev Inv-loop : tie.InvT-loop
-Inv-loop code ok₀ k₀ ok k = (k ≤ 32) × Exactly ok ((j : ℕ) → j < k → RecordAt limits code j)
+Inv-loop most code ok₀ k₀ ok k = (k ≤ 32) × Exactly ok ((j : ℕ) → j < k → RecordAt limits code j)
 
 abbrev μ-loop : tie.MeasureT-loop
-μ-loop code ok₀ k₀ ok k = 32 - k
+μ-loop most code ok₀ k₀ ok k = 32 - k
 
 loop-holds : tie.Need-loop-holds Inv-loop μ-loop
 loop-holds c = (omega arith, exactly-none (RecordAt limits (c .args .t1)))
