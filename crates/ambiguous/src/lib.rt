@@ -5,7 +5,7 @@ use code::Reading;
 use code::SymbolCount;
 use code::Verdict;
 use reading::named::find_named;
-ghost use Prim.Native.Nat.{_*_, _≤_};
+ghost use Prim.Native.Nat.{_≤_, _<_};
 ghost use lib.ListN.{length};
 ghost use Rattle.code.specs.Definitions.Enlarged.{originalTable};
 ghost use Rattle.code.specs.Definitions.Operations.{unorderedPairs};
@@ -24,7 +24,7 @@ pub fn ambiguous(
 ) -> Verdict
     requires { ⌜ WellEnlarged limits e × TwoReadings (originalTable e) (now message) × (length (now message) ≤ unorderedPairs limits)
         × (unorderedPairs limits ≤ length (now first)) × (unorderedPairs limits ≤ length (now second))
-        × (limits .total * limits .total ≤ length (now work)) ⌝ }
+        × (length (now message) < length (now work)) ⌝ }
     ensures { λ r. ⌜ ReadTwice (originalTable e) (now (message .entry)) (now (first .entry)) (now (second .entry)) (now (work .entry))
         (now (first .exit)) (now (second .exit)) (now (work .exit)) r ⌝ }
 {

@@ -1,8 +1,8 @@
 -- The verdict where no refusal holds: what the two searches and the reading of the message found is what the verdict promises.
 use mathlib.Core.Path.{_≡_, refl}
-use mathlib.Core.List.{List, []}
-use Prim.Native.Nat.{ℕ}
-use lib.ListN.{length, take}
+use mathlib.Core.List.{List, [], _++_}
+use Prim.Native.Nat.{ℕ, _≤_}
+use lib.ListN.{length, take, drop}
 use Rattle.code.specs.declared.Enlarged.{Enlarged}
 use Rattle.code.specs.declared.Verdict.{Verdict}
 use Rattle.code.specs.Definitions.Answers.{VerdictMeans}
@@ -24,6 +24,7 @@ use Rattle.theory.specs.Searches.{search-least}
 use Rattle.decipherable.specs.Delays.{DelayBy, finite, unbounded, Measured, delay-means}
 use Rattle.decipher.specs.Found.{was-nothing, found-least, found-written}
 use Rattle.ambiguous.specs.Twice.{ReadTwice, twice}
+use Rattle.decipher.specs.Lent.{whole-clear}
 
 -- The verdict and what the four buffers hold, as `Judges` has them: m, f, g and w are what they held, m′, f′, g′ and w′ what they hold.
 pub record Decided (t : Table) (m f g w m′ f′ g′ w′ : List ℕ) (v : Verdict) : Type 0 where
@@ -77,3 +78,8 @@ module _ {e : Enlarged} {places m f g w m′ w₁ : List ℕ} {r : Search} (valu
     shown = unchanged m f g m′ (b .delay) (was-nothing answers is .0);
     work = rw long at (b .work);
   }
+
+-- What was decided in a part of the clear working buffer holds with the whole of it.
+pub decided-whole : {t : Table} {m f g w w₁ m′ f′ g′ p : List ℕ} {v : Verdict} {n : ℕ} → w₁ ≡ zeroed w → n ≤ length w → Decided t m f g (take n w₁) m′ f′ g′ p v
+    → Decided t m f g w m′ f′ g′ (p ++ drop n w₁) v
+decided-whole c l d = record { x = d .x; s = d .s; u = d .u; means = d .means; shown = d .shown; work = whole-clear c l (d .work) }

@@ -6,7 +6,7 @@ use native.Mathlib.Omega.{arith}
 use lib.ListN.{length, take, drop, length-take}
 use lib.Seq.{take-at}
 use Rattle.code.specs.declared.Enlarged.{Enlarged}
-use Rattle.code.specs.Definitions.Operations.{written, unorderedPairs}
+use Rattle.code.specs.Definitions.Operations.{written}
 use Rattle.code.specs.Definitions.Readings.{TwoReadings}
 use Rattle.code.specs.Definitions.Enlarged.{originalTable}
 use Rattle.code.specs.Definitions.Sheets.{limits}
@@ -17,6 +17,7 @@ use Rattle.enlargements.specs.WellEnlarged.{WellEnlarged}
 use Rattle.graph.specs.Goals.{NoGoal, LeastGoal}
 use Rattle.pairs.specs.OpenPairs.{open-finds}
 use Rattle.pairs.specs.RivalPairs.{Ended}
+use Rattle.places.specs.Flat.{pairCount}
 use Rattle.places.specs.Opens.{openGraph}
 use Rattle.places.specs.Whole.{LaidOut}
 use Rattle.shortest.specs.declared.Search.{Search}
@@ -24,7 +25,7 @@ use Rattle.shortest.specs.declared.Search.the-variants.{Found, Nothing}
 use Rattle.shortest.specs.Contracts.{Message, Answers, found, nothing}
 use Rattle.theory.specs.Ambiguity.{ends→readings}
 use Rattle.theory.specs.Searches.{least-goal}
-use Rattle.decipher.specs.Lengths.{least-few}
+use Rattle.decipher.specs.Lengths.{least-laid}
 
 module _ {places m m′ : List ℕ} where
   pub was-found : {r : Search} {n : ℕ} → Answers places m m′ r → r ≡ Found n → Message places m m′ n
@@ -57,5 +58,5 @@ module _ {places m m′ : List ℕ} where
     found-two value laid ended = named-two (value-covers value) (ends→readings (laid .fits .plain) (open-finds laid (ended .closed) .ends (found-least .goal)))
 
     -- and no more symbols than there are pairs.
-    pub found-few : {t : Table} → LaidOut t places → Ended t places → length (take n m′) ≤ unorderedPairs limits
-    found-few laid ended = least-few (laid .fits) (least-goal (open-finds laid (ended .closed)) found-least)
+    pub found-short : {t : Table} → LaidOut t places → Ended t places → length (take n m′) ≤ pairCount places
+    found-short laid ended = least-laid (laid .fits) (laid .lays) (least-goal (open-finds laid (ended .closed)) found-least)

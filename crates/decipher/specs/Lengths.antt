@@ -20,7 +20,8 @@ use Rattle.copies.specs.Matches.{named-two, lifted-two, decipherable-lifted, li
 use Rattle.enlargements.specs.Listed.{from-lists}
 use Rattle.enlargements.specs.Meaning.{Covers, value-covers}
 use Rattle.places.specs.Codes.{code-fits}
-use Rattle.places.specs.Lays.{base}
+use Rattle.places.specs.Flat.{placeCount as placesLaid, pairCount as pairsLaid}
+use Rattle.places.specs.Lays.{Lays, base}
 use Rattle.places.specs.Whole.{Fits}
 use Rattle.theory.specs.Ambiguity.{LeastTwoEnds, at-most, ends→readings, readings→ends}
 use Rattle.theory.specs.Finite.{placeCount, pairCount, pairs-within}
@@ -34,9 +35,14 @@ module _ {t : Table} (fits : Fits t) where
   pairs-few : pairCount t ≤ unorderedPairs limits
   pairs-few = pairs-within t (limits .total) places-few
 
-  -- The least symbols that reach two ends are no more than there are pairs.
-  pub least-few : {m : List ℕ} → LeastTwoEnds t m → length m ≤ unorderedPairs limits
-  least-few l = omega (arith, least-short (fits .plain) l, pairs-few)
+  -- The least symbols that reach two ends are no more than there are pairs, by the flat list of the table.
+  places-laid : {f : List ℕ} → Lays t f → placeCount t ≤ placesLaid f
+  unfolding placeCount base
+  places-laid l = rw (l .places, ← table-map length (t .words) []) (omega arith)
+
+  pub least-laid : {f m : List ℕ} → Lays t f → LeastTwoEnds t m → length m ≤ pairsLaid f
+  unfolding pairsLaid
+  least-laid {f} l h = omega (arith, least-short (fits .plain) h, pairs-within t (placesLaid f) (places-laid l))
 
   -- The least message with two readings has no more symbols: where some message has two, two ends are reached by at most so many.
   pub message-few : {m : List ℕ} → TwoReadings t m → ((n : List ℕ) → TwoReadings t n → (n ≡ m → ⊥) → Shortlex m n) → length m ≤ unorderedPairs limits

@@ -6,17 +6,19 @@ use code::Enlarged;
 use code::Judgement;
 use code::Refusal;
 use code::Verdict;
-use decipherable::Marks;
 use enlargements::well_enlarged;
 use shortest::Search;
+ghost use mathlib.Core.Path.{_≡_};
+ghost use Prim.Native.Nat.{_≤_};
 ghost use lib.ListN.{length};
 ghost use Rattle.code.specs.Definitions.Enlarged.{originalTable};
-ghost use Rattle.code.specs.Definitions.Operations.{Judges};
+ghost use Rattle.code.specs.Definitions.Operations.{zeroed, Judges};
 ghost use Rattle.code.specs.Definitions.Sheets.{limits};
 ghost use Rattle.enlargements.specs.WellEnlarged.{WellEnlarged};
 ghost use Rattle.table.specs.Exactly.{Exactly};
-ghost use Rattle.decipher.specs.Buffers.{Short, Room};
+ghost use Rattle.decipher.specs.Buffers.{marksRoom, Short, Room};
 ghost use Rattle.decipher.specs.Decided.{Decided};
+ghost use Rattle.decipher.specs.Lent.{Searchable};
 
 // The pairs of places of a code.
 pub struct Pairs {}
@@ -26,8 +28,8 @@ impl Pairs {
     pub const UNORDERED: usize = Code::SYMBOLS * (Code::SYMBOLS + 1) / 2;
     // Entries of a verdict's message buffer and of each reading buffer: as many, and one for each place, for the shared opening.
     pub const ROOM: usize = Pairs::UNORDERED + Code::SYMBOLS;
-    // How many marks a search over them has at most.
-    pub const MARKS: usize = Marks::COUNT;
+    // How many marks a search over them has at most: one for each place with each place.
+    pub const MARKS: usize = Code::SYMBOLS * Code::SYMBOLS;
 }
 
 // Whether a buffer is too short for a verdict, by the lengths of the four.
@@ -46,7 +48,40 @@ fn is_short(message: usize, first: usize, second: usize, work: usize) -> bool
     work < Pairs::MARKS
 }
 
-// The verdict on a code that a sheet and a list give, in buffers that are long enough. The searches are over its words and copies alike.
+// All marks are clear at the start of a verdict: an array of them is laid over the working buffer, where the searches read and set them. What is lent behind it is
+// cleared too.
+fn clear_marks(work: &mut [u64])
+    requires { ⌜ marksRoom ≤ length (now work) ⌝ }
+    ensures { λ _. ⌜ now (work .exit) ≡ zeroed (now (work .entry)) ⌝ }
+{
+    let marks = [0u64; Pairs::MARKS];
+    bits::clear(&mut work[Pairs::MARKS..]);
+    storage::lay(&marks, &mut work[..Pairs::MARKS]);
+}
+
+// The verdict on a code whose places are laid out, by searches over its words and copies alike. The list is clear, and is left so.
+fn search(
+    e: Enlarged,
+    places: &[u8],
+    message: &mut [u8],
+    first: &mut [u8],
+    second: &mut [u8],
+    work: &mut [u64],
+) -> Verdict
+    requires { ⌜ Searchable e (now places) (length (now message)) (length (now first)) (length (now second)) (now work) ⌝ }
+    ensures { λ r. ⌜ Decided (originalTable e) (now (message .entry)) (now (first .entry)) (now (second .entry)) (now (work .entry))
+        (now (message .exit)) (now (first .exit)) (now (second .exit)) (now (work .exit)) r ⌝ }
+{
+    match shortest::shortest(places, work, message) {
+        Search::Found(n) => ambiguous::ambiguous(e, &message[..n], first, second, work),
+        Search::Nothing => {
+            bits::clear(work);
+            decipherable::decipherable(places, work)
+        }
+    }
+}
+
+// The verdict on a code that a sheet and a list give, in buffers that are long enough. Of the working buffer the searches have as much as the code's places need.
 fn decide(
     e: Enlarged,
     message: &mut [u8],
@@ -58,13 +93,10 @@ fn decide(
     ensures { λ r. ⌜ Decided (originalTable e) (now (message .entry)) (now (first .entry)) (now (second .entry)) (now (work .entry))
         (now (message .exit)) (now (first .exit)) (now (second .exit)) (now (work .exit)) r ⌝ }
 {
-    let mut marks = [0u16; Pairs::MARKS];
+    clear_marks(work);
     let places = endings::lay_out(e.code);
-    let cells = storage::cell_count(&places);
-    match shortest::shortest(&places, &mut marks[..cells], work, message) {
-        Search::Found(n) => ambiguous::ambiguous(e, &message[..n], first, second, work),
-        Search::Nothing => decipherable::decipherable(&places, work),
-    }
+    let room = storage::room(&places);
+    search(e, &places, message, first, second, &mut work[..room])
 }
 
 // Gives the verdict on a code, or the lowest refusal that holds, 8 or 13. For an ambiguous code the message and its first two readings, in the

@@ -2,10 +2,10 @@
 use mathlib.Core.Path.{_≡_, refl}
 use mathlib.Core.Bool.{Bool, true, false}
 use mathlib.Core.List.{List}
-use Prim.Native.Nat.{ℕ, _+_, _*_, _≤_}
+use Prim.Native.Nat.{ℕ, _+_, _≤_}
 use native.Mathlib.Numerals.{add-one}
 use native.Mathlib.Omega.{arith}
-use lib.ListN.{length, take, replicate}
+use lib.ListN.{length, replicate, length-replicate}
 use Rattle.code.specs.declared.SymbolCount.{SymbolCount}
 use Rattle.code.specs.declared.Verdict.{Verdict}
 use Rattle.code.specs.declared.Verdict.the-variants.{Finite, Unbounded}
@@ -32,7 +32,8 @@ use Rattle.places.specs.Opens.{openGraph}
 use Rattle.places.specs.Roots.{Numbered}
 use Rattle.places.specs.Whole.{LaidOut}
 use Rattle.rivals.specs.Rivals.{someRivals}
-use Rattle.storage.specs.Cleared.{clear-part}
+use Rattle.storage.specs.Cleared.{clear-marks}
+use Rattle.storage.specs.Marks.{marks}
 use Rattle.theory.specs.Searches.{search-decipherable, search-delay, search-without-bound}
 
 -- 01: "if the longest path has r steps from the start, the step to a first pair included, the delay is r + 1". 02, request 1: "Where no two words, whatever
@@ -50,10 +51,12 @@ pub record Measured (f w w′ : List ℕ) (v : Verdict) : Type 0 where
   pub delay : DelayBy f v
   pub work : w′ ≡ zeroed w
 
--- The search is lent a clear mark for each cell.
-pub given : {f w : List ℕ} {n : ℕ} → Laid f → Numbered f → n ≡ cellCount f → n ≤ limits .total * limits .total → limits .total * limits .total ≤ length w
-    → Given f (take n (replicate (limits .total * limits .total) 0)) w
-given {n = n} l m e h k = record { laid = l; numbered = m; clear = rw (← e) (clear-part n (limits .total * limits .total) h); wide = omega arith }
+-- A clear list has a clear mark for each cell.
+pub given : {f w : List ℕ} {n : ℕ} → Laid f → Numbered f → cellCount f ≤ n → w ≡ replicate n 0 → Given f (marks f w) w
+given {f} {n = n} l m h e = rw e record { laid = l; numbered = m; clear = clear-marks f n h; wide = omega (arith, length-replicate {A = ℕ} n 0) }
+
+pub given-laid : {f xs w : List ℕ} → Given f xs w → Laid f
+given-laid g = g .laid
 
 -- The longest walk reads few enough symbols that one more can be counted.
 pub extent-low : {f : List ℕ} {e : Extent} {r : ℕ} → Laid f → ExtentOf f e → e ≡ Most r → r ≤ unorderedPairs limits

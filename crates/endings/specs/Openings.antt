@@ -6,11 +6,11 @@ use Prim.Native.Nat.{ℕ, _+_, _≤_, _<_}
 use native.Mathlib.Omega.{arith}
 use borrow.Author.Count.{below-more}
 use borrow.Author.Tests.{not-false}
-use Rattle.places.specs.Flat.{wordCount, mayCome}
+use Rattle.places.specs.Flat.{wordCount, atStart, mayCome}
 
 -- Every word below n may begin.
 abbrev pub BeginBelow : List ℕ → ℕ → Type 0
-BeginBelow f n = (x : ℕ) → x < n → mayCome f x 32 ≡ true
+BeginBelow f n = (x : ℕ) → x < n → mayCome f x atStart ≡ true
 
 -- r is 1, or every word may begin.
 abbrev pub Opens : List ℕ → ℕ → Type 0
@@ -20,8 +20,8 @@ pub opens-here : (f : List ℕ) → Opens f 1
 opens-here f n = absurd (n refl)
 
 module _ (f : List ℕ) (x : ℕ) where
-  pub begin-more : {b : Bool} → BeginBelow f x → b ≡ mayCome f x 32 → not b ≡ false → BeginBelow f (x + 1)
-  begin-more {b} h e d = below-more (λ y. mayCome f y 32 ≡ true) x h (sym e ∙ not-false b d)
+  pub begin-more : {b : Bool} → BeginBelow f x → b ≡ mayCome f x atStart → not b ≡ false → BeginBelow f (x + 1)
+  begin-more {b} h e d = below-more (λ y. mayCome f y atStart ≡ true) x h (sym e ∙ not-false b d)
 
   pub opens-none : {n : ℕ} → BeginBelow f x → x ≤ n → n ≤ x → n ≡ wordCount f → Opens f 0
   opens-none h l k e z y i = h y (omega arith)

@@ -7,7 +7,7 @@ use lib.ListN.{getD}
 use Rattle.places.specs.declared.Pair.{Pair}
 use Rattle.places.specs.Flat.{Laid, placeCount, cellCount, cell}
 use Rattle.places.specs.Nodes.{low-inside}
-use Rattle.places.specs.Opens.{turning, openGraph}
+use Rattle.places.specs.Opens.{straightOn, turning, openGraph}
 use Rattle.storage.specs.Entries.{PairOf, nodeAt, held, carried}
 use Rattle.storage.specs.Fields.{Carries}
 use Rattle.storage.specs.Stores.{markOf}
@@ -53,8 +53,8 @@ module _ {f ms q : List ℕ} {tail a b t k c : ℕ} {p : Pair} (x : Expanding f 
   member-number = sym (member-pair .node)
 
   module _ {y : ℕ} (e : y ≡ turning f (cell f (p .low) (p .high))) where
-    pub member-turns : y < 33 → Turned f (nodeAt (held f q) k) y
+    pub member-turns : y < straightOn → Turned f (nodeAt (held f q) k) y
     member-turns l = goes-behind (x .laid) p member-pair e l
 
-    pub member-straight : y ≤ 33 → 33 ≤ y → Straight f p
+    pub member-straight : y ≤ straightOn → straightOn ≤ y → Straight f p
     member-straight l m = goes-straight (x .laid) p e l m member-high

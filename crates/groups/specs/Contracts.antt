@@ -21,7 +21,7 @@ pub record Known (f q : List ℕ) (n : ℕ) : Type 0 where
 abbrev pub Stands : (f ms q : List ℕ) (tail a b t k c : ℕ) → Type 0
 Stands f ms q tail a b t k c = SlotStage (openGraph f) (toward f) ms q tail a b t k c
 
--- The lengths and numbers that a step reads, over the links q of the queue.
+-- The lengths and numbers that a step reads, over the list q that has the links of the queue.
 pub record Ready (f ms q : List ℕ) (tail a b t k : ℕ) : Type 0 where
   pub marks : length ms ≡ cellCount f
   pub wide : pairCount f + 2 ≤ length q

@@ -9,7 +9,7 @@ use lib.ListN.{getD}
 use Rattle.graph.specs.Graph.{Graph}
 use Rattle.places.specs.declared.Pair.{Pair}
 use Rattle.places.specs.Flat.{Laid, placeCount, cell}
-use Rattle.places.specs.Opens.{turning}
+use Rattle.places.specs.Opens.{straightOn, turning}
 use Rattle.places.specs.Roots.{Numbered}
 use Rattle.storage.specs.Entries.{nodeAt, held}
 use Rattle.storage.specs.Fields.{Carries}
@@ -36,7 +36,7 @@ pub record NoneLed (f q : List ℕ) (a b t u : ℕ) : Type 0 where
   pub none : (i : ℕ) → i < b → a ≤ i → (s : ℕ) → t ≤ s → s < u → width f (nodeAt q i) s ≡ 0
 
 -- A symbol other than that after the inner place p leads no pair on.
-module _ {f : List ℕ} (laid : Laid f) (pair : Pair) {p t u y : ℕ} (z : y ≡ turning f (cell f (pair .low) (pair .high))) (l : y ≤ 33) (m : 33 ≤ y)
+module _ {f : List ℕ} (laid : Laid f) (pair : Pair) {p t u y : ℕ} (z : y ≡ turning f (cell f (pair .low) (pair .high))) (l : y ≤ straightOn) (m : straightOn ≤ y)
     (h : pair .high < placeCount f) (e : p ≡ innerOf f (pair .low) (pair .high)) (o : t ≤ u) where
   not-led : ((s : ℕ) → t ≤ s → s < u → getD f (p + 1) 0 ≡ s → ⊥) → NotLed f (cell f (pair .low) (pair .high)) t u
   not-led n = record { order = o; none = λ s a b. sym (width-none laid pair s (goes-straight laid pair z l m h) e (n s a b)) }

@@ -18,6 +18,7 @@ ghost use Rattle.places.specs.Opens.{openGraph};
 ghost use Rattle.places.specs.Roots.{Numbered};
 ghost use Rattle.places.specs.Steps.{pairCell};
 ghost use Rattle.storage.specs.Entries.{held};
+ghost use Rattle.storage.specs.Marks.{marks};
 ghost use Rattle.groups.specs.Contracts.{Known, Stands, Progressed};
 ghost use Rattle.groups.specs.Queue.{Ascending, IsGroup};
 ghost use Rattle.groups.specs.Symbols.{NotLed, NoneLed};
@@ -31,24 +32,23 @@ pub struct Group {
 // Deals with all members of a group for one symbol.
 fn expand_symbol(
     places: &[u8],
-    marks: &mut [u16],
-    queue: &mut [u64],
+    work: &mut [u64],
     group: Group,
     symbol: usize,
     tail: usize,
 ) -> Progress
     requires { ⌜ Laid (now places)
         × Numbered (now places)
-        × (pairCount (now places) + 2 ≤ length (now queue))
+        × (pairCount (now places) + 2 ≤ length (now work))
         × (symbol < 16)
-        × Stands (now places) (now marks) (held (now places) (now queue)) tail (group .start) (group .end) symbol (group .start) 0 ⌝ }
-    ensures { λ r. ⌜ Progressed (now (places .entry)) (now (marks .exit)) (held (now (places .entry)) (now (queue .exit)))
+        × Stands (now places) (marks (now places) (now work)) (held (now places) (now work)) tail (group .start) (group .end) symbol (group .start) 0 ⌝ }
+    ensures { λ r. ⌜ Progressed (now (places .entry)) (marks (now (places .entry)) (now (work .exit))) (held (now (places .entry)) (now (work .exit)))
         (group .start) (group .end) (symbol + 1) (group .start) 0 r ⌝ }
 {
     let mut member = group.start;
     let mut tail = tail;
     while member < group.end {
-        match expand_member(places, marks, queue, group, symbol, member, tail) {
+        match expand_member(places, work, group, symbol, member, tail) {
             Progress::Goal(x) => return Progress::Goal(x),
             Progress::Tail(e) => tail = e,
         }
@@ -76,62 +76,56 @@ fn sooner(places: &[u8], pair: Pair, symbol: usize, least: usize) -> usize
 }
 
 // The least symbol, not below `symbol`, that may lead a member of a group on; 16 if there is none.
-fn next_symbol(places: &[u8], queue: &[u64], group: Group, symbol: usize) -> usize
+fn next_symbol(places: &[u8], work: &[u64], group: Group, symbol: usize) -> usize
     requires { ⌜ Laid (now places)
-        × Known (now places) (held (now places) (now queue)) (group .end)
-        × (group .end ≤ length (now queue))
+        × Known (now places) (held (now places) (now work)) (group .end)
+        × (group .end ≤ length (now work))
         × (symbol ≤ 16) ⌝ }
-    ensures { λ r. ⌜ NoneLed (now (places .entry)) (held (now (places .entry)) (now (queue .entry))) (group .start) (group .end) symbol r × (r ≤ 16) ⌝ }
+    ensures { λ r. ⌜ NoneLed (now (places .entry)) (held (now (places .entry)) (now (work .entry))) (group .start) (group .end) symbol r × (r ≤ 16) ⌝ }
 {
     let mut least = Word::ALPHABET as usize;
     let mut member = group.start;
     while member < group.end {
-        least = sooner(places, pair_at(queue, member), symbol, least);
+        least = sooner(places, pair_at(work, member), symbol, least);
         member += 1;
     }
     least
 }
 
 // Deals with a group, symbol after symbol.
-pub fn expand_group(
-    places: &[u8],
-    marks: &mut [u16],
-    queue: &mut [u64],
-    group: Group,
-    tail: usize,
-) -> Progress
+pub fn expand_group(places: &[u8], work: &mut [u64], group: Group, tail: usize) -> Progress
     requires { ⌜ Laid (now places)
         × Numbered (now places)
-        × (pairCount (now places) + 2 ≤ length (now queue))
-        × Stands (now places) (now marks) (held (now places) (now queue)) tail (group .start) (group .end) 0 (group .start) 0 ⌝ }
-    ensures { λ r. ⌜ Progressed (now (places .entry)) (now (marks .exit)) (held (now (places .entry)) (now (queue .exit)))
+        × (pairCount (now places) + 2 ≤ length (now work))
+        × Stands (now places) (marks (now places) (now work)) (held (now places) (now work)) tail (group .start) (group .end) 0 (group .start) 0 ⌝ }
+    ensures { λ r. ⌜ Progressed (now (places .entry)) (marks (now (places .entry)) (now (work .exit))) (held (now (places .entry)) (now (work .exit)))
         (group .start) (group .end) 16 (group .start) 0 r ⌝ }
 {
-    let mut symbol = next_symbol(places, queue, group, 0);
+    let mut symbol = next_symbol(places, work, group, 0);
     let mut tail = tail;
     while symbol < Word::ALPHABET as usize {
-        match expand_symbol(places, marks, queue, group, symbol, tail) {
+        match expand_symbol(places, work, group, symbol, tail) {
             Progress::Goal(x) => return Progress::Goal(x),
             Progress::Tail(e) => tail = e,
         }
-        symbol = next_symbol(places, queue, group, symbol + 1);
+        symbol = next_symbol(places, work, group, symbol + 1);
     }
     Progress::Tail(tail)
 }
 
 // The end of the group that starts at an entry.
-pub fn group_end(places: &[u8], queue: &[u64], start: usize, tail: usize) -> usize
+pub fn group_end(places: &[u8], work: &[u64], start: usize, tail: usize) -> usize
     requires { ⌜ Laid (now places)
-        × Known (now places) (held (now places) (now queue)) tail
-        × Ascending (openGraph (now places)) (held (now places) (now queue)) tail
+        × Known (now places) (held (now places) (now work)) tail
+        × Ascending (openGraph (now places)) (held (now places) (now work)) tail
         × (start < tail)
-        × (tail ≤ length (now queue)) ⌝ }
-    ensures { λ r. ⌜ IsGroup (openGraph (now (places .entry))) (held (now (places .entry)) (now (queue .entry))) tail start r ⌝ }
+        × (tail ≤ length (now work)) ⌝ }
+    ensures { λ r. ⌜ IsGroup (openGraph (now (places .entry))) (held (now (places .entry)) (now (work .entry))) tail start r ⌝ }
 {
-    let first = key(places, queue, start);
+    let first = key(places, work, start);
     let mut end = start + 1;
     while end < tail {
-        if key(places, queue, end) != first {
+        if key(places, work, end) != first {
             return end;
         }
         end += 1;

@@ -14,27 +14,28 @@ use slots::width;
 use storage::pair_at;
 ghost use mathlib.Core.Path.{_≡_};
 ghost use Prim.Native.Nat.{_+_, _*_, _<_};
+ghost use Rattle.code.specs.Definitions.Sheets.{limits};
 ghost use Rattle.places.specs.Flat.{wordCount};
 ghost use Rattle.places.specs.Steps.{pairCell};
 ghost use Rattle.slots.specs.Contracts.{Straight, Turned};
 ghost use Rattle.storage.specs.Entries.{nodeAt, held};
+ghost use Rattle.storage.specs.Marks.{marks};
 ghost use Rattle.groups.specs.Contracts.{Expanding, Progressed};
 
 // Meets the pairs where the slots of a member lead that does not turn.
 fn expand_slots(
     places: &[u8],
-    marks: &mut [u16],
-    queue: &mut [u64],
+    work: &mut [u64],
     group: Group,
     symbol: usize,
     member: usize,
     pair: Pair,
     tail: usize,
 ) -> Progress
-    requires { ⌜ Expanding (now places) (now marks) (now queue) tail (group .start) (group .end) symbol member 0
-        × (nodeAt (held (now places) (now queue)) member ≡ pairCell (now places) pair)
+    requires { ⌜ Expanding (now places) (marks (now places) (now work)) (now work) tail (group .start) (group .end) symbol member 0
+        × (nodeAt (held (now places) (now work)) member ≡ pairCell (now places) pair)
         × Straight (now places) pair ⌝ }
-    ensures { λ r. ⌜ Progressed (now (places .entry)) (now (marks .exit)) (held (now (places .entry)) (now (queue .exit)))
+    ensures { λ r. ⌜ Progressed (now (places .entry)) (marks (now (places .entry)) (now (work .exit))) (held (now (places .entry)) (now (work .exit)))
         (group .start) (group .end) symbol (member + 1) 0 r ⌝ }
 {
     let end = width(places, pair, symbol);
@@ -42,7 +43,7 @@ fn expand_slots(
     let mut tail = tail;
     while slot < end {
         let next = places::successor(places, pair.low, pair.high, slot);
-        match meet(places, marks, queue, group.start, symbol, next, tail) {
+        match meet(places, work, group.start, symbol, next, tail) {
             Progress::Goal(x) => return Progress::Goal(x),
             Progress::Tail(e) => tail = e,
         }
@@ -54,8 +55,7 @@ fn expand_slots(
 // Meets the pairs of word `x` and another, from a member that turns behind `y`.
 fn expand_word(
     places: &[u8],
-    marks: &mut [u16],
-    queue: &mut [u64],
+    work: &mut [u64],
     group: Group,
     symbol: usize,
     member: usize,
@@ -63,12 +63,12 @@ fn expand_word(
     x: usize,
     tail: usize,
 ) -> Progress
-    requires { ⌜ Expanding (now places) (now marks) (now queue) tail (group .start) (group .end) symbol member (x * 32)
-        × Turned (now places) (nodeAt (held (now places) (now queue)) member) y
+    requires { ⌜ Expanding (now places) (marks (now places) (now work)) (now work) tail (group .start) (group .end) symbol member (x * limits .words)
+        × Turned (now places) (nodeAt (held (now places) (now work)) member) y
         × (x < wordCount (now places)) ⌝ }
-    ensures { λ r. ⌜ Progressed (now (places .entry)) (now (marks .exit)) (held (now (places .entry)) (now (queue .exit)))
-        (group .start) (group .end) symbol member ((x + 1) * 32) r
-        × Turned (now (places .entry)) (nodeAt (held (now (places .entry)) (now (queue .exit))) member) y ⌝ }
+    ensures { λ r. ⌜ Progressed (now (places .entry)) (marks (now (places .entry)) (now (work .exit))) (held (now (places .entry)) (now (work .exit)))
+        (group .start) (group .end) symbol member ((x + 1) * limits .words) r
+        × Turned (now (places .entry)) (nodeAt (held (now (places .entry)) (now (work .exit))) member) y ⌝ }
 {
     if !leads(places, symbol, y, x) {
         return Progress::Tail(tail);
@@ -77,7 +77,7 @@ fn expand_word(
     let mut z = least_in_order(places, x);
     let mut tail = tail;
     while z < n {
-        match meet_words(places, marks, queue, group.start, symbol, y, x, z, tail) {
+        match meet_words(places, work, group.start, symbol, y, x, z, tail) {
             Progress::Goal(g) => return Progress::Goal(g),
             Progress::Tail(e) => tail = e,
         }
@@ -89,24 +89,23 @@ fn expand_word(
 // Meets the pairs of words that come next from a member that turns behind `y`.
 fn expand_words(
     places: &[u8],
-    marks: &mut [u16],
-    queue: &mut [u64],
+    work: &mut [u64],
     group: Group,
     symbol: usize,
     member: usize,
     y: usize,
     tail: usize,
 ) -> Progress
-    requires { ⌜ Expanding (now places) (now marks) (now queue) tail (group .start) (group .end) symbol member 0
-        × Turned (now places) (nodeAt (held (now places) (now queue)) member) y ⌝ }
-    ensures { λ r. ⌜ Progressed (now (places .entry)) (now (marks .exit)) (held (now (places .entry)) (now (queue .exit)))
+    requires { ⌜ Expanding (now places) (marks (now places) (now work)) (now work) tail (group .start) (group .end) symbol member 0
+        × Turned (now places) (nodeAt (held (now places) (now work)) member) y ⌝ }
+    ensures { λ r. ⌜ Progressed (now (places .entry)) (marks (now (places .entry)) (now (work .exit))) (held (now (places .entry)) (now (work .exit)))
         (group .start) (group .end) symbol (member + 1) 0 r ⌝ }
 {
     let n = places::word_count(places);
     let mut x: usize = 0;
     let mut tail = tail;
     while x < n {
-        match expand_word(places, marks, queue, group, symbol, member, y, x, tail) {
+        match expand_word(places, work, group, symbol, member, y, x, tail) {
             Progress::Goal(g) => return Progress::Goal(g),
             Progress::Tail(e) => tail = e,
         }
@@ -118,21 +117,20 @@ fn expand_words(
 // Meets all pairs that come next from a member by one symbol.
 pub fn expand_member(
     places: &[u8],
-    marks: &mut [u16],
-    queue: &mut [u64],
+    work: &mut [u64],
     group: Group,
     symbol: usize,
     member: usize,
     tail: usize,
 ) -> Progress
-    requires { ⌜ Expanding (now places) (now marks) (now queue) tail (group .start) (group .end) symbol member 0 ⌝ }
-    ensures { λ r. ⌜ Progressed (now (places .entry)) (now (marks .exit)) (held (now (places .entry)) (now (queue .exit)))
+    requires { ⌜ Expanding (now places) (marks (now places) (now work)) (now work) tail (group .start) (group .end) symbol member 0 ⌝ }
+    ensures { λ r. ⌜ Progressed (now (places .entry)) (marks (now (places .entry)) (now (work .exit))) (held (now (places .entry)) (now (work .exit)))
         (group .start) (group .end) symbol (member + 1) 0 r ⌝ }
 {
-    let pair = pair_at(queue, member);
+    let pair = pair_at(work, member);
     let y = turning(places, pair);
     if y < Turns::NOT {
-        return expand_words(places, marks, queue, group, symbol, member, y, tail);
+        return expand_words(places, work, group, symbol, member, y, tail);
     }
-    expand_slots(places, marks, queue, group, symbol, member, pair, tail)
+    expand_slots(places, work, group, symbol, member, pair, tail)
 }

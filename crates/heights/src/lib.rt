@@ -1,14 +1,16 @@
 // A depth-first search over the pairs of a code that finds their heights, one transition at a time. Every pair has a mark and, while the
-// search goes through its successors, an entry on the stack; the caller lends both buffers. Each slot of a pair is looked up once: its height
-// through the slots passed stands above the pair in its entry.
+// search goes through its successors, an entry on the stack; both stand in the list that the caller lends. Each slot of a pair is looked up
+// once: its height through the slots passed stands above the pair in its entry.
 
+use code::Code;
 use places::Pair;
 ghost use mathlib.Core.Path.{_≡_};
 ghost use Prim.Native.Nat.{_-_, _≤_, _<_, max};
 ghost use Rattle.storage.specs.Fields.{aboveRoom, markRoom};
 ghost use Rattle.storage.specs.Entries.{held};
+ghost use Rattle.storage.specs.Marks.{marks};
 ghost use Rattle.storage.specs.Stores.{Marked, markOf};
-ghost use Rattle.heights.specs.Search.{Top, Searching, Advanced};
+ghost use Rattle.heights.specs.Search.{finishedFrom, Top, Searching, Advanced};
 ghost use Rattle.heights.specs.Pass.{Passed};
 ghost use Rattle.heights.specs.Follow.{Following};
 ghost use Rattle.heights.specs.Pop.{Popping};
@@ -24,15 +26,15 @@ pub enum Progress {
 struct Mark {}
 
 impl Mark {
-    const FINISHED: usize = 34;
+    const FINISHED: usize = Code::WORDS + 2;
 }
 
 // The height of a finished pair, from its mark.
-pub fn height_at(places: &[u8], marks: &[u16], pair: Pair) -> usize
-    requires { ⌜ Marked (now places) (now marks) pair × (34 ≤ markOf (now places) (now marks) pair) ⌝ }
-    ensures { λ r. ⌜ (r ≡ markOf (now (places .entry)) (now (marks .entry)) pair - 34) × (r < markRoom) ⌝ }
+pub fn height_at(places: &[u8], work: &[u64], pair: Pair) -> usize
+    requires { ⌜ Marked (now places) (marks (now places) (now work)) pair × (finishedFrom ≤ markOf (now places) (marks (now places) (now work)) pair) ⌝ }
+    ensures { λ r. ⌜ (r ≡ markOf (now (places .entry)) (marks (now (places .entry)) (now (work .entry))) pair - finishedFrom) × (r < markRoom) ⌝ }
 {
-    storage::mark(places, marks, pair) - Mark::FINISHED
+    storage::mark(places, work, pair) - Mark::FINISHED
 }
 
 // The greater of two heights.
@@ -43,38 +45,31 @@ fn greater(a: usize, b: usize) -> usize
 }
 
 // Passes the next slot of the pair on top, which leads to a finished pair. The height through that slot, one more than that pair's, is `through`.
-fn pass(places: &[u8], marks: &mut [u16], stack: &mut [u64], depth: usize, through: usize)
-    requires { ⌜ Top (now places) (now marks) (held (now places) (now stack)) depth × (through < aboveRoom) ⌝ }
-    ensures { λ _. ⌜ Passed (now (marks .entry)) (held (now (places .entry)) (now (stack .entry))) depth through
-        (now (marks .exit)) (held (now (places .entry)) (now (stack .exit))) ⌝ }
+fn pass(places: &[u8], work: &mut [u64], depth: usize, through: usize)
+    requires { ⌜ Top (now places) (marks (now places) (now work)) (held (now places) (now work)) depth × (through < aboveRoom) ⌝ }
+    ensures { λ _. ⌜ Passed (marks (now (places .entry)) (now (work .entry))) (held (now (places .entry)) (now (work .entry))) depth through
+        (marks (now (places .entry)) (now (work .exit))) (held (now (places .entry)) (now (work .exit))) ⌝ }
 {
     let rest = depth - 1;
-    let pair = storage::pair_at(stack, rest);
-    let height = greater(storage::above_at(stack, rest), through);
-    let mark = storage::mark(places, marks, pair) + 1;
-    storage::store(places, marks, stack, rest, height, pair, mark);
+    let pair = storage::pair_at(work, rest);
+    let height = greater(storage::above_at(work, rest), through);
+    let mark = storage::mark(places, work, pair) + 1;
+    storage::store(places, work, rest, height, pair, mark);
 }
 
 // Follows the next slot of the pair on top: it is passed, or leads to a pair that is pushed.
-fn follow(
-    places: &[u8],
-    marks: &mut [u16],
-    stack: &mut [u64],
-    depth: usize,
-    pair: Pair,
-    slot: usize,
-) -> Progress
-    requires { ⌜ Following (now places) (now marks) (held (now places) (now stack)) depth pair slot ⌝ }
-    ensures { λ r. ⌜ Advanced (now (places .entry)) (now (marks .entry)) (now (marks .exit)) (held (now (places .entry)) (now (stack .exit))) r ⌝ }
+fn follow(places: &[u8], work: &mut [u64], depth: usize, pair: Pair, slot: usize) -> Progress
+    requires { ⌜ Following (now places) (marks (now places) (now work)) (held (now places) (now work)) depth pair slot ⌝ }
+    ensures { λ r. ⌜ Advanced (now (places .entry)) (marks (now (places .entry)) (now (work .entry))) (marks (now (places .entry)) (now (work .exit))) (held (now (places .entry)) (now (work .exit))) r ⌝ }
 {
     let next = places::successor(places, pair.low, pair.high, slot);
     if places::place_count(places) <= next.low {
-        storage::set_mark(places, marks, pair, slot + 2);
+        storage::set_mark(places, work, pair, slot + 2);
         return Progress::Depth(depth);
     }
-    let met = storage::mark(places, marks, next);
+    let met = storage::mark(places, work, next);
     if met == 0 {
-        storage::store(places, marks, stack, depth, 0, next, 1);
+        storage::store(places, work, depth, 0, next, 1);
         let deeper = depth + 1;
         return Progress::Depth(deeper);
     }
@@ -82,34 +77,34 @@ fn follow(
         return Progress::Cycle;
     }
     let through = met - Mark::FINISHED + 1;
-    pass(places, marks, stack, depth, through);
+    pass(places, work, depth, through);
     Progress::Depth(depth)
 }
 
 // Finishes the pair on top, which has no slot left, and pops it; the pair below passes the slot that led to it.
-fn pop(places: &[u8], marks: &mut [u16], stack: &mut [u64], depth: usize, pair: Pair) -> Progress
-    requires { ⌜ Popping (now places) (now marks) (held (now places) (now stack)) depth pair ⌝ }
-    ensures { λ r. ⌜ Advanced (now (places .entry)) (now (marks .entry)) (now (marks .exit)) (held (now (places .entry)) (now (stack .exit))) r ⌝ }
+fn pop(places: &[u8], work: &mut [u64], depth: usize, pair: Pair) -> Progress
+    requires { ⌜ Popping (now places) (marks (now places) (now work)) (held (now places) (now work)) depth pair ⌝ }
+    ensures { λ r. ⌜ Advanced (now (places .entry)) (marks (now (places .entry)) (now (work .entry))) (marks (now (places .entry)) (now (work .exit))) (held (now (places .entry)) (now (work .exit))) r ⌝ }
 {
     let rest = depth - 1;
-    let height = storage::above_at(stack, rest);
-    storage::set_mark(places, marks, pair, height + Mark::FINISHED);
+    let height = storage::above_at(work, rest);
+    storage::set_mark(places, work, pair, height + Mark::FINISHED);
     if rest == 0 {
         return Progress::Depth(rest);
     }
-    pass(places, marks, stack, rest, height + 1);
+    pass(places, work, rest, height + 1);
     Progress::Depth(rest)
 }
 
 // One transition: the next slot of the pair on top is followed, or with no slot left the pair is popped.
-pub fn advance(places: &[u8], marks: &mut [u16], stack: &mut [u64], depth: usize) -> Progress
-    requires { ⌜ Searching (now places) (now marks) (held (now places) (now stack)) depth ⌝ }
-    ensures { λ r. ⌜ Advanced (now (places .entry)) (now (marks .entry)) (now (marks .exit)) (held (now (places .entry)) (now (stack .exit))) r ⌝ }
+pub fn advance(places: &[u8], work: &mut [u64], depth: usize) -> Progress
+    requires { ⌜ Searching (now places) (marks (now places) (now work)) (held (now places) (now work)) depth ⌝ }
+    ensures { λ r. ⌜ Advanced (now (places .entry)) (marks (now (places .entry)) (now (work .entry))) (marks (now (places .entry)) (now (work .exit))) (held (now (places .entry)) (now (work .exit))) r ⌝ }
 {
-    let pair = storage::pair_at(stack, depth - 1);
-    let slot = storage::mark(places, marks, pair) - 1;
+    let pair = storage::pair_at(work, depth - 1);
+    let slot = storage::mark(places, work, pair) - 1;
     if slot < places::slots(places, pair.low, pair.high) {
-        return follow(places, marks, stack, depth, pair, slot);
+        return follow(places, work, depth, pair, slot);
     }
-    pop(places, marks, stack, depth, pair)
+    pop(places, work, depth, pair)
 }

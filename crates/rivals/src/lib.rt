@@ -9,13 +9,14 @@ use places::no_pair;
 use places::word_count;
 ghost use mathlib.Core.Path.{_≡_};
 ghost use Prim.Native.Nat.{_≤_, _<_};
+ghost use Rattle.code.specs.Definitions.Sheets.{limits};
 ghost use Rattle.places.specs.Flat.{Laid, bothBehind, rivalsAt, firstNode};
 ghost use Rattle.rivals.specs.Rivals.{rivalBefore, someRivals};
 ghost use Rattle.places.specs.Steps.{Arrives};
 
 // Whether words `x` and `y` may both come behind `z`, which ends a permitted sequence or is the start.
 fn both_behind(places: &[u8], x: usize, y: usize, z: usize) -> bool
-    requires { ⌜ Laid (now places) × (x < 32) × (y < 32) × (z ≤ 32) ⌝ }
+    requires { ⌜ Laid (now places) × (x < limits .words) × (y < limits .words) × (z ≤ limits .words) ⌝ }
     ensures { λ r. ⌜ r ≡ bothBehind (now (places .entry)) x y z ⌝ }
 {
     if places[Layout::ENDINGS + z] == 1 {
@@ -28,7 +29,7 @@ fn both_behind(places: &[u8], x: usize, y: usize, z: usize) -> bool
 
 // Whether words `x` and `y` are rivals. The start is asked first: most words may begin.
 pub fn are_rivals(places: &[u8], x: usize, y: usize) -> bool
-    requires { ⌜ Laid (now places) × (x < 32) × (y < 32) ⌝ }
+    requires { ⌜ Laid (now places) × (x < limits .words) × (y < limits .words) ⌝ }
     ensures { λ r. ⌜ r ≡ rivalsAt (now (places .entry)) x y ⌝ }
 {
     let mut z: usize = Code::WORDS + 1;
@@ -43,7 +44,7 @@ pub fn are_rivals(places: &[u8], x: usize, y: usize) -> bool
 
 // The first pair of words `x` and `y`, if they are rivals with the same first symbol.
 pub fn rival_pair(places: &[u8], x: usize, y: usize) -> Pair
-    requires { ⌜ Laid (now places) × (x < 32) × (y < 32) ⌝ }
+    requires { ⌜ Laid (now places) × (x < limits .words) × (y < limits .words) ⌝ }
     ensures { λ r. ⌜ Arrives (now (places .entry)) (firstNode (now (places .entry)) x y) r ⌝ }
 {
     if are_rivals(places, x, y) {
@@ -54,7 +55,7 @@ pub fn rival_pair(places: &[u8], x: usize, y: usize) -> Pair
 
 // Whether word `x` has a rival before it.
 fn has_rival(places: &[u8], x: usize) -> bool
-    requires { ⌜ Laid (now places) × (x < 32) ⌝ }
+    requires { ⌜ Laid (now places) × (x < limits .words) ⌝ }
     ensures { λ r. ⌜ r ≡ rivalBefore (now (places .entry)) x ⌝ }
 {
     let mut y: usize = 0;

@@ -10,6 +10,7 @@ use Rattle.places.specs.Nodes.{low-inside, pairs-limited}
 use Rattle.places.specs.Opens.{openGraph}
 use Rattle.storage.specs.Entries.{held}
 use Rattle.storage.specs.Fields.{aboveRoom}
+use Rattle.storage.specs.Marks.{marks}
 use Rattle.storage.specs.Stores.{Stored}
 use Rattle.slots.specs.declared.Arrival.{Arrival}
 use Rattle.slots.specs.declared.Arrival.the-variants.{Passed, Fresh, Goal as Final}
@@ -46,8 +47,8 @@ pub fresh-low : {f ms : List ℕ} {t : ℕ} {x : Arrival} (p : Pair) → Seen f 
 fresh-low {f} p y e = low-inside f (p .low) (p .high) (was-fresh y e .node)
 
 -- and the mark that is set and the entry that is stored are those of one pair.
-pub meets-fresh : {f ms q ms′ q′ : List ℕ} {a t tail : ℕ} {x : Arrival} (p : Pair) → Seen f ms (cell f (p .low) (p .high)) t x → x ≡ Fresh
-    → Stored f ms q tail (a + 1) p 1 ms′ q′ → Arrived f ms (held f q) ms′ (held f q′) a t tail (cell f (p .low) (p .high)) (Tail (tail + 1))
+pub meets-fresh : {f q q′ : List ℕ} {a t tail : ℕ} {x : Arrival} (p : Pair) → Seen f (marks f q) (cell f (p .low) (p .high)) t x → x ≡ Fresh
+    → Stored f q tail (a + 1) p 1 q′ → Arrived f (marks f q) (held f q) (marks f q′) (held f q′) a t tail (cell f (p .low) (p .high)) (Tail (tail + 1))
 meets-fresh p y e s = queued (was-fresh y e) (s .marks) (s .entries)
 
 -- The number above an entry fits its field.

@@ -6,7 +6,7 @@ use Prim.Native.Nat.{ℕ, _+_, _*_, _≤_, _<_}
 use lib.ListN.{length, getD, set}
 use Rattle.places.specs.declared.Pair.{Pair}
 use Rattle.places.specs.Flat.{symbolAt, placeCount, cellCount, pairCount, cell, higher}
-use Rattle.places.specs.Opens.{turning, openGraph}
+use Rattle.places.specs.Opens.{straightOn, turning, openGraph}
 use Rattle.storage.specs.Entries.{entryOf, nodeIn}
 use Rattle.storage.specs.Fields.{aboveIn}
 use Rattle.slots.specs.declared.Arrival.{Arrival}
@@ -22,12 +22,12 @@ keyOf f e = aboveIn e * 16 + symbolAt f (higher f (nodeIn e))
 pub record Straight (f : List ℕ) (p : Pair) : Type 0 where
   pub low : p .low < placeCount f
   pub high : p .high < placeCount f
-  pub straight : turning f (cell f (p .low) (p .high)) ≡ 33
+  pub straight : turning f (cell f (p .low) (p .high)) ≡ straightOn
 
 -- Number v turns behind y, a word or the start.
 pub record Turned (f : List ℕ) (v y : ℕ) : Type 0 where
   pub behind : y ≡ turning f v
-  pub turns : y < 33
+  pub turns : y < straightOn
 
 -- Number v is a node of symbol t that is no goal and not marked.
 pub record IsFresh (f ms : List ℕ) (v t : ℕ) : Type 0 where

@@ -8,11 +8,11 @@ use native.Mathlib.Omega.{arith}
 use lib.ListN.{getD}
 use borrow.Author.Tests.{eq-eqb, ne-eqb}
 use Rattle.places.specs.declared.Pair.{Pair}
-use Rattle.places.specs.Flat.{Laid, symbolAt, ownerAt, endAt, opensAt, slotsOf, placeCount, cellCount, cell, higher}
+use Rattle.places.specs.Flat.{Laid, symbolAt, ownerAt, endAt, opensAt, atStart, slotsOf, placeCount, cellCount, cell, higher}
 use Rattle.places.specs.Nodes.{cell-inside, cell-outside, lower-cell, higher-cell}
-use Rattle.places.specs.Opens.{turning, openGraph, apartEnds, turning-source, turning-end, turning-inside, turning-apart, turning-closed}
-use Rattle.storage.specs.Entries.{PairOf, nodeAt, held, above-held, carried}
-use Rattle.storage.specs.Fields.{aboveIn, Carries}
+use Rattle.places.specs.Opens.{straightOn, turning, openGraph, apartEnds, turning-source, turning-end, turning-inside, turning-apart, turning-closed}
+use Rattle.storage.specs.Entries.{PairOf, nodeAt, aboveAt, links, held, above-held, carried}
+use Rattle.storage.specs.Fields.{Carries}
 use Rattle.storage.specs.Stores.{markOf}
 use Rattle.slots.specs.declared.Arrival.the-variants.{Passed, Fresh, Goal}
 use Rattle.slots.specs.Contracts.{keyOf, Straight, Turned, Seen, passed, fresh, goal}
@@ -28,13 +28,13 @@ module _ {f : List ℕ} (q : List ℕ) (laid : Laid f) (i : ℕ) {p : Pair} (n :
   pub high-carried : p .high < placeCount f
   high-carried = carried f q laid i n c .inside
 
-  pub is-key : {a s : ℕ} → a ≡ aboveIn (getD q i 0) → s ≡ symbolAt f (p .high) → a * 16 + s ≡ keyOf f (getD (held f q) i 0)
+  pub is-key : {a s : ℕ} → a ≡ aboveAt (links q) i → s ≡ symbolAt f (p .high) → a * 16 + s ≡ keyOf f (getD (held f q) i 0)
   is-key d e = omega (arith, above-held f q laid i, places-symbol f (carried f q laid i n c))
 
 module _ {f : List ℕ} (laid : Laid f) where
   -- What `turning` returns. The number n of places is read from the list.
   module _ (low high : ℕ) {n : ℕ} (e : n ≡ placeCount f) where
-    pub turns-source : n ≤ low → 32 ≡ turning f (cell f low high)
+    pub turns-source : n ≤ low → atStart ≡ turning f (cell f low high)
     turns-source l = sym (turning-source f (cell f low high) (cell-outside f low high (omega arith)))
 
     module _ (l : low < n) (h : high < placeCount f) where
@@ -47,28 +47,28 @@ module _ {f : List ℕ} (laid : Laid f) where
           let x = lower-cell f low high h in
           d ∙ sym (turning-end f (cell f low high) cell-known (x ∙ z ∙ sym (higher-cell f low high h)) (ap (endAt f) x ∙ sym a ∙ c) (sym u ∙ v) ∙ ap (ownerAt f) x)
 
-      pub turns-closed : {o : Bool} → o ≡ opensAt f → o ≡ false → 33 ≡ turning f (cell f low high)
+      pub turns-closed : {o : Bool} → o ≡ opensAt f → o ≡ false → straightOn ≡ turning f (cell f low high)
       turns-closed u v = sym (turning-closed f (cell f low high) cell-known (sym u ∙ v))
 
-      pub turns-inside : {b : Bool} → b ≡ endAt f low → b ≡ false → 33 ≡ turning f (cell f low high)
+      pub turns-inside : {b : Bool} → b ≡ endAt f low → b ≡ false → straightOn ≡ turning f (cell f low high)
       turns-inside a c = sym (turning-inside f (cell f low high) cell-known (ap (endAt f) (lower-cell f low high h) ∙ sym a ∙ c))
 
-      pub turns-apart : (low ≡ high → ⊥) → 33 ≡ turning f (cell f low high)
+      pub turns-apart : (low ≡ high → ⊥) → straightOn ≡ turning f (cell f low high)
       turns-apart d = sym (turning-apart f (cell f low high) cell-known (λ z. d (sym (lower-cell f low high h) ∙ z ∙ higher-cell f low high h)))
 
   -- A number that does not turn is a pair.
-  pub low-known : (low high : ℕ) {y : ℕ} → y ≡ turning f (cell f low high) → 33 ≤ y → low < placeCount f
+  pub low-known : (low high : ℕ) {y : ℕ} → y ≡ turning f (cell f low high) → straightOn ≤ y → low < placeCount f
   low-known low high e l = go (decLt low (placeCount f))
     where
       go : Dec (low < placeCount f) → low < placeCount f
       go (yes h) = h
       go (no h) = absurd (omega (arith, turning-source f (cell f low high) (cell-outside f low high (omega arith))))
 
-  pub goes-straight : (pair : Pair) {y : ℕ} → y ≡ turning f (cell f (pair .low) (pair .high)) → y ≤ 33 → 33 ≤ y → pair .high < placeCount f → Straight f pair
+  pub goes-straight : (pair : Pair) {y : ℕ} → y ≡ turning f (cell f (pair .low) (pair .high)) → y ≤ straightOn → straightOn ≤ y → pair .high < placeCount f → Straight f pair
   goes-straight pair e l m h = record { low = low-known (pair .low) (pair .high) e m; high = h; straight = omega arith }
 
   -- A number that turns, by its places.
-  pub goes-behind : (pair : Pair) {v y : ℕ} → PairOf f v pair → y ≡ turning f (cell f (pair .low) (pair .high)) → y < 33 → Turned f v y
+  pub goes-behind : (pair : Pair) {v y : ℕ} → PairOf f v pair → y ≡ turning f (cell f (pair .low) (pair .high)) → y < straightOn → Turned f v y
   goes-behind pair u e l = record { behind = e ∙ ap (turning f) (u .node); turns = l }
 
   -- What `inner` returns, by whether the lower place is an end.

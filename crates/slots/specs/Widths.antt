@@ -6,8 +6,9 @@ use Prim.Native.Nat.{ℕ, _+_, _*_, _<_}
 use lib.Dec.{ltb, eqb}
 use borrow.Author.Tests.{lt-ltb}
 use Rattle.code.specs.Definitions.Lists.{if_then_else_}
+use Rattle.code.specs.Definitions.Sheets.{limits}
 use Rattle.places.specs.Flat.{symbolAt, endAt, wordCount, slotsOf, lower, higher}
-use Rattle.places.specs.Opens.{turning}
+use Rattle.places.specs.Opens.{straightOn, turning}
 
 module _ (f : List ℕ) where
   -- A place inside its word, in a pair that is not two ends.
@@ -21,16 +22,16 @@ module _ (f : List ℕ) where
   -- How many slots of node v, or of the source, may lead on by t.
   unfoldable pub width : ℕ → ℕ → ℕ
   unfolding turning
-  width v t = if ltb (turning f v) 33 then wordCount f * 32 else if leadsOn (lower f v) (higher f v) t then slotsOf f (lower f v) (higher f v) else 0
+  width v t = if ltb (turning f v) straightOn then wordCount f * limits .words else if leadsOn (lower f v) (higher f v) t then slotsOf f (lower f v) (higher f v) else 0
 
-  pub width-on : (v t : ℕ) → turning f v ≡ 33 → leadsOn (lower f v) (higher f v) t ≡ true → width v t ≡ slotsOf f (lower f v) (higher f v)
+  pub width-on : (v t : ℕ) → turning f v ≡ straightOn → leadsOn (lower f v) (higher f v) t ≡ true → width v t ≡ slotsOf f (lower f v) (higher f v)
   unfolding width
   width-on v t z e = rw z (rw e)
 
-  pub width-off : (v t : ℕ) → turning f v ≡ 33 → leadsOn (lower f v) (higher f v) t ≡ false → width v t ≡ 0
+  pub width-off : (v t : ℕ) → turning f v ≡ straightOn → leadsOn (lower f v) (higher f v) t ≡ false → width v t ≡ 0
   unfolding width
   width-off v t z e = rw z (rw e)
 
-  pub width-turning : (v t : ℕ) → turning f v < 33 → width v t ≡ wordCount f * 32
+  pub width-turning : (v t : ℕ) → turning f v < straightOn → width v t ≡ wordCount f * limits .words
   unfolding width
   width-turning v t l = rw (lt-ltb _ _ l)

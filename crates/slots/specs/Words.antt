@@ -2,14 +2,15 @@
 use mathlib.Core.Path.{_≡_, refl, sym, _∙_}
 use mathlib.Core.Bool.{Bool, true, false, _&&_, true≢false}
 use mathlib.Core.List.{List}
-use Prim.Native.Nat.{ℕ, _+_, _*_, _/_, _%_, _<_}
+use Prim.Native.Nat.{ℕ, _+_, _*_, _<_}
 use native.Mathlib.Omega.{arith}
 use lib.Dec.{eqb}
 use borrow.Author.Tests.{eq-eqb, ne-eqb}
 use Rattle.code.specs.Definitions.Lists.{if_then_else_}
+use Rattle.code.specs.Definitions.Sheets.{limits}
 use Rattle.places.specs.declared.Pair.{Pair}
 use Rattle.places.specs.Flat.{Laid, symbolAt, firstAt, mayCome, opensAt, wordCount, cell}
-use Rattle.places.specs.Opens.{inOrder, pairBehind, Behind, behind-tests, behind-both, in-order-le}
+use Rattle.places.specs.Opens.{leftWord, rightWord, inOrder, pairBehind, Behind, behind-tests, behind-both, in-order-le}
 use Rattle.places.specs.Steps.{Arrives, startNode}
 use Rattle.slots.specs.declared.Progress.{Progress}
 use Rattle.slots.specs.declared.Progress.the-variants.{Tail}
@@ -39,23 +40,23 @@ module _ (f : List ℕ) where
   least-next x d e = rw (sym d ∙ e)
 
   -- What is known of two words in order.
-  pub left-known : Laid f → (x : ℕ) {z : ℕ} → inOrder f x z ≡ true → z < wordCount f → x < 32
+  pub left-known : Laid f → (x : ℕ) {z : ℕ} → inOrder f x z ≡ true → z < wordCount f → x < limits .words
   left-known laid x {z} o l = let n = laid .words in let h = in-order-le f x z o in omega arith
 
-  pub right-known : Laid f → {z : ℕ} → z < wordCount f → z < 32
+  pub right-known : Laid f → {z : ℕ} → z < wordCount f → z < limits .words
   right-known laid l = let n = laid .words in omega arith
 
 -- What `meet_words` returns.
-at-words : {f : List ℕ} → Laid f → (x z : ℕ) → z < wordCount f → ((x * 32 + z) / 32 ≡ x) × ((x * 32 + z) % 32 ≡ z)
+at-words : {f : List ℕ} → Laid f → (x z : ℕ) → z < wordCount f → (leftWord (x * limits .words + z) ≡ x) × (rightWord (x * limits .words + z) ≡ z)
 at-words laid x z k = let n = laid .words in (omega arith, omega arith)
 
 module _ {f ms q : List ℕ} {a t tail : ℕ} (laid : Laid f) (y x z : ℕ) (known : z < wordCount f) where
   pub meets-pair : {b : Bool} {r : Pair} {ms′ q′ : List ℕ} {p : Progress} → mayCome f x y ≡ true → inOrder f x z ≡ true → b ≡ mayCome f z y → b ≡ true
-      → Arrives f (startNode f x z) r → Arrived f ms q ms′ q′ a t tail (cell f (r .low) (r .high)) p → Arrived f ms q ms′ q′ a t tail (pairBehind f y (x * 32 + z)) p
+      → Arrives f (startNode f x z) r → Arrived f ms q ms′ q′ a t tail (cell f (r .low) (r .high)) p → Arrived f ms q ms′ q′ a t tail (pairBehind f y (x * limits .words + z)) p
   meets-pair left order d e arrives h =
       let w = at-words laid x z known in
-      let both : Behind f y (x * 32 + z) = record { order = rw (w .0, w .1) order; known = rw (w .1) known; left = rw (w .0) left; right = rw (w .1) (sym d ∙ e) } in
-      rw (behind-both f y (x * 32 + z) both, w .0, w .1, ← arrives .node) h
+      let both : Behind f y (x * limits .words + z) = record { order = rw (w .0, w .1) order; known = rw (w .1) known; left = rw (w .0) left; right = rw (w .1) (sym d ∙ e) } in
+      rw (behind-both f y (x * limits .words + z) both, w .0, w .1, ← arrives .node) h
 
-  pub meets-none : {b : Bool} → b ≡ mayCome f z y → b ≡ false → Arrived f ms q ms q a t tail (pairBehind f y (x * 32 + z)) (Tail tail)
-  meets-none d e = old (λ l i. absurd (true≢false (sym (behind-tests f y (x * 32 + z) l .right) ∙ rw (at-words laid x z known .1) (sym d ∙ e)))) refl refl
+  pub meets-none : {b : Bool} → b ≡ mayCome f z y → b ≡ false → Arrived f ms q ms q a t tail (pairBehind f y (x * limits .words + z)) (Tail tail)
+  meets-none d e = old (λ l i. absurd (true≢false (sym (behind-tests f y (x * limits .words + z) l .right) ∙ rw (at-words laid x z known .1) (sym d ∙ e)))) refl refl

@@ -9,9 +9,10 @@ ghost use mathlib.Core.Path.{_≡_};
 ghost use Prim.Native.Nat.{_≤_, _<_};
 ghost use lib.ListN.{length, getD};
 ghost use Rattle.places.specs.Flat.{Laid, placeCount, cellCount};
-ghost use Rattle.places.specs.Opens.{turning, openGraph};
+ghost use Rattle.places.specs.Opens.{straightOn, turning, openGraph};
 ghost use Rattle.places.specs.Steps.{pairCell};
 ghost use Rattle.storage.specs.Entries.{nodeAt, held};
+ghost use Rattle.storage.specs.Marks.{marks};
 ghost use Rattle.slots.specs.Contracts.{keyOf, Straight, Seen};
 ghost use Rattle.slots.specs.Widths.{innerOf, width};
 
@@ -39,7 +40,7 @@ pub enum Progress {
 // other pairs.
 pub fn turning(places: &[u8], pair: Pair) -> usize
     requires { ⌜ Laid (now places) × (pair .high < placeCount (now places)) ⌝ }
-    ensures { λ r. ⌜ (r ≡ turning (now (places .entry)) (pairCell (now (places .entry)) pair)) × (r ≤ 33) ⌝ }
+    ensures { λ r. ⌜ (r ≡ turning (now (places .entry)) (pairCell (now (places .entry)) pair)) × (r ≤ straightOn) ⌝ }
 {
     let low = pair.low;
     if places::place_count(places) <= low {
@@ -93,12 +94,12 @@ fn two_ends(places: &[u8], pair: Pair) -> bool
 }
 
 // What stands where a slot leads, for a symbol.
-pub fn look(places: &[u8], marks: &[u16], pair: Pair, symbol: usize) -> Arrival
+pub fn look(places: &[u8], work: &[u64], pair: Pair, symbol: usize) -> Arrival
     requires { ⌜ Laid (now places)
-        × (length (now marks) ≡ cellCount (now places))
+        × (length (marks (now places) (now work)) ≡ cellCount (now places))
         × (pair .low ≤ placeCount (now places))
         × (pair .high < placeCount (now places)) ⌝ }
-    ensures { λ r. ⌜ Seen (now (places .entry)) (now (marks .entry)) (pairCell (now (places .entry)) pair) symbol r ⌝ }
+    ensures { λ r. ⌜ Seen (now (places .entry)) (marks (now (places .entry)) (now (work .entry))) (pairCell (now (places .entry)) pair) symbol r ⌝ }
 {
     if places::place_count(places) <= pair.low {
         return Arrival::Passed;
@@ -106,7 +107,7 @@ pub fn look(places: &[u8], marks: &[u16], pair: Pair, symbol: usize) -> Arrival
     if places::symbol(places, pair.high) != symbol {
         return Arrival::Passed;
     }
-    if storage::mark(places, marks, pair) != 0 {
+    if storage::mark(places, work, pair) != 0 {
         return Arrival::Passed;
     }
     if two_ends(places, pair) {
@@ -117,10 +118,10 @@ pub fn look(places: &[u8], marks: &[u16], pair: Pair, symbol: usize) -> Arrival
 
 // The group of entry `i` of the queue, as a number: where the group of its predecessor begins, and its symbol. An entry has a pair, or the source, and above it
 // one more than where the group of its predecessor begins; 0 for the source.
-pub fn key(places: &[u8], queue: &[u64], i: usize) -> usize
-    requires { ⌜ Laid (now places) × (i < length (now queue)) × (nodeAt (held (now places) (now queue)) i ≤ cellCount (now places)) ⌝ }
-    ensures { λ r. ⌜ r ≡ keyOf (now (places .entry)) (getD (held (now (places .entry)) (now (queue .entry))) i 0) ⌝ }
+pub fn key(places: &[u8], work: &[u64], i: usize) -> usize
+    requires { ⌜ Laid (now places) × (i < length (now work)) × (nodeAt (held (now places) (now work)) i ≤ cellCount (now places)) ⌝ }
+    ensures { λ r. ⌜ r ≡ keyOf (now (places .entry)) (getD (held (now (places .entry)) (now (work .entry))) i 0) ⌝ }
 {
-    let pair = storage::pair_at(queue, i);
-    (storage::above_at(queue, i) << 4) + places::symbol(places, pair.high)
+    let pair = storage::pair_at(work, i);
+    (storage::above_at(work, i) << 4) + places::symbol(places, pair.high)
 }

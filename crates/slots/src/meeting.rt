@@ -9,36 +9,37 @@ use storage::store;
 ghost use mathlib.Core.Path.{_≡_};
 ghost use mathlib.Core.Bool.{true};
 ghost use Prim.Native.Nat.{_+_, _*_, _≤_, _<_};
+ghost use Rattle.code.specs.Definitions.Sheets.{limits};
 ghost use Rattle.places.specs.Flat.{Laid, mayCome, wordCount, placeCount};
 ghost use Rattle.places.specs.Opens.{inOrder, pairBehind};
 ghost use Rattle.places.specs.Steps.{pairCell};
 ghost use Rattle.storage.specs.Entries.{held};
+ghost use Rattle.storage.specs.Marks.{marks};
 ghost use Rattle.slots.specs.Contracts.{Space, Arrived};
 ghost use Rattle.slots.specs.Words.{leadsBehind, leastBehind};
 
 // Meets a pair, from the group that begins at `start`: if it was not met before it is marked and queued.
 pub fn meet(
     places: &[u8],
-    marks: &mut [u16],
-    queue: &mut [u64],
+    work: &mut [u64],
     start: usize,
     symbol: usize,
     pair: Pair,
     tail: usize,
 ) -> Progress
     requires { ⌜ Laid (now places)
-        × Space (now places) (now marks) (now queue) tail start
+        × Space (now places) (marks (now places) (now work)) (now work) tail start
         × (pair .low ≤ placeCount (now places))
         × (pair .high < placeCount (now places)) ⌝ }
-    ensures { λ r. ⌜ Arrived (now (places .entry)) (now (marks .entry)) (held (now (places .entry)) (now (queue .entry)))
-        (now (marks .exit)) (held (now (places .entry)) (now (queue .exit)))
+    ensures { λ r. ⌜ Arrived (now (places .entry)) (marks (now (places .entry)) (now (work .entry))) (held (now (places .entry)) (now (work .entry)))
+        (marks (now (places .entry)) (now (work .exit))) (held (now (places .entry)) (now (work .exit)))
         start symbol tail (pairCell (now (places .entry)) pair) r ⌝ }
 {
-    match look(places, marks, pair, symbol) {
+    match look(places, work, pair, symbol) {
         Arrival::Passed => Progress::Tail(tail),
         Arrival::Goal => Progress::Goal(symbol),
         Arrival::Fresh => {
-            store(places, marks, queue, tail, start + 1, pair, 1);
+            store(places, work, tail, start + 1, pair, 1);
             Progress::Tail(tail + 1)
         }
     }
@@ -47,8 +48,7 @@ pub fn meet(
 // Meets the first pair of words `x` and `z`, in order, if `z` may come behind `y`, as `x` may.
 pub fn meet_words(
     places: &[u8],
-    marks: &mut [u16],
-    queue: &mut [u64],
+    work: &mut [u64],
     start: usize,
     symbol: usize,
     y: usize,
@@ -56,17 +56,16 @@ pub fn meet_words(
     z: usize,
     tail: usize,
 ) -> Progress
-    requires { ⌜ Laid (now places) × Space (now places) (now marks) (now queue) tail start × (y ≤ 32) × (mayCome (now places) x y ≡ true)
+    requires { ⌜ Laid (now places) × Space (now places) (marks (now places) (now work)) (now work) tail start × (y ≤ limits .words) × (mayCome (now places) x y ≡ true)
         × (inOrder (now places) x z ≡ true) × (z < wordCount (now places)) ⌝ }
-    ensures { λ r. ⌜ Arrived (now (places .entry)) (now (marks .entry)) (held (now (places .entry)) (now (queue .entry)))
-        (now (marks .exit)) (held (now (places .entry)) (now (queue .exit)))
-        start symbol tail (pairBehind (now (places .entry)) y (x * 32 + z)) r ⌝ }
+    ensures { λ r. ⌜ Arrived (now (places .entry)) (marks (now (places .entry)) (now (work .entry))) (held (now (places .entry)) (now (work .entry)))
+        (marks (now (places .entry)) (now (work .exit))) (held (now (places .entry)) (now (work .exit)))
+        start symbol tail (pairBehind (now (places .entry)) y (x * limits .words + z)) r ⌝ }
 {
     if places::may_come(places, z, y) {
         return meet(
             places,
-            marks,
-            queue,
+            work,
             start,
             symbol,
             places::first_pair(places, x, z),
@@ -78,7 +77,7 @@ pub fn meet_words(
 
 // Whether word `x` begins with the symbol and may come behind `y`.
 pub fn leads(places: &[u8], symbol: usize, y: usize, x: usize) -> bool
-    requires { ⌜ Laid (now places) × (x < 32) × (y ≤ 32) ⌝ }
+    requires { ⌜ Laid (now places) × (x < limits .words) × (y ≤ limits .words) ⌝ }
     ensures { λ r. ⌜ r ≡ leadsBehind (now (places .entry)) symbol y x ⌝ }
 {
     if places::first_symbol(places, x) == symbol {
@@ -89,8 +88,8 @@ pub fn leads(places: &[u8], symbol: usize, y: usize, x: usize) -> bool
 
 // The least word that stands in order behind `x`: the next one, or `x` itself where openings matter.
 pub fn least_in_order(places: &[u8], x: usize) -> usize
-    requires { ⌜ Laid (now places) × (x < 32) ⌝ }
-    ensures { λ r. ⌜ (r ≡ leastBehind (now (places .entry)) x) × (r ≤ 32) ⌝ }
+    requires { ⌜ Laid (now places) × (x < limits .words) ⌝ }
+    ensures { λ r. ⌜ (r ≡ leastBehind (now (places .entry)) x) × (r ≤ limits .words) ⌝ }
 {
     if places::opens(places) {
         return x;

@@ -1,5 +1,5 @@
--- What the sums of a stored entry and of a cell come to: they fit their types, and each is the number that its contract names.
-use mathlib.Core.Path.{_≡_, refl}
+-- What the sums of a stored number and of a cell come to: they fit their types, and each is the number that its contract names.
+use mathlib.Core.Path.{_≡_}
 use mathlib.Core.List.{List}
 use Prim.Native.Nat.{ℕ, _+_, _*_, _%_, _-_, _^_, _≤_, _<_}
 use native.Mathlib.Nat.{mul-le-mul}
@@ -9,7 +9,7 @@ use Rattle.code.specs.Definitions.Sheets.{limits}
 use Rattle.places.specs.Cells.{cellOf}
 use Rattle.places.specs.Flat.{Laid, placeCount, cellCount, cell}
 use Rattle.places.specs.Nodes.{cell-inside, cells-most}
-use Rattle.storage.specs.Fields.{placeBits, placeRoom}
+use Rattle.storage.specs.Fields.{placeBits, placeRoom, markBits, markIn}
 
 module _ {f : List ℕ} (laid : Laid f) (low : ℕ) {high n : ℕ} (l : low < placeCount f) (h : high < placeCount f) (e : n ≡ placeCount f) where
   product : low * placeCount f ≤ limits .total * limits .total
@@ -31,10 +31,14 @@ module _ {f : List ℕ} (laid : Laid f) {n : ℕ} (e : n ≡ placeCount f) where
   unfolding cellCount
   square-fits = let m = cells-most laid in rw e (omega arith)
 
-  pub is-count : (n * n ≡ cellCount f) × (n * n ≤ limits .total * limits .total)
+  pub is-count : n * n ≡ cellCount f
   unfolding cellCount
-  is-count = rw e (refl, cells-most laid)
+  is-count = rw e
 
--- A mask keeps the bits of one place.
+-- A mask keeps the bits of one place, another those of a mark.
 pub masked : (k : ℕ) → bitAnd k (2 ^ placeBits - 1) ≡ k % placeRoom
 masked k = and-mask k placeBits
+
+pub mark-masked : (e : ℕ) → bitAnd e (2 ^ markBits - 1) ≡ markIn e
+unfolding markIn
+mark-masked e = and-mask e markBits

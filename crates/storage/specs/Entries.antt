@@ -1,21 +1,22 @@
--- What a search over pairs sees of its queue or its stack: for each link an entry, the cell of the two places that it carries and the number above them. So the
--- places carried are those of the cell whose mark is read or set.
+-- What a search over pairs sees of its queue or its stack: for each link an entry, the cell of the two places that it carries and the number above them, whatever
+-- the mark beside it. So the places carried are those of the cell whose mark is read or set.
 use mathlib.Core.Path.{_≡_, refl, sym, ap, _∙_}
 use mathlib.Core.Bool.{Bool, true, false}
-use mathlib.Core.List.{List, [], _∷_}
+use mathlib.Core.List.{List, [], _∷_, map}
 use Prim.Native.Nat.{ℕ, zero, suc, _+_, _*_, _%_, _-_, _≤_, _<_}
 use native.Mathlib.Decide.{decLe}
 use native.Mathlib.Nat.{mul-le-mul}
 use native.Mathlib.Omega.{arith}
 use lib.Dec.{ltb}
-use lib.ListN.{length, getD, set}
+use lib.ListN.{length, getD, set, List·getD-map}
+use lib.Seq.{set-getD}
 use borrow.Author.Tests.{lt-ltb, ltb-true}
 use Rattle.code.specs.Definitions.Lists.{if_then_else_}
 use Rattle.places.specs.declared.Pair.{Pair}
 use Rattle.places.specs.Cells.{cellOf}
 use Rattle.places.specs.Flat.{Laid, placeCount, cellCount, cell}
 use Rattle.places.specs.Steps.{pairCell}
-use Rattle.storage.specs.Fields.{placeRoom, pairRoom, linkOf, lowIn, highIn, aboveIn, above-link, low-link, high-link, low-fits, Carries}
+use Rattle.storage.specs.Fields.{placeRoom, pairRoom, markRoom, linkOf, lowIn, highIn, aboveIn, above-link, low-link, high-link, low-fits, bothOf, linkIn, link-both, Carries}
 
 -- An entry: a cell, and the number above it.
 abbrev pub entryOf : ℕ → ℕ → ℕ
@@ -39,7 +40,15 @@ nodeAt l i = nodeIn (getD l i 0)
 abbrev pub aboveAt : List ℕ → ℕ → ℕ
 aboveAt l i = aboveIn (getD l i 0)
 
--- The entries of a list of links, where there are s places.
+-- The links of a list of stored numbers.
+unfoldable pub links : List ℕ → List ℕ
+links w = map linkIn w
+
+pub link-at : (w : List ℕ) (i : ℕ) → getD (links w) i 0 ≡ linkIn (getD w i 0)
+unfolding links linkIn
+link-at w i = List·getD-map linkIn w i 0
+
+-- The entries of such a list, where there are s places.
 module _ (s : ℕ) where
   -- the cell of two places; one past the source if the higher is none
   unfoldable pub nodeOf : ℕ → ℕ → ℕ
@@ -52,18 +61,18 @@ module _ (s : ℕ) where
   unfoldable pub entriesOf : List ℕ → List ℕ
   unfolding entryIn
   entriesOf [] = []
-  entriesOf (k ∷ l) = entryIn k ∷ entriesOf l
+  entriesOf (e ∷ l) = entryIn (linkIn e) ∷ entriesOf l
 
   length-entries : (l : List ℕ) → length (entriesOf l) ≡ length l
   unfolding entriesOf
   length-entries [] = refl
-  length-entries (k ∷ l) = ap suc (length-entries l)
+  length-entries (e ∷ l) = ap suc (length-entries l)
 
-  entries-set : (l : List ℕ) (i k : ℕ) → entriesOf (set l i k) ≡ set (entriesOf l) i (entryIn k)
+  entries-set : (l : List ℕ) (i e : ℕ) → entriesOf (set l i e) ≡ set (entriesOf l) i (entryIn (linkIn e))
   unfolding entriesOf
-  entries-set [] i k = refl
-  entries-set (x ∷ l) zero k = refl
-  entries-set (x ∷ l) (suc i) k = ap (λ (m : List ℕ). entryIn x ∷ m) (entries-set l i k)
+  entries-set [] i e = refl
+  entries-set (x ∷ l) zero e = refl
+  entries-set (x ∷ l) (suc i) e = ap (λ (m : List ℕ). entryIn (linkIn x) ∷ m) (entries-set l i e)
 
   node-cell : (low high : ℕ) → high < s → nodeOf low high ≡ cellOf s low high
   unfolding nodeOf
@@ -118,11 +127,11 @@ module _ (s : ℕ) where
         rw (above-link above low high a b, low-link above low high a b, high-link above low high a b, node-cell low high h)
 
     module _ (some : 0 < s) where
-      no-entry : 0 ≡ entryIn 0
-      unfolding entryIn aboveIn lowIn highIn cellOf
+      no-entry : 0 ≡ entryIn (linkIn 0)
+      unfolding entryIn aboveIn linkIn lowIn highIn cellOf
       no-entry = let z : cellOf s 0 0 ≡ 0 = omega arith in rw (node-cell 0 0 some, z)
 
-      entry-at : (l : List ℕ) (i : ℕ) → getD (entriesOf l) i 0 ≡ entryIn (getD l i 0)
+      entry-at : (l : List ℕ) (i : ℕ) → getD (entriesOf l) i 0 ≡ entryIn (linkIn (getD l i 0))
       unfolding entriesOf
       entry-at [] i = no-entry
       entry-at (x ∷ l) zero = refl
@@ -134,7 +143,7 @@ pub record PairOf (f : List ℕ) (v : ℕ) (r : Pair) : Type 0 where
   pub most : r .low ≤ placeCount f
   pub inside : r .high < placeCount f
 
--- The entries of the links q, by the number of places of the flat list f.
+-- The entries of the list q, by the number of places of the flat list f.
 abbrev pub held : List ℕ → List ℕ → List ℕ
 held f q = entriesOf (placeCount f) q
 
@@ -147,19 +156,30 @@ module _ (f q : List ℕ) where
     pub places-fit : placeCount f < placeRoom
     places-fit = omega (arith, laid .places)
 
-    -- A link that is stored is seen as the cell of its two places, and the number above.
-    pub held-set : (i above low high : ℕ) → low ≤ placeCount f → high < placeCount f → held f (set q i (linkOf above low high)) ≡ set (held f q) i (entryOf above (cell f low high))
-    held-set i above low high l h = entries-set (placeCount f) q i (linkOf above low high) ∙ ap (set (held f q) i) (entry-link (placeCount f) places-fit above low high l h)
+    -- A link that is stored, beside any mark, is seen as the cell of its two places, and the number above.
+    pub held-set : (i m above low high : ℕ) → m < markRoom → low ≤ placeCount f → high < placeCount f
+        → held f (set q i (bothOf m (linkOf above low high))) ≡ set (held f q) i (entryOf above (cell f low high))
+    held-set i m above low high b l h =
+        entries-set (placeCount f) q i (bothOf m (linkOf above low high))
+        ∙ ap (set (held f q) i) (ap (entryIn (placeCount f)) (link-both m (linkOf above low high) b) ∙ entry-link (placeCount f) places-fit above low high l h)
 
-    pub above-held : (i : ℕ) → aboveAt (held f q) i ≡ aboveIn (getD q i 0)
-    above-held i = ap aboveIn (entry-at (placeCount f) places-fit (laid .some) q i) ∙ above-in-entry (placeCount f) places-fit (getD q i 0)
+    -- What is stored beside a link is not seen.
+    pub held-same : (i e : ℕ) → linkIn e ≡ linkIn (getD q i 0) → held f (set q i e) ≡ held f q
+    held-same i e same =
+        entries-set (placeCount f) q i e
+        ∙ ap (set (held f q) i) (ap (entryIn (placeCount f)) same ∙ sym (entry-at (placeCount f) places-fit (laid .some) q i))
+        ∙ set-getD (held f q) i 0
+
+    pub above-held : (i : ℕ) → aboveAt (held f q) i ≡ aboveAt (links q) i
+    above-held i =
+        ap aboveIn (entry-at (placeCount f) places-fit (laid .some) q i) ∙ above-in-entry (placeCount f) places-fit (linkIn (getD q i 0)) ∙ ap aboveIn (sym (link-at q i))
 
     -- 02, request 6: "the two places carried are at every step those whose mark is read or set". Where a search has a cell, or the source, in entry i, the link
     -- there carries that cell's two places.
     pub carried : (i : ℕ) {r : Pair} → nodeAt (held f q) i ≤ cellCount f → Carries (getD q i 0) r → PairOf f (nodeAt (held f q) i) r
     unfolding cellCount
     carried i {r} h c =
-        let k = getD q i 0 in
+        let k = linkIn (getD q i 0) in
         let e : nodeAt (held f q) i ≡ nodeOf (placeCount f) (lowIn k) (highIn k) = ap nodeIn (entry-at (placeCount f) places-fit (laid .some) q i) ∙ node-in-entry (placeCount f) places-fit k in
         let p = standing (placeCount f) (lowIn k) (highIn k) (rw e at h) in
         record { node = rw (c .first, c .second, e) (p .node); most = rw (c .first) (p .most); inside = rw (c .second) (p .inside) }

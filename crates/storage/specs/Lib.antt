@@ -1,5 +1,8 @@
 pub mod Fields
 pub mod Entries
+pub mod Marks
 pub mod Stores
+pub mod Rooms
+pub mod Laying
 pub mod Bounds
 pub mod Cleared

@@ -1,16 +1,11 @@
--- `decipherable` meets its contract: the search is lent a clear mark for each cell (`given`), the walk is as long as `delay_of` asks (`extent-low`), and each answer
--- of the search gives its verdict.
+-- `decipherable` meets its contract: the walk is as long as `delay_of` asks (`extent-low`), and each answer of the search gives its verdict.
 use borrow.Author.Needs.{needs}
-use Rattle.decipherable.specs.Delays.{given, extent-low, measured-finite, measured-unbounded}
-use Rattle.storage.specs.Cleared.{part-length}
+use Rattle.decipherable.specs.Delays.{given-laid, extent-low, measured-finite, measured-unbounded}
 use Rattle.decipherable.proofs.decipherable.Statement.{statement}
 use Rattle.decipherable.proofs.decipherable.Tie as tie
 
-slice-aggregate-longest : tie.Need-slice-aggregate-longest
-slice-aggregate-longest c = search part-length
-
-longest-requires : tie.Need-longest-requires
-longest-requires c κs = search given
+some-rivals-requires : tie.Need-some-rivals-requires
+some-rivals-requires c κs = search given-laid
 
 delay-of-requires : tie.Need-delay-of-requires
 delay-of-requires c κs = search extent-low
@@ -25,5 +20,5 @@ pub decipherable-spec : {M : Type 1} → statement M
 decipherable-spec =
     tie.close
     (tie.spec
-    (λ c κs. search needs) (λ c. search needs) slice-aggregate-longest longest-requires (λ c κs. search needs) (λ c. search needs)
-    (λ c κs. search needs) delay-of-requires (λ c. search needs) (λ c. search needs) returns (λ c. search needs) returns-2)
+    (λ c κs. search needs) (λ c κs. search needs) (λ c. search needs)
+    some-rivals-requires delay-of-requires (λ c. search needs) (λ c. search needs) returns (λ c. search needs) returns-2)

@@ -6,23 +6,23 @@ use Prim.Native.Nat.{_+_, _≤_, _-_}
 use lib.ListN.{length}
 use Rattle.places.specs.Flat.{pairCount}
 use Rattle.storage.specs.Entries.{held}
+use Rattle.storage.specs.Marks.{marks}
 use Rattle.groups.specs.Contracts.{Stands}
 use Rattle.groups.specs.Parts.{was-tail, goal-again, expanding, symbol-end}
 use Rattle.groups.proofs.expand_symbol.Statement.{statement}
 use Rattle.groups.proofs.expand_symbol.Tie as tie
 
 abbrev Inv-loop : tie.InvT-loop
-Inv-loop places marks₀ queue₀ group symbol tail member₀ tail₀ marks queue member tail'
+Inv-loop places work₀ group symbol tail member₀ tail₀ work member tail'
     =
-    Stands places marks (held places queue) tail' (group .start) (group .end) symbol member 0 × (pairCount places + 2 ≤ length queue)
-    × (length marks ≡ length marks₀)
-    × (length queue ≡ length queue₀)
+    Stands places (marks places work) (held places work) tail' (group .start) (group .end) symbol member 0 × (pairCount places + 2 ≤ length work)
+    × (length work ≡ length work₀)
 
 abbrev μ-loop : tie.MeasureT-loop
-μ-loop places marks₀ queue₀ group symbol tail member₀ tail₀ marks queue member tail' = group .end - member
+μ-loop places work₀ group symbol tail member₀ tail₀ work member tail' = group .end - member
 
 loop-holds : tie.Need-loop-holds Inv-loop μ-loop
-loop-holds c = (search needs, search needs, search needs, search needs)
+loop-holds c = (search needs, search needs, search needs)
 
 expand-member-requires : tie.Need-expand-member-requires Inv-loop μ-loop
 expand-member-requires c κs = search expanding
@@ -31,7 +31,7 @@ returns : tie.Need-returns Inv-loop μ-loop
 returns c = search goal-again
 
 loop-again : tie.Need-loop-again Inv-loop μ-loop
-loop-again c = (search was-tail, search needs, (cc), (cc))
+loop-again c = (search was-tail, search needs, (cc))
 
 returns-2 : tie.Need-returns-2 Inv-loop μ-loop
 returns-2 c = search symbol-end
@@ -46,12 +46,10 @@ expand-symbol-spec =
     expand-member-requires
     (λ c. search needs)
     (λ c. cc)
-    (λ c. cc)
     returns
     (λ c. search needs)
     (λ c. search needs)
     (λ c. search needs)
     loop-again
-    (λ c. cc)
     (λ c. cc)
     returns-2)

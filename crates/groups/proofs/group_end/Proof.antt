@@ -9,10 +9,10 @@ use Rattle.groups.proofs.group_end.Statement.{statement}
 use Rattle.groups.proofs.group_end.Tie as tie
 
 abbrev Inv-loop : tie.InvT-loop
-Inv-loop places queue start tail first end₀ end = Run (openGraph places) (held places queue) tail start end
+Inv-loop places work start tail first end₀ end = Run (openGraph places) (held places work) tail start end
 
 abbrev μ-loop : tie.MeasureT-loop
-μ-loop places queue start tail first end₀ end = tail - end
+μ-loop places work start tail first end₀ end = tail - end
 
 key-requires : tie.Need-key-requires Inv-loop μ-loop
 key-requires c κs = (search needs, search needs, search known-node)

@@ -9,10 +9,10 @@ use Rattle.groups.proofs.next_symbol.Statement.{statement}
 use Rattle.groups.proofs.next_symbol.Tie as tie
 
 abbrev Inv-loop : tie.InvT-loop
-Inv-loop places queue group symbol least₀ member₀ least member = NoneLed places (held places queue) (group .start) member symbol least × (least ≤ 16)
+Inv-loop places work group symbol least₀ member₀ least member = NoneLed places (held places work) (group .start) member symbol least × (least ≤ 16)
 
 abbrev μ-loop : tie.MeasureT-loop
-μ-loop places queue group symbol least₀ member₀ least member = group .end - member
+μ-loop places work group symbol least₀ member₀ least member = group .end - member
 
 loop-holds : tie.Need-loop-holds Inv-loop μ-loop
 loop-holds c = (search none-led-begin, search needs)

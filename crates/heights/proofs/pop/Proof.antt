@@ -23,5 +23,5 @@ pub pop-spec : {M : Type 1} → statement M
 pop-spec =
     tie.close
     (tie.spec
-    (λ c. search needs) above-at-requires (λ c. search needs) set-mark-requires (λ c. search needs) (λ c. search needs) returns
-    (λ c. search needs) pass-requires (λ c. search needs) (λ c. search needs) returns-2)
+    (λ c. search needs) above-at-requires (λ c. search needs) set-mark-requires (λ c. search needs) returns
+    (λ c. search needs) pass-requires (λ c. search needs) returns-2)

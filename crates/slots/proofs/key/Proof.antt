@@ -15,7 +15,7 @@ returns : tie.Need-returns
 returns c =
     let s = c .before .before .before .before .before in
     let p = c .before .before .pair-at .ensures in
-    let k = is-key (s .args .queue .now) (s .pre .0) (s .args .i) (s .pre .2) p (c .before .above-at .ensures .0) (c .symbol .ensures) in
+    let k = is-key (s .args .work .now) (s .pre .0) (s .args .i) (s .pre .2) p (c .before .above-at .ensures .0) (c .symbol .ensures) in
     omega arith
 
 pub key-spec : {M : Type 1} → statement M

@@ -1,19 +1,17 @@
--- The mark stands in the pair's cell, and has 16 bits.
-use Prim.Native.Nat.{ℕ}
-use mathlib.Core.Path.{ap}
+-- The mark stands in the pair's cell.
 use borrow.Author.Needs.{needs}
-use lib.ListN.{getD}
-use native.Mathlib.Omega.{arith}
+use Rattle.storage.specs.Stores.{cell-within, mark-read}
 use Rattle.storage.proofs.mark.Statement.{statement}
 use Rattle.storage.proofs.mark.Tie as tie
 
-cast-result : tie.Need-cast-result
-cast-result c = omega (arith, c .shared-slice-known3 .given (c .before .cell .result))
+mul-mark-in : tie.Need-mul-mark-in
+mul-mark-in c = search (needs, cell-within)
+
+shared-slice-read-mark-in : tie.Need-shared-slice-read-mark-in
+shared-slice-read-mark-in c = search (needs, cell-within)
 
 returns : tie.Need-returns
-returns c =
-    let a = c .before .before .before .before .args in
-    (ap (λ (v : ℕ). getD (a .marks .now) v 0) (c .before .cell .ensures .0), omega (arith, c .shared-slice-known3 .given (c .before .cell .result)))
+returns c = (search mark-read, c .mark-in .ensures .1)
 
 pub mark-spec : {M : Type 1} → statement M
-mark-spec = tie.close (tie.spec (λ c κs. search needs) (λ c. search needs) (λ c. search needs) cast-result returns)
+mark-spec = tie.close (tie.spec (λ c κs. search needs) mul-mark-in shared-slice-read-mark-in (λ c κs. search needs) returns)

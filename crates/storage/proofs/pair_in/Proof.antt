@@ -7,7 +7,7 @@ use Rattle.storage.proofs.pair_in.Tie as tie
 
 returns : tie.Need-returns
 unfolding lowIn highIn
-returns c = record { first = masked _; second = masked _ }
+returns c = rw (c .link-in .ensures .0) record { first = masked _; second = masked _ }
 
 pub pair-in-spec : {M : Type 1} → statement M
-pair-in-spec = tie.close (tie.spec (λ c. search needs) returns)
+pair-in-spec = tie.close (tie.spec (λ c κs. search needs) (λ c. search needs) returns)

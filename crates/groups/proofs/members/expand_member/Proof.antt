@@ -22,8 +22,6 @@ expand-member-spec =
     expand-words-requires
     (λ c. search needs)
     (λ c. search needs)
-    (λ c. search needs)
     expand-slots-requires
-    (λ c. search needs)
     (λ c. search needs)
     (λ c. search needs))

@@ -6,6 +6,7 @@ use Prim.Native.Nat.{_-_}
 use lib.ListN.{length}
 use Rattle.places.specs.Flat.{cell}
 use Rattle.storage.specs.Entries.{nodeAt, held}
+use Rattle.storage.specs.Marks.{marks}
 use Rattle.groups.specs.Contracts.{Expanding}
 use Rattle.groups.specs.Parts.{space}
 use Rattle.groups.specs.Steps.{same-number}
@@ -14,18 +15,17 @@ use Rattle.groups.proofs.members.expand_slots.Statement.{statement}
 use Rattle.groups.proofs.members.expand_slots.Tie as tie
 
 abbrev Inv-loop : tie.InvT-loop
-Inv-loop places marks₀ queue₀ group symbol member pair tail end slot₀ tail₀ marks queue slot tail'
+Inv-loop places work₀ group symbol member pair tail end slot₀ tail₀ work slot tail'
     =
-    Expanding places marks queue tail' (group .start) (group .end) symbol member slot
-    × (nodeAt (held places queue) member ≡ cell places (pair .low) (pair .high))
-    × (length marks ≡ length marks₀)
-    × (length queue ≡ length queue₀)
+    Expanding places (marks places work) work tail' (group .start) (group .end) symbol member slot
+    × (nodeAt (held places work) member ≡ cell places (pair .low) (pair .high))
+    × (length work ≡ length work₀)
 
 abbrev μ-loop : tie.MeasureT-loop
-μ-loop places marks₀ queue₀ group symbol member pair tail end slot₀ tail₀ marks queue slot tail' = end - slot
+μ-loop places work₀ group symbol member pair tail end slot₀ tail₀ work slot tail' = end - slot
 
 loop-holds : tie.Need-loop-holds Inv-loop μ-loop
-loop-holds c = (search needs, search needs, search needs, search needs)
+loop-holds c = (search needs, search needs, search needs)
 
 meet-requires : tie.Need-meet-requires Inv-loop μ-loop
 meet-requires c κs = (search needs, search space, search needs, search needs)
@@ -35,9 +35,9 @@ returns c = search slot-goal
 
 loop-again : tie.Need-loop-again Inv-loop μ-loop
 loop-again c =
-    let loop = c .before .before .before .before .before .before .before .before .before .before .before .before in
-    let given = loop .before .before .before .before .before .pre in
-    (search (slot-next, loop .loop .inv .0, loop .loop .inv .1, given .2), search same-number, cc, cc)
+    let loop = c .before .before .before .before .before .before .before .before .before in
+    let given = loop .before .before .before .before .pre in
+    (search (slot-next, loop .loop .inv .0, loop .loop .inv .1, given .2), search same-number, cc)
 
 returns-2 : tie.Need-returns-2 Inv-loop μ-loop
 returns-2 c = search slots-ended
@@ -54,12 +54,10 @@ expand-slots-spec =
     meet-requires
     (λ c. search needs)
     (λ c. cc)
-    (λ c. cc)
     returns
     (λ c. search needs)
     (λ c. search needs)
     (λ c. search needs)
     loop-again
-    (λ c. cc)
     (λ c. cc)
     returns-2)

@@ -4,7 +4,9 @@ use borrow.Author.Needs.{needs}
 use mathlib.Core.Path.{_≡_}
 use Prim.Native.Nat.{_+_, _*_, _-_, _≤_}
 use lib.ListN.{length}
+use Rattle.code.specs.Definitions.Sheets.{limits}
 use Rattle.storage.specs.Entries.{nodeAt, held}
+use Rattle.storage.specs.Marks.{marks}
 use Rattle.slots.specs.Contracts.{Turned}
 use Rattle.slots.specs.Words.{leastBehind}
 use Rattle.groups.specs.Contracts.{Expanding}
@@ -15,23 +17,22 @@ use Rattle.groups.proofs.members.expand_word.Statement.{statement}
 use Rattle.groups.proofs.members.expand_word.Tie as tie
 
 abbrev Inv-loop : tie.InvT-loop
-Inv-loop places marks₀ queue₀ group symbol member y x tail n z₀ tail₀ marks queue z tail'
+Inv-loop places work₀ group symbol member y x tail n z₀ tail₀ work z tail'
     =
-    Expanding places marks queue tail' (group .start) (group .end) symbol member (x * 32 + z)
-    × Turned places (nodeAt (held places queue) member) y
+    Expanding places (marks places work) work tail' (group .start) (group .end) symbol member (x * limits .words + z)
+    × Turned places (nodeAt (held places work) member) y
     × (leastBehind places x ≤ z)
-    × (z ≤ 32)
-    × (length marks ≡ length marks₀)
-    × (length queue ≡ length queue₀)
+    × (z ≤ limits .words)
+    × (length work ≡ length work₀)
 
 abbrev μ-loop : tie.MeasureT-loop
-μ-loop places marks₀ queue₀ group symbol member y x tail n z₀ tail₀ marks queue z tail' = n - z
+μ-loop places work₀ group symbol member y x tail n z₀ tail₀ work z tail' = n - z
 
 returns : tie.Need-returns Inv-loop μ-loop
 returns c = (search word-over, search needs)
 
 loop-holds : tie.Need-loop-holds Inv-loop μ-loop
-loop-holds c = (search word-begun, search needs, search needs, search needs, search needs, search needs)
+loop-holds c = (search word-begun, search needs, search needs, search needs, search needs)
 
 meet-words-requires : tie.Need-meet-words-requires Inv-loop μ-loop
 meet-words-requires c κs = (search needs, search space, search needs, search leads-comes, search words-ordered, search needs)
@@ -40,7 +41,7 @@ returns-2 : tie.Need-returns-2 Inv-loop μ-loop
 returns-2 c = (search word-goal, search still-turned)
 
 loop-again : tie.Need-loop-again Inv-loop μ-loop
-loop-again c = (search word-next, search still-turned, search needs, search needs, cc, cc)
+loop-again c = (search word-next, search still-turned, search needs, search needs, cc)
 
 returns-3 : tie.Need-returns-3 Inv-loop μ-loop
 returns-3 c = (search word-ended, search needs)
@@ -59,12 +60,10 @@ expand-word-spec =
     meet-words-requires
     (λ c. search needs)
     (λ c. cc)
-    (λ c. cc)
     returns-2
     (λ c. search needs)
     (λ c. search needs)
     (λ c. search needs)
     loop-again
-    (λ c. cc)
     (λ c. cc)
     returns-3)

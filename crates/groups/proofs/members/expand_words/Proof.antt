@@ -4,7 +4,9 @@ use borrow.Author.Needs.{needs}
 use mathlib.Core.Path.{_≡_}
 use Prim.Native.Nat.{_*_, _-_}
 use lib.ListN.{length}
+use Rattle.code.specs.Definitions.Sheets.{limits}
 use Rattle.storage.specs.Entries.{nodeAt, held}
+use Rattle.storage.specs.Marks.{marks}
 use Rattle.slots.specs.Contracts.{Turned}
 use Rattle.groups.specs.Contracts.{Expanding}
 use Rattle.groups.specs.Parts.{goal-again, expanding-next}
@@ -13,18 +15,17 @@ use Rattle.groups.proofs.members.expand_words.Statement.{statement}
 use Rattle.groups.proofs.members.expand_words.Tie as tie
 
 abbrev Inv-loop : tie.InvT-loop
-Inv-loop places marks₀ queue₀ group symbol member y tail n x₀ tail₀ marks queue x tail'
+Inv-loop places work₀ group symbol member y tail n x₀ tail₀ work x tail'
     =
-    Expanding places marks queue tail' (group .start) (group .end) symbol member (x * 32)
-    × Turned places (nodeAt (held places queue) member) y
-    × (length marks ≡ length marks₀)
-    × (length queue ≡ length queue₀)
+    Expanding places (marks places work) work tail' (group .start) (group .end) symbol member (x * limits .words)
+    × Turned places (nodeAt (held places work) member) y
+    × (length work ≡ length work₀)
 
 abbrev μ-loop : tie.MeasureT-loop
-μ-loop places marks₀ queue₀ group symbol member y tail n x₀ tail₀ marks queue x tail' = n - x
+μ-loop places work₀ group symbol member y tail n x₀ tail₀ work x tail' = n - x
 
 loop-holds : tie.Need-loop-holds Inv-loop μ-loop
-loop-holds c = (search needs, search needs, search needs, search needs)
+loop-holds c = (search needs, search needs, search needs)
 
 expand-word-requires : tie.Need-expand-word-requires Inv-loop μ-loop
 expand-word-requires c κs = (search needs, search needs, search needs)
@@ -33,7 +34,7 @@ returns : tie.Need-returns Inv-loop μ-loop
 returns c = search goal-again
 
 loop-again : tie.Need-loop-again Inv-loop μ-loop
-loop-again c = (search expanding-next, search needs, cc, cc)
+loop-again c = (search expanding-next, search needs, cc)
 
 returns-2 : tie.Need-returns-2 Inv-loop μ-loop
 returns-2 c = search words-ended
@@ -49,12 +50,10 @@ expand-words-spec =
     expand-word-requires
     (λ c. search needs)
     (λ c. cc)
-    (λ c. cc)
     returns
     (λ c. search needs)
     (λ c. search needs)
     (λ c. search needs)
     loop-again
-    (λ c. cc)
     (λ c. cc)
     returns-2)

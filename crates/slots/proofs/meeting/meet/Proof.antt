@@ -37,5 +37,4 @@ meet-spec =
     (λ c. search needs)
     returns-2
     (λ c. search needs)
-    (λ c. search needs)
     returns-3)

@@ -21,6 +21,5 @@ meet-words-spec =
     first-pair-requires
     (λ c κs. search needs)
     (λ c. search needs)
-    (λ c. search needs)
     returns
     returns-2)
