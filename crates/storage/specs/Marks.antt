@@ -5,7 +5,7 @@ use Prim.Native.Nat.{ℕ, zero, suc, _≤_, _<_}
 use native.Mathlib.Decide.{decLt}
 use native.Mathlib.Omega.{arith}
 use lib.ListN.{length, getD, set, take, replicate, length-map, length-take, List·getD-map}
-use lib.Seq.{length-take-le, take-set-lt, take-set-le, getD-take, map-set-same}
+use lib.Seq.{take-set-lt, take-set-le, getD-take, map-set-same}
 use Rattle.places.specs.Flat.{cellCount}
 use Rattle.storage.specs.Fields.{markIn}
 
@@ -23,10 +23,6 @@ map-zeros g z zero = refl
 map-zeros g z (suc n) = rw (z, map-zeros g z n)
 
 module _ (f w : List ℕ) where
-  pub length-marks : cellCount f ≤ length w → length (marks f w) ≡ cellCount f
-  unfolding marks
-  length-marks h = length-map (take (cellCount f) w) markIn ∙ length-take-le (cellCount f) w h
-
   -- There is a mark for each cell only in a list that is long enough.
   pub marks-within : length (marks f w) ≡ cellCount f → cellCount f ≤ length w
   unfolding marks

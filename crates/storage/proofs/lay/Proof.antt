@@ -1,10 +1,10 @@
 -- The loop's invariant: the first `i` marks are laid. The measure is what is left.
 use Prim.Native.Nat.{_-_, _≤_}
-use mathlib.Core.Path.{_≡_, refl, _∙_}
+use mathlib.Core.Path.{_≡_, _∙_}
 use borrow.Author.Needs.{needs}
 use lib.ListN.{length, length-set}
 use native.Mathlib.Omega.{arith}
-use Rattle.storage.specs.Laying.{laid, laid-more, laid-all}
+use Rattle.storage.specs.Laying.{laid, laid-none, laid-more, laid-all}
 use Rattle.storage.proofs.lay.Statement.{statement}
 use Rattle.storage.proofs.lay.Tie as tie
 
@@ -15,13 +15,13 @@ abbrev μ-loop : tie.MeasureT-loop
 μ-loop marks work₀ i₀ work i = length marks - i
 
 loop-holds : tie.Need-loop-holds Inv-loop μ-loop
-loop-holds c = (search needs, search needs, refl)
+loop-holds c = (search needs, search needs, laid-none (c .args .marks .now) (c .args .work .now))
 
 loop-again : tie.Need-loop-again Inv-loop μ-loop
 loop-again c =
     let a = c .before .before .before .args in
     let l = c .before .before .loop in
-    (omega arith, simp length-set (l .inv .1), rw (l .inv .2) (laid-more (a .marks .now) (a .work .now) (l .i) (omega arith) (omega arith)))
+    (omega arith, simp length-set (l .inv .1), rw (l .inv .2) (laid-more (a .marks .now) (a .work .now) (l .i) (omega arith)))
 
 same-length : tie.Need-same-length Inv-loop μ-loop
 same-length c = c .before .loop .inv .1
