@@ -9,7 +9,7 @@ use native.Mathlib.Omega.{arith}
 use lib.Dec.{eqb}
 use lib.Bits.{bitAnd, bitOr, and-shr, or-shr, and-mod, or-mod}
 use lib.Pow.{pow-lt, pow-pos, pow-add, shr-shr, ones-split, high}
-use Rattle.table.specs.Exactly.{Exactly, exactly-true, exactly-false, exactly-iff}
+use Rattle.well_formed.specs.Exactly.{Exactly, exactly-true, exactly-false, exactly-iff}
 
 -- Bit k of a number: its binary digit at place k is 1.
 unfoldable pub bitOf : ℕ → ℕ → Bool

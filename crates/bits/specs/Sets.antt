@@ -9,7 +9,7 @@ use lib.Bits.{bitAnd, bitOr, or-lt}
 use lib.ListN.{length, getD, set}
 use lib.Pow.{pow-lt}
 use Rattle.graph.specs.Cells.{on-set}
-use Rattle.table.specs.Exactly.{Exactly, exactly-iff, exactly-and, exactly-or, exactly-itself}
+use Rattle.well_formed.specs.Exactly.{Exactly, exactly-iff, exactly-and, exactly-or, exactly-itself}
 use Rattle.bits.specs.Bits.{bitOf, bit-and, bit-or, bit-power}
 
 pub exactly-meet : (a b k : ℕ) {P Q : Type 0} → Exactly (bitOf a k) P → Exactly (bitOf b k) Q → Exactly (bitOf (bitAnd a b) k) (P × Q)

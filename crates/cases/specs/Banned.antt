@@ -10,11 +10,11 @@ use Rattle.code.specs.Definitions.Lists.{any, every}
 use Rattle.code.specs.Definitions.Tables.{Table, size}
 use Rattle.code.specs.Definitions.Bans.{Ban, bannedBy, withBans, copiesFrom, copiesOf, origin, nextWord, mayCome, enlarged}
 use Rattle.code.specs.Definitions.Readings.{OnlyReading, Ambiguous}
-use Rattle.copies.specs.BanLists.{Known, no-ban, ban, copies-serve}
-use Rattle.copies.specs.Copies.{enlarged-covers}
-use Rattle.copies.specs.Covers.{Cover, lift}
-use Rattle.copies.specs.Matches.{named-only, decipherable-named, named-delay, named-unbounded, named-ambiguous}
-use Rattle.theory.specs.Bounded.{everyBelow, every-below}
+use Rattle.ban_theory.specs.BanLists.{Known, no-ban, ban, copies-serve}
+use Rattle.ban_theory.specs.Copies.{enlarged-covers}
+use Rattle.ban_theory.specs.Covers.{Cover, lift}
+use Rattle.ban_theory.specs.Matches.{named-only, decipherable-named, named-delay, named-unbounded, named-ambiguous}
+use Rattle.pair_theory.specs.Bounded.{everyBelow, every-below}
 use Rattle.cases.specs.Comparing.{equal, equal-true}
 use Rattle.cases.specs.Cases.{Case, Expected, delay, withoutBound, ambiguous, onlyReading, caseTable, Means, isNonEmpty, isMeant, non-empty, meant}
 

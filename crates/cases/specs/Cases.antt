@@ -10,7 +10,7 @@ use Rattle.code.specs.Definitions.Tables.{Table, size, word}
 use Rattle.code.specs.Definitions.Readings.{OnlyReading, Ambiguous, Decipherable}
 use Rattle.code.specs.Definitions.Delays.{Delay, WithoutBound}
 use Rattle.code.specs.Laws.Sequences.{NonEmpty, Free, Plain}
-use Rattle.theory.specs.Bounded.{everyBelow, every-below}
+use Rattle.pair_theory.specs.Bounded.{everyBelow, every-below}
 use Rattle.cases.specs.Delays.{delayIs, isWithoutBound, delay-means, without-bound-means}
 use Rattle.cases.specs.Messages.{leastIs, ambiguous-means}
 use Rattle.cases.specs.Enumeration.{readings}

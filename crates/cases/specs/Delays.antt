@@ -13,12 +13,12 @@ use Rattle.code.specs.Definitions.Tables.{Table, size}
 use Rattle.code.specs.Definitions.Readings.{Decipherable}
 use Rattle.code.specs.Definitions.Delays.{Delay, WithoutBound}
 use Rattle.code.specs.Laws.Delays.{no-rivals-delay}
-use Rattle.theory.specs.Places.{Place, Plain, BothEnd, Parting, Compatible, PairAfter, LongestPath}
-use Rattle.theory.specs.Partings.{PartingEnds, parting-decipherable}
-use Rattle.theory.specs.Sharing.{SomeParting, delay, without-bound}
-use Rattle.theory.specs.Walks.{walk-cut, pair-iff}
-use Rattle.theory.specs.Finite.{pairCount}
-use Rattle.theory.specs.Lengths.{short-parting-ends, endless}
+use Rattle.pair_theory.specs.Places.{Place, Plain, BothEnd, Parting, Compatible, PairAfter, LongestPath}
+use Rattle.pair_theory.specs.Partings.{PartingEnds, parting-decipherable}
+use Rattle.pair_theory.specs.Sharing.{SomeParting, delay, without-bound}
+use Rattle.pair_theory.specs.Walks.{walk-cut, pair-iff}
+use Rattle.pair_theory.specs.Finite.{pairCount}
+use Rattle.pair_theory.specs.Lengths.{short-parting-ends, endless}
 use Rattle.cases.specs.Members.{empty, empty-none, some-member}
 use Rattle.cases.specs.Starts.{wordPair, partings, partings-listed}
 use Rattle.cases.specs.Layers.{LabelledPair, layer, layer-in, layer-out, everyPair, pair-passes}

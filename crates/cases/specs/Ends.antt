@@ -6,9 +6,9 @@ use Prim.Native.Nat.{ℕ}
 use lib.Dec.{eqb}
 use borrow.Author.Tests.{eq-eqb, ne-eqb}
 use Rattle.code.specs.Definitions.Tables.{Table}
-use Rattle.theory.specs.Places.{Place, BothEnd, ApartEnds}
-use Rattle.theory.specs.Ends.{ends-same}
-use Rattle.theory.specs.Bounded.{isEnd}
+use Rattle.pair_theory.specs.Places.{Place, BothEnd, ApartEnds}
+use Rattle.pair_theory.specs.Ends.{ends-same}
+use Rattle.pair_theory.specs.Bounded.{isEnd}
 use Rattle.cases.specs.Layers.{LabelledPair, labelled}
 
 module _ (t : Table) where

@@ -10,9 +10,9 @@ use lib.ListN.{length, length-append}
 use borrow.Author.Tests.{eqb-true, eq-eqb}
 use Rattle.code.specs.Definitions.Lists.{every}
 use Rattle.code.specs.Definitions.Tables.{Table}
-use Rattle.theory.specs.Places.{Place, firstPlace, symbol, Step, Compatible, FirstPair, CommonStep, Reached, start, onward}
-use Rattle.theory.specs.Pairs.{compatible-reached, compatible-long}
-use Rattle.theory.specs.Bounded.{everyBelow, every-below}
+use Rattle.pair_theory.specs.Places.{Place, firstPlace, symbol, Step, Compatible, FirstPair, CommonStep, Reached, start, onward}
+use Rattle.pair_theory.specs.Pairs.{compatible-reached, compatible-long}
+use Rattle.pair_theory.specs.Bounded.{everyBelow, every-below}
 use Rattle.cases.specs.Members.{keep, keep-in, keep-out, flatMap-in, flatMap-out, every-member}
 use Rattle.cases.specs.Starts.{WordPair, wordPair, Starting, Lists}
 use Rattle.cases.specs.Steps.{steps, step-in, step-out}

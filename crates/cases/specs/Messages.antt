@@ -14,8 +14,8 @@ use Rattle.code.specs.Definitions.Orders.{Shortlex, shorter}
 use Rattle.code.specs.Definitions.Readings.{FirstTwo, Ambiguous}
 use Rattle.code.specs.Laws.Below.{or-cases}
 use Rattle.code.specs.Laws.Readings.{first-two-readings}
-use Rattle.theory.specs.Places.{Plain, TwoEnds}
-use Rattle.theory.specs.Ambiguity.{Stripped, at-most, readings→ends, ambiguous}
+use Rattle.pair_theory.specs.Places.{Plain, TwoEnds}
+use Rattle.pair_theory.specs.Ambiguity.{Stripped, at-most, readings→ends, ambiguous}
 use Rattle.cases.specs.Comparing.{notBefore, not-before-true}
 use Rattle.cases.specs.Starts.{beginnings, beginnings-listed}
 use Rattle.cases.specs.Layers.{LabelledPair, labelled, everyPair, pair-passes}

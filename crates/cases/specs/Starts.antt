@@ -7,7 +7,7 @@ use Prim.Native.Nat.{ℕ, _<_}
 use lib.Dec.{eqb}
 use borrow.Author.Tests.{eqb-false, ne-eqb, not-true}
 use Rattle.code.specs.Definitions.Tables.{Table, size}
-use Rattle.theory.specs.Places.{Parting, Beginning}
+use Rattle.pair_theory.specs.Places.{Parting, Beginning}
 use Rattle.cases.specs.Members.{keep, keep-in, keep-out, numbers, numbers-in, numbers-out, flatMap-in, flatMap-out}
 use Rattle.cases.specs.Rivals.{bothBegin, areRivals, rivals-test}
 

@@ -8,8 +8,8 @@ use lib.Dec.{ltb}
 use lib.ListN.{length}
 use borrow.Author.Tests.{ltb-true, eqb-true, lt-ltb, eq-eqb}
 use Rattle.code.specs.Definitions.Tables.{Table, size, word}
-use Rattle.theory.specs.Places.{Place, firstPlace, nextPlace, Ends, Step, inside, across}
-use Rattle.theory.specs.Bounded.{isEnd}
+use Rattle.pair_theory.specs.Places.{Place, firstPlace, nextPlace, Ends, Step, inside, across}
+use Rattle.pair_theory.specs.Bounded.{isEnd}
 use Rattle.cases.specs.Members.{keep, keep-in, keep-out, numbers, numbers-in, numbers-out}
 
 module _ (t : Table) where

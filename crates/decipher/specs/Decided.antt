@@ -10,20 +10,20 @@ use Rattle.code.specs.Definitions.Operations.{zeroed, Shown}
 use Rattle.code.specs.Definitions.Enlarged.{originalTable}
 use Rattle.code.specs.Definitions.Sheets.{limits}
 use Rattle.code.specs.Definitions.Tables.{Table, tableOf}
-use Rattle.copies.specs.Covers.{Cover}
-use Rattle.copies.specs.Matches.{lifted-two, decipherable-named, named-delay, named-unbounded}
-use Rattle.enlargements.specs.Meaning.{value-covers}
-use Rattle.enlargements.specs.WellEnlarged.{WellEnlarged}
-use Rattle.pairs.specs.OpenPairs.{open-finds}
-use Rattle.pairs.specs.RivalPairs.{Ended}
-use Rattle.places.specs.Whole.{LaidOut}
-use Rattle.shortest.specs.declared.Search.{Search}
-use Rattle.shortest.specs.declared.Search.the-variants.{Found, Nothing}
-use Rattle.shortest.specs.Contracts.{Answers}
-use Rattle.theory.specs.Searches.{search-least}
-use Rattle.decipherable.specs.Delays.{DelayBy, finite, unbounded, Measured, delay-means}
+use Rattle.ban_theory.specs.Covers.{Cover}
+use Rattle.ban_theory.specs.Matches.{lifted-two, decipherable-named, named-delay, named-unbounded}
+use Rattle.well_enlarged.specs.Meaning.{value-covers}
+use Rattle.well_enlarged.specs.WellEnlarged.{WellEnlarged}
+use Rattle.pair_graph.specs.OpenPairs.{open-finds}
+use Rattle.pair_graph.specs.RivalPairs.{Ended}
+use Rattle.pair_places.specs.Whole.{LaidOut}
+use Rattle.pair_shortest.specs.declared.Search.{Search}
+use Rattle.pair_shortest.specs.declared.Search.the-variants.{Found, Nothing}
+use Rattle.pair_shortest.specs.Contracts.{Answers}
+use Rattle.pair_theory.specs.Searches.{search-least}
+use Rattle.decipher_delay.specs.Delays.{DelayBy, finite, unbounded, Measured, delay-means}
 use Rattle.decipher.specs.Found.{was-nothing, found-least, found-written}
-use Rattle.ambiguous.specs.Twice.{ReadTwice, twice}
+use Rattle.decipher_ambiguous.specs.Twice.{ReadTwice, twice}
 use Rattle.decipher.specs.Lent.{whole-clear}
 
 -- The verdict and what the four buffers hold, as `Judges` has them: m, f, g and w are what they held, m′, f′, g′ and w′ what they hold.

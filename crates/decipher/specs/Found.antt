@@ -11,20 +11,20 @@ use Rattle.code.specs.Definitions.Readings.{TwoReadings}
 use Rattle.code.specs.Definitions.Enlarged.{originalTable}
 use Rattle.code.specs.Definitions.Sheets.{limits}
 use Rattle.code.specs.Definitions.Tables.{Table, tableOf}
-use Rattle.copies.specs.Matches.{named-two}
-use Rattle.enlargements.specs.Meaning.{value-covers}
-use Rattle.enlargements.specs.WellEnlarged.{WellEnlarged}
+use Rattle.ban_theory.specs.Matches.{named-two}
+use Rattle.well_enlarged.specs.Meaning.{value-covers}
+use Rattle.well_enlarged.specs.WellEnlarged.{WellEnlarged}
 use Rattle.graph.specs.Goals.{NoGoal, LeastGoal}
-use Rattle.pairs.specs.OpenPairs.{open-finds}
-use Rattle.pairs.specs.RivalPairs.{Ended}
-use Rattle.places.specs.Flat.{pairCount}
-use Rattle.places.specs.Opens.{openGraph}
-use Rattle.places.specs.Whole.{LaidOut}
-use Rattle.shortest.specs.declared.Search.{Search}
-use Rattle.shortest.specs.declared.Search.the-variants.{Found, Nothing}
-use Rattle.shortest.specs.Contracts.{Message, Answers, found, nothing}
-use Rattle.theory.specs.Ambiguity.{ends→readings}
-use Rattle.theory.specs.Searches.{least-goal}
+use Rattle.pair_graph.specs.OpenPairs.{open-finds}
+use Rattle.pair_graph.specs.RivalPairs.{Ended}
+use Rattle.pair_places.specs.Flat.{pairCount}
+use Rattle.pair_places.specs.Opens.{openGraph}
+use Rattle.pair_places.specs.Whole.{LaidOut}
+use Rattle.pair_shortest.specs.declared.Search.{Search}
+use Rattle.pair_shortest.specs.declared.Search.the-variants.{Found, Nothing}
+use Rattle.pair_shortest.specs.Contracts.{Message, Answers, found, nothing}
+use Rattle.pair_theory.specs.Ambiguity.{ends→readings}
+use Rattle.pair_theory.specs.Searches.{least-goal}
 use Rattle.decipher.specs.Lengths.{least-laid}
 
 module _ {places m m′ : List ℕ} where

@@ -16,16 +16,16 @@ use Rattle.code.specs.Definitions.Sheets.{limits}
 use Rattle.code.specs.Definitions.Tables.{Table, tableOf}
 use Rattle.code.specs.Laws.Lists.{table-map}
 use Rattle.code.specs.Laws.Readings.{first-two-readings}
-use Rattle.copies.specs.Matches.{named-two, lifted-two, decipherable-lifted, lifted-delay}
-use Rattle.enlargements.specs.Listed.{from-lists}
-use Rattle.enlargements.specs.Meaning.{Covers, value-covers}
-use Rattle.places.specs.Codes.{code-fits}
-use Rattle.places.specs.Flat.{placeCount as placesLaid, pairCount as pairsLaid}
-use Rattle.places.specs.Lays.{Lays, base}
-use Rattle.places.specs.Whole.{Fits}
-use Rattle.theory.specs.Ambiguity.{LeastTwoEnds, at-most, ends→readings, readings→ends}
-use Rattle.theory.specs.Finite.{placeCount, pairCount, pairs-within}
-use Rattle.theory.specs.Lengths.{short-ends, least-short, delay-short}
+use Rattle.ban_theory.specs.Matches.{named-two, lifted-two, decipherable-lifted, lifted-delay}
+use Rattle.well_enlarged.specs.Listed.{from-lists}
+use Rattle.well_enlarged.specs.Meaning.{Covers, value-covers}
+use Rattle.pair_places.specs.Codes.{code-fits}
+use Rattle.pair_places.specs.Flat.{placeCount as placesLaid, pairCount as pairsLaid}
+use Rattle.pair_places.specs.Lays.{Lays, base}
+use Rattle.pair_places.specs.Whole.{Fits}
+use Rattle.pair_theory.specs.Ambiguity.{LeastTwoEnds, at-most, ends→readings, readings→ends}
+use Rattle.pair_theory.specs.Finite.{placeCount, pairCount, pairs-within}
+use Rattle.pair_theory.specs.Lengths.{short-ends, least-short, delay-short}
 
 module _ {t : Table} (fits : Fits t) where
   places-few : placeCount t ≤ limits .total

@@ -8,18 +8,18 @@ use Rattle.code.specs.declared.Enlarged.{Enlarged}
 use Rattle.code.specs.Definitions.Operations.{written, zeroed, unorderedPairs, verdictRoom}
 use Rattle.code.specs.Definitions.Sheets.{limits}
 use Rattle.code.specs.Definitions.Tables.{Table, tableOf}
-use Rattle.delay.specs.Extents.{Given}
-use Rattle.decipherable.specs.Delays.{given}
-use Rattle.enlargements.specs.WellEnlarged.{WellEnlarged}
-use Rattle.pairs.specs.RivalPairs.{Ended}
-use Rattle.places.specs.Flat.{cellCount, pairCount}
-use Rattle.places.specs.Nodes.{pairs-limited}
-use Rattle.places.specs.Whole.{LaidOut}
-use Rattle.shortest.specs.Contracts.{Clear}
-use Rattle.shortest.specs.Writing.{clear-zeros}
-use Rattle.storage.specs.Cleared.{clear-part, clear-marks}
-use Rattle.storage.specs.Marks.{marks}
-use Rattle.storage.specs.Rooms.{roomOf, room-cells, room-pairs, room-most}
+use Rattle.pair_longest.specs.Extents.{Given}
+use Rattle.decipher_delay.specs.Delays.{given}
+use Rattle.well_enlarged.specs.WellEnlarged.{WellEnlarged}
+use Rattle.pair_graph.specs.RivalPairs.{Ended}
+use Rattle.pair_places.specs.Flat.{cellCount, pairCount}
+use Rattle.pair_places.specs.Nodes.{pairs-limited}
+use Rattle.pair_places.specs.Whole.{LaidOut}
+use Rattle.pair_shortest.specs.Contracts.{Clear}
+use Rattle.pair_shortest.specs.Writing.{clear-zeros}
+use Rattle.pair_storage.specs.Cleared.{clear-part, clear-marks}
+use Rattle.pair_storage.specs.Marks.{marks}
+use Rattle.pair_storage.specs.Rooms.{roomOf, room-cells, room-pairs, room-most}
 use Rattle.decipher.specs.Buffers.{marksRoom, Room}
 
 -- The places of the value e, three buffers of m, f and g entries, and the clear list w.

@@ -6,16 +6,16 @@ use code::Enlarged;
 use code::Judgement;
 use code::Refusal;
 use code::Verdict;
-use enlargements::well_enlarged;
-use shortest::Search;
+use pair_shortest::Search;
+use well_enlarged::well_enlarged;
 ghost use mathlib.Core.Path.{_≡_};
 ghost use Prim.Native.Nat.{_≤_};
 ghost use lib.ListN.{length};
 ghost use Rattle.code.specs.Definitions.Enlarged.{originalTable};
 ghost use Rattle.code.specs.Definitions.Operations.{zeroed, Judges};
 ghost use Rattle.code.specs.Definitions.Sheets.{limits};
-ghost use Rattle.enlargements.specs.WellEnlarged.{WellEnlarged};
-ghost use Rattle.table.specs.Exactly.{Exactly};
+ghost use Rattle.well_enlarged.specs.WellEnlarged.{WellEnlarged};
+ghost use Rattle.well_formed.specs.Exactly.{Exactly};
 ghost use Rattle.decipher.specs.Buffers.{marksRoom, Short, Room};
 ghost use Rattle.decipher.specs.Decided.{Decided};
 ghost use Rattle.decipher.specs.Lent.{Searchable};
@@ -56,7 +56,7 @@ fn clear_marks(work: &mut [u64])
 {
     let marks = [0u64; Pairs::MARKS];
     bits::clear(&mut work[Pairs::MARKS..]);
-    storage::lay(&marks, &mut work[..Pairs::MARKS]);
+    pair_storage::lay(&marks, &mut work[..Pairs::MARKS]);
 }
 
 // The verdict on a code whose places are laid out, by searches over its words and copies alike. The list is clear, and is left so.
@@ -72,11 +72,11 @@ fn search(
     ensures { λ r. ⌜ Decided (originalTable e) (now (message .entry)) (now (first .entry)) (now (second .entry)) (now (work .entry))
         (now (message .exit)) (now (first .exit)) (now (second .exit)) (now (work .exit)) r ⌝ }
 {
-    match shortest::shortest(places, work, message) {
-        Search::Found(n) => ambiguous::ambiguous(e, &message[..n], first, second, work),
+    match pair_shortest::shortest(places, work, message) {
+        Search::Found(n) => decipher_ambiguous::ambiguous(e, &message[..n], first, second, work),
         Search::Nothing => {
             bits::clear(work);
-            decipherable::decipherable(places, work)
+            decipher_delay::decipherable(places, work)
         }
     }
 }
@@ -94,8 +94,8 @@ fn decide(
         (now (message .exit)) (now (first .exit)) (now (second .exit)) (now (work .exit)) r ⌝ }
 {
     clear_marks(work);
-    let places = endings::lay_out(e.code);
-    let room = storage::room(&places);
+    let places = pair_endings::lay_out(e.code);
+    let room = pair_storage::room(&places);
     search(e, &places, message, first, second, &mut work[..room])
 }
 

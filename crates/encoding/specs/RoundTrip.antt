@@ -23,7 +23,7 @@ use Rattle.code.specs.Definitions.Answers.{refusalNumber}
 use Rattle.code.specs.Definitions.Operations.{Condition, Lowest, FromLists, written, Encodes, refused, encoded, readingConditions, ReadsMessage, unreadable, one, two}
 use Rattle.code.specs.Laws.Buffers.{take-written}
 use Rattle.code.specs.Laws.Orders.{lex-transitive}
-use Rattle.permitted.specs.Permitted.{permitted, permitted-known, permitted-follows}
+use Rattle.encode_permitted.specs.Permitted.{permitted, permitted-known, permitted-follows}
 
 -- A condition that does not hold is passed over. Here `Holds` is the condition, `First` that its refusal is the lowest, `Later` that a later one is.
 lowest-after : {Holds First Later : Type 0} → (Holds → ⊥) → (Holds × First) ⊎ ((Holds → ⊥) × Later) → Later

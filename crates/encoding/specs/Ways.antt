@@ -14,12 +14,12 @@ use Rattle.code.specs.declared.Encoding.the-variants.{Encoded, Refused}
 use Rattle.code.specs.Definitions.Tables.{message}
 use Rattle.code.specs.Definitions.Enlarged.{originalTable}
 use Rattle.code.specs.Definitions.Operations.{FromLists, HasUnknown, HasForbidden, written, Encodes, refused, encoded}
-use Rattle.table.specs.Exactly.{Exactly}
-use Rattle.enlargements.specs.WellEnlarged.{WellEnlarged}
-use Rattle.enlargements.specs.Listed.{from-lists}
-use Rattle.joining.specs.Messages.{messageOf}
-use Rattle.joining.specs.Passes.{Known}
-use Rattle.permitted.specs.Originals.{Original, all-words, original-known, same-message}
+use Rattle.well_formed.specs.Exactly.{Exactly}
+use Rattle.well_enlarged.specs.WellEnlarged.{WellEnlarged}
+use Rattle.well_enlarged.specs.Listed.{from-lists}
+use Rattle.encode_join.specs.Messages.{messageOf}
+use Rattle.encode_join.specs.Passes.{Known}
+use Rattle.encode_permitted.specs.Originals.{Original, all-words, original-known, same-message}
 
 module _ (l : Limits) {e : Enlarged} {t : Bool} (lists : Exactly t (FromLists l e)) where
   -- No sheet and list give the code: 8.

@@ -1,4 +1,4 @@
-// Encoding: the symbols of a sequence's words, joined in a lent buffer. Refusals 9, 10 and 11 are a pass over the sequence each (`permitted`, `joining`); a last
+// Encoding: the symbols of a sequence's words, joined in a lent buffer. Refusals 9, 10 and 11 are a pass over the sequence each (`encode_permitted`, `encode_join`); a last
 // pass writes.
 
 use code::Encoding;
@@ -6,10 +6,10 @@ use code::Enlarged;
 use code::Message;
 use code::Refusal;
 use code::SymbolCount;
-use joining::message_len;
-use joining::write_message;
-use permitted::has_forbidden;
-use permitted::has_unknown;
+use encode_join::message_len;
+use encode_join::write_message;
+use encode_permitted::has_forbidden;
+use encode_permitted::has_unknown;
 ghost use Rattle.code.specs.Definitions.Operations.{Encodes};
 ghost use Rattle.code.specs.Definitions.Sheets.{limits};
 
@@ -17,7 +17,7 @@ ghost use Rattle.code.specs.Definitions.Sheets.{limits};
 pub fn encode(e: Enlarged, words: &[u8], message: &mut [u8]) -> Encoding
     ensures { λ r. ⌜ Encodes limits e (now (words .entry)) (now (message .entry)) (now (message .exit)) r ⌝ }
 {
-    if !enlargements::well_enlarged(e) {
+    if !well_enlarged::well_enlarged(e) {
         return Encoding::Refused(Refusal::NotFromSheet);
     }
     if has_unknown(e, words) {

@@ -16,12 +16,12 @@ use Rattle.code.specs.Definitions.Enlarged.{plainOf}
 use Rattle.code.specs.Definitions.Operations.{written, encodingConditions, readingConditions, verdictConditions, Enlarges, Encodes, ReadsMessage, Judges}
 use Rattle.code.specs.Definitions.Sheets.{limits, taken}
 use Rattle.code.specs.Definitions.Splitting.{splittingConditions, SplitsText}
-use Rattle.giving.specs.Given.{Answered, classesIn}
-use Rattle.image.specs.Image.{imageLength, imageOf, enlargedIn}
-use Rattle.letters.specs.Letters.{turkishClasses}
+use Rattle.c_results.specs.Given.{Answered, classesIn}
+use Rattle.c_image.specs.Image.{imageLength, imageOf, enlargedIn}
+use Rattle.turkish_letters.specs.Letters.{turkishClasses}
 use Rattle.turkish.specs.Types.{types, codeOfTypes}
-use Rattle.untold.specs.Untold.{Untold}
-use Rattle.answers.specs.Answers.{shortNumber, answerLength, encodingNumber, encodingEntries, splittingNumber, splittingEntries, readingNumber, readingEntries, judgementNumber, judgementEntries}
+use Rattle.c_short_answers.specs.Untold.{Untold}
+use Rattle.c_answers.specs.Answers.{shortNumber, answerLength, encodingNumber, encodingEntries, splittingNumber, splittingEntries, readingNumber, readingEntries, judgementNumber, judgementEntries}
 
 -- Taking in the sheet s, with the buffer b for the table.
 abbrev pub TakesIn : (s b b′ : List ℕ) → ℕ → Type 0

@@ -9,18 +9,18 @@ use lib.ListN.{length, drop}
 use Rattle.code.specs.declared.Enlarged.{Enlarged}
 use Rattle.code.specs.declared.SheetAnswer.{SheetAnswer}
 use Rattle.code.specs.declared.SheetAnswer.the-variants.{Accepted}
-use Rattle.classed.specs.Given.{given-well}
+use Rattle.well_classed.specs.Given.{given-well}
 use Rattle.code.specs.Definitions.ClassSheets.{takenClasses}
 use Rattle.code.specs.Definitions.Enlarged.{plainOf}
 use Rattle.code.specs.Definitions.Lists.{table}
 use Rattle.code.specs.Definitions.Operations.{Enlarges, FromLists}
 use Rattle.code.specs.Definitions.Sheets.{limits, taken}
-use Rattle.giving.specs.Given.{Answered, classesIn}
-use Rattle.giving.specs.Held.{given, classes-there}
-use Rattle.image.specs.Image.{imageLength, imageOf, Packable, enlargedIn}
-use Rattle.image.specs.RoundTrip.{image-holds}
-use Rattle.letters.specs.Letters.{turkishClasses}
-use Rattle.letters.specs.Given.{turkishClassSheet, turkish-given}
+use Rattle.c_results.specs.Given.{Answered, classesIn}
+use Rattle.c_results.specs.Held.{given, classes-there}
+use Rattle.c_image.specs.Image.{imageLength, imageOf, Packable, enlargedIn}
+use Rattle.c_image.specs.RoundTrip.{image-holds}
+use Rattle.turkish_letters.specs.Letters.{turkishClasses}
+use Rattle.turkish_letters.specs.Given.{turkishClassSheet, turkish-given}
 use Rattle.turkish.specs.Types.{types, codeOfTypes}
 use Rattle.turkish.specs.Given.{twelveSheet, twelve-given}
 use Rattle.furlazon.specs.Calls.{TakesIn, ClassesCall, TurkishCall, TurkishClassesCall, EnlargeCall}

@@ -13,11 +13,11 @@ use Rattle.code.specs.declared.Taken.{Taken}
 use Rattle.code.specs.Definitions.Enlarged.{plainOf}
 use Rattle.code.specs.Definitions.Operations.{WithoutCopies, Enlarges, refused, enlarged}
 use Rattle.code.specs.Definitions.Sheets.{limits, taken}
-use Rattle.enlargements.specs.WellEnlarged.{WellEnlarged}
-use Rattle.enlargements.specs.Plain.{plain-well}
-use Rattle.enlargements.specs.Listed.{from-lists}
-use Rattle.image.specs.Image.{Packable}
-use Rattle.table.specs.Given.{well}
+use Rattle.well_enlarged.specs.WellEnlarged.{WellEnlarged}
+use Rattle.well_enlarged.specs.Plain.{plain-well}
+use Rattle.well_enlarged.specs.Listed.{from-lists}
+use Rattle.c_image.specs.Image.{Packable}
+use Rattle.well_formed.specs.Given.{well}
 use Rattle.turkish.specs.Types.{types, codeOfTypes}
 use Rattle.turkish.specs.Given.{twelve-from-sheet}
 

@@ -23,12 +23,12 @@ use Rattle.code.specs.Definitions.Enlarged.{plainOf}
 use Rattle.code.specs.Definitions.Operations.{written, encodingConditions, readingConditions, verdictConditions, Enlarges, Encodes, ReadsMessage, Judges}
 use Rattle.code.specs.Definitions.Sheets.{limits, taken}
 use Rattle.code.specs.Definitions.Splitting.{splittingConditions, SplitsText}
-use Rattle.giving.specs.Given.{Answered, classesIn}
-use Rattle.image.specs.Image.{imageLength, imageOf, enlargedIn}
-use Rattle.letters.specs.Letters.{turkishClasses}
+use Rattle.c_results.specs.Given.{Answered, classesIn}
+use Rattle.c_image.specs.Image.{imageLength, imageOf, enlargedIn}
+use Rattle.turkish_letters.specs.Letters.{turkishClasses}
 use Rattle.turkish.specs.Types.{types, codeOfTypes}
-use Rattle.answers.specs.Answers.{shortNumber, answerLength, encodingNumber, encodingEntries, splittingNumber, splittingEntries, readingNumber, readingEntries, judgementNumber, judgementEntries}
-use Rattle.untold.specs.Untold.{Untold}
+use Rattle.c_answers.specs.Answers.{shortNumber, answerLength, encodingNumber, encodingEntries, splittingNumber, splittingEntries, readingNumber, readingEntries, judgementNumber, judgementEntries}
+use Rattle.c_short_answers.specs.Untold.{Untold}
 use Rattle.furlazon.specs.Calls.{TakesIn, ClassesCall, TurkishCall, TurkishClassesCall, EnlargeCall, EncodeCall, ReadCall, VerdictCall, SplitCall}
 
 -- Answering a sheet or a ban list

@@ -1,26 +1,26 @@
 // The operations for C and for Rust. A table crosses as its image, a flat run of bytes, and classes as their entries; an answer crosses as the number returned, 0 for a result or the
 // refusal's, and as entries of a lent buffer. include/furlazon.h declares these functions for C.
 
-use answers::is_short;
-use answers::number;
-use answers::put_encoding;
-use answers::put_judgement;
-use answers::put_reading;
-use answers::put_splitting;
-use classes::take_classes;
+use c_answers::is_short;
+use c_answers::number;
+use c_answers::put_encoding;
+use c_answers::put_judgement;
+use c_answers::put_reading;
+use c_answers::put_splitting;
+use c_image::Image;
+use c_image::unpack;
+use c_results::classes_in;
+use c_results::put_classes;
+use c_results::put_table;
+use c_short_answers::untold_encoding;
+use c_short_answers::untold_reading;
+use c_short_answers::untold_splitting;
+use c_short_answers::untold_verdict;
+use class_sheet::take_classes;
 use code::Classes;
 use code::Refusal;
 use code::SheetAnswer;
-use enlargements::plain;
-use giving::classes_in;
-use giving::put_classes;
-use giving::put_table;
-use image::Image;
-use image::unpack;
-use untold::untold_encoding;
-use untold::untold_reading;
-use untold::untold_splitting;
-use untold::untold_verdict;
+use well_enlarged::plain;
 ghost use Rattle.furlazon.specs.Calls.{TakesIn, ClassesCall, TurkishCall, TurkishClassesCall, EnlargeCall, EncodeCall, ReadCall, SplitCall, VerdictCall};
 
 // Takes in a sheet. 0: accepted, and the table's image stands at the start of `table`. Else the refusal's number, and `table` is as it was.
@@ -60,7 +60,7 @@ pub extern "C" fn furlazon_turkish(table: &mut [u8]) -> u64
 pub extern "C" fn furlazon_turkish_classes(classes: &mut [u8]) -> u64
     ensures { λ r. ⌜ TurkishClassesCall (now (classes .entry)) (now (classes .exit)) r ⌝ }
 {
-    let given = letters::turkish();
+    let given = turkish_letters::turkish();
     put_classes(SheetAnswer::Accepted, given, classes)
 }
 
@@ -74,7 +74,7 @@ pub extern "C" fn furlazon_enlarge(table: &[u8], bans: &[u8], enlarged: &mut [u8
         return number(Refusal::ShortBuffer);
     }
     let value = unpack(table);
-    let e = banning::enlarge(value, bans);
+    let e = ban_enlarge::enlarge(value, bans);
     let answer = e.answer;
     let larger = e.enlarged;
     put_table(answer, larger, enlarged)
@@ -182,6 +182,6 @@ pub extern "C" fn furlazon_split(
     if is_short(answer.len()) {
         return untold_splitting(value, letters, text);
     }
-    let e = splitting::split(value, letters, text, out, message, first, second, work);
+    let e = text_split::split(value, letters, text, out, message, first, second, work);
     put_splitting(e, answer)
 }

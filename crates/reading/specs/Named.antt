@@ -18,18 +18,18 @@ use Rattle.code.specs.Definitions.Renumbering.{oldNumber, reordered, renumbered
 use Rattle.code.specs.Definitions.Tables.{size, tableOf}
 use Rattle.code.specs.Laws.Finite.{Within}
 use Rattle.code.specs.Laws.Lists.{getD-table}
-use Rattle.copies.specs.Covers.{Cover}
-use Rattle.copies.specs.CoversSame.{cover-same}
-use Rattle.copies.specs.Matches.{named-none, named-only, named-first-two}
-use Rattle.copies.specs.Renumbered.{Order, renumbered-covers}
-use Rattle.enlargements.specs.Meaning.{value-covers}
-use Rattle.enlargements.specs.WellEnlarged.{WellEnlarged}
-use Rattle.finding.specs.Core.{Finds, unreadable, one, two, FindsAll}
-use Rattle.finding.specs.Counts.{firstCount, secondCount, reads-within}
+use Rattle.ban_theory.specs.Covers.{Cover}
+use Rattle.ban_theory.specs.CoversSame.{cover-same}
+use Rattle.ban_theory.specs.Matches.{named-none, named-only, named-first-two}
+use Rattle.ban_theory.specs.Renumbered.{Order, renumbered-covers}
+use Rattle.well_enlarged.specs.Meaning.{value-covers}
+use Rattle.well_enlarged.specs.WellEnlarged.{WellEnlarged}
+use Rattle.read_core.specs.Core.{Finds, unreadable, one, two, FindsAll}
+use Rattle.read_core.specs.Counts.{firstCount, secondCount, reads-within}
 use Rattle.renumbering.specs.Origins.{Origins, ByOrigin}
 use Rattle.renumbering.specs.Renumberings.{number-in, renumbered-fits, renumbered-agrees}
-use Rattle.table.specs.WellFormed.{WellFormed}
-use Rattle.table.specs.Words.{size-count}
+use Rattle.well_formed.specs.WellFormed.{WellFormed}
+use Rattle.well_formed.specs.Words.{size-count}
 
 -- A buffer whose first n words have their names.
 abbrev pub renamed : List ℕ → ℕ → List ℕ → List ℕ

@@ -7,11 +7,11 @@ use code::Message;
 use code::Reading;
 use code::Refusal;
 use code::Word;
-use enlargements::well_enlarged;
 use named::find_named;
+use well_enlarged::well_enlarged;
 ghost use Rattle.code.specs.Definitions.Sheets.{limits};
 ghost use Rattle.code.specs.Definitions.Operations.{HasHigh, ReadsMessage};
-ghost use Rattle.table.specs.Exactly.{Exactly};
+ghost use Rattle.well_formed.specs.Exactly.{Exactly};
 ghost use Rattle.reading.specs.Public.{Short};
 
 // Whether some symbol of the message is above 15.

@@ -3,7 +3,7 @@
 
 use code::Enlarged;
 use code::Reading;
-use finding::find_readings;
+use read_core::find_readings;
 use renumbering::origins::by_origin;
 use renumbering::origins::rename;
 use renumbering::renumber;
@@ -13,9 +13,9 @@ ghost use Prim.Native.Nat.{_^_, _≤_, _<_};
 ghost use lib.ListN.{length};
 ghost use Rattle.code.specs.Definitions.Enlarged.{originalTable};
 ghost use Rattle.code.specs.Definitions.Sheets.{limits};
-ghost use Rattle.enlargements.specs.WellEnlarged.{WellEnlarged};
-ghost use Rattle.finding.specs.Core.{FindsAll};
-ghost use Rattle.finding.specs.Counts.{firstCount, secondCount};
+ghost use Rattle.well_enlarged.specs.WellEnlarged.{WellEnlarged};
+ghost use Rattle.read_core.specs.Core.{FindsAll};
+ghost use Rattle.read_core.specs.Counts.{firstCount, secondCount};
 
 // How many words of the first buffer were read.
 fn first_count(r: Reading) -> usize

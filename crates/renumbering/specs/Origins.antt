@@ -8,7 +8,7 @@ use native.Mathlib.Numerals.{add-one}
 use native.Mathlib.Omega.{arith}
 use lib.ListN.{length, getD, set}
 use Rattle.code.specs.declared.Limits.{Limits}
-use Rattle.copies.specs.Renumbered.{Order}
+use Rattle.ban_theory.specs.Renumbered.{Order}
 use Rattle.renumbering.specs.Listing.{Named, Listed, listed-skip, listed-room, listed-push, listed-all}
 
 -- The first `originals` of `count` numbers are words, each its own origin; the others are copies, whose origins are words.

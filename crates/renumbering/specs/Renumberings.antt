@@ -15,10 +15,10 @@ use Rattle.code.specs.Definitions.Lists.{table}
 use Rattle.code.specs.Definitions.Tables.{size, word, symbolsOf, noWord, noRow, entryOf, tableOf}
 use Rattle.code.specs.Definitions.Renumbering.{numberAt, oldNumber, reordered, reorderedRow, renumberedCode}
 use Rattle.code.specs.Laws.Lists.{length-table, getD-table, getD-table-past}
-use Rattle.copies.specs.CoversSame.{Agrees}
-use Rattle.copies.specs.Renumbered.{Order, renumbered}
-use Rattle.table.specs.WellFormed.{CellsFit, lenOf, WordFits, RowFits, WellFormed}
-use Rattle.table.specs.Words.{size-count, word-symbols}
+use Rattle.ban_theory.specs.CoversSame.{Agrees}
+use Rattle.ban_theory.specs.Renumbered.{Order, renumbered}
+use Rattle.well_formed.specs.WellFormed.{CellsFit, lenOf, WordFits, RowFits, WellFormed}
+use Rattle.well_formed.specs.Words.{size-count, word-symbols}
 use Rattle.renumbering.specs.Sums.{sumOf, sum-same, sum-order}
 
 module _ (n : ℕ) (number : ℕ → ℕ) where

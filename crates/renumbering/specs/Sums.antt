@@ -8,7 +8,7 @@ use borrow.Author.Tests.{eq-eqb, ne-eqb}
 use lib.Dec.{eqb}
 use Rattle.code.specs.Definitions.Lists.{if_then_else_, table, sum}
 use Rattle.code.specs.Laws.Lists.{table-same, sum-append, sum-past}
-use Rattle.copies.specs.Renumbered.{Order}
+use Rattle.ban_theory.specs.Renumbered.{Order}
 
 abbrev pub sumOf : (ℕ → ℕ) → ℕ → ℕ
 sumOf f n = sum (table f n)

@@ -13,8 +13,8 @@ use Rattle.code.specs.declared.Refusal.the-variants.{RecordCount, WordLength, C
 use Rattle.code.specs.declared.Taken.{Taken}
 use Rattle.code.specs.Definitions.Lists.{if_then_else_, any, every, sum}
 use Rattle.code.specs.Definitions.Sheets.{limits, allWide, hasStarts, badEntry, badRow, startField, badWord, wordLength, refused6, refused7, refused15, refusedBy, codeOf, takenGrid}
-use Rattle.survey.specs.declared.Survey.{Survey}
-use Rattle.survey.specs.Survey.{start, surveyRecords, marked, widthBad, rowBad, startBad, answerBy, answerOf, badSecond, otherWidth, Rows, no-row, row, first}
+use Rattle.sheet_survey.specs.declared.Survey.{Survey}
+use Rattle.sheet_survey.specs.Survey.{start, surveyRecords, marked, widthBad, rowBad, startBad, answerBy, answerOf, badSecond, otherWidth, Rows, no-row, row, first}
 
 -- All records have k fields where the first has and no other has another number.
 not-or : (t u w : Bool) → not u ≡ w → not (not t || u) ≡ t && w

@@ -14,8 +14,8 @@ use Rattle.code.specs.declared.Taken.{Taken}
 use Rattle.code.specs.Definitions.Sheets.{limits, records, fields, grid, body, badBytes, hasStarts, codeOf, refusedBy, taken, takenGrid}
 use Rattle.code.specs.Laws.Clean.{recordFields, records-some, fields-some}
 use Rattle.code.specs.Laws.Fits.{Fits, fits}
-use Rattle.survey.specs.declared.Survey.{Survey}
-use Rattle.survey.specs.Survey.{start, surveyRecords, marked, answerOf, Rows, no-row, row}
+use Rattle.sheet_survey.specs.declared.Survey.{Survey}
+use Rattle.sheet_survey.specs.Survey.{start, surveyRecords, marked, answerOf, Rows, no-row, row}
 use Rattle.sheet.specs.Judging.{Flags, survey-flags, resultOf, starts, survey-answers}
 
 -- every record has a first field

@@ -1,17 +1,17 @@
 // Taking in a code sheet: for every byte string the lowest refusal that holds, or the table that the sheet gives. Three passes over the bytes:
-// which bytes they are (`records`), what the records amount to (`survey`), and, for an accepted sheet, the table (`building`).
+// which bytes they are (`records`), what the records amount to (`sheet_survey`), and, for an accepted sheet, the table (`sheet_table`).
 
-use building::blank_code;
-use building::build;
 use code::Refusal;
 use code::Sheet;
 use code::SheetAnswer;
 use code::Taken;
-use records::bad_bytes;
-use records::body_len;
-use survey::has_starts;
-use survey::judge;
-use survey::survey_all;
+use csv::bad_bytes;
+use csv::body_len;
+use sheet_survey::has_starts;
+use sheet_survey::judge;
+use sheet_survey::survey_all;
+use sheet_table::blank_code;
+use sheet_table::build;
 ghost use mathlib.Core.Path.{_≡_};
 ghost use Prim.Native.Nat.{_≤_};
 ghost use lib.ListN.{length};

@@ -8,13 +8,13 @@ use code::Enlarged;
 use code::Sheet;
 use code::SheetAnswer;
 use libc::STDOUT_FILENO;
-use trying::fields::field;
+use try_common::fields::field;
 use values::write_result;
 use values::write_value;
 
 fn from_sheet(sheet: &[u8]) -> Enlarged {
     let taken = sheet::take_in(sheet);
-    enlargements::plain(taken.code)
+    well_enlarged::plain(taken.code)
 }
 
 fn write_line(line: &[u8]) {
@@ -24,7 +24,7 @@ fn write_line(line: &[u8]) {
 
 // Writes what a list makes of a code, and gives it.
 fn enlarge(value: Enlarged, list: &[u8]) -> Enlarged {
-    let enlargement = banning::enlarge(value, list);
+    let enlargement = ban_enlarge::enlarge(value, list);
     let answer = enlargement.answer;
     match answer {
         SheetAnswer::Accepted => io::write_all(STDOUT_FILENO, b"accepted"),
@@ -46,10 +46,10 @@ fn try_list(value: Enlarged, list: &[u8]) {
 
 fn try_files(sheet: &[u8], list: &[u8]) {
     let mut bytes = [0u8; Sheet::BYTES + 1];
-    let n = trying::read_file(sheet, &mut bytes);
+    let n = try_common::read_file(sheet, &mut bytes);
     let value = from_sheet(&bytes[..n]);
     let mut bans = [0u8; Sheet::BYTES + 1];
-    let k = trying::read_file(list, &mut bans);
+    let k = try_common::read_file(list, &mut bans);
     try_list(value, &bans[..k]);
 }
 

@@ -5,7 +5,7 @@ use code::Enlarged;
 use decipher::Pairs;
 use libc::STDOUT_FILENO;
 use printing::Lengths;
-use trying::tables::write_table;
+use try_common::tables::write_table;
 
 // Bytes that the longest result may take.
 const BYTES: usize = Lengths::FRAME + Pairs::ROOM + Lengths::NUMBER * (Pairs::ROOM + Pairs::ROOM);

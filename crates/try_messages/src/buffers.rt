@@ -56,7 +56,10 @@ fn write_state(kept: bool, zero: bool) {
 // Writes what became of the working buffer.
 pub fn write_work(work: &[u64]) {
     io::write_all(STDOUT_FILENO, b"; work ");
-    write_state(trying::is_all(work, WORK_BEFORE), trying::is_all(work, 0));
+    write_state(
+        try_common::is_all(work, WORK_BEFORE),
+        try_common::is_all(work, 0),
+    );
 }
 
 // Writes what became of a buffer that is used beside a result.

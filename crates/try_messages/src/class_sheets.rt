@@ -2,13 +2,13 @@
 
 use crate::lists;
 use crate::trials;
-use classes::take_classes;
+use class_sheet::take_classes;
 use code::ClassSheet;
 use code::Classes;
 use code::SheetAnswer;
 use code::TakenClasses;
 use libc::STDOUT_FILENO;
-use trying::fields;
+use try_common::fields;
 ghost use Prim.Native.Nat.{_<_};
 
 // What the class sheet gives whose file field k names.
@@ -17,7 +17,7 @@ fn taken(line: &[u8], k: usize) -> TakenClasses {
     let a = f.from;
     let e = f.to;
     let mut bytes = [0u8; ClassSheet::BYTES + 1];
-    let n = trying::read_file(&line[a..e], &mut bytes);
+    let n = try_common::read_file(&line[a..e], &mut bytes);
     take_classes(&bytes[..n])
 }
 

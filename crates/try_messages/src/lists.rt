@@ -1,7 +1,7 @@
 // Lists of symbols or words, as text: numbers with commas between. n*c stands for c times n, and - for the empty list.
 
 use libc::STDOUT_FILENO;
-use trying::fields;
+use try_common::fields;
 ghost use Prim.Native.Nat.{_+_, _≤_, _<_};
 ghost use lib.ListN.{length};
 

@@ -18,7 +18,7 @@ mod texts;
 mod trials;
 
 use libc::STDOUT_FILENO;
-use trying::fields;
+use try_common::fields;
 
 fn try_line(line: &[u8]) {
     io::write_all(STDOUT_FILENO, line);

@@ -5,7 +5,7 @@ use code::Enlarged;
 use code::Row;
 use code::Sheet;
 use code::Word;
-use trying::fields;
+use try_common::fields;
 ghost use Prim.Native.Nat.{_<_};
 ghost use Rattle.code.specs.Definitions.Sheets.{limits};
 
@@ -17,22 +17,22 @@ fn from_sheet(sheet: &[u8]) -> Code {
 // The table of the sheet in a file.
 fn from_file(path: &[u8]) -> Code {
     let mut bytes = [0u8; Sheet::BYTES + 1];
-    let n = trying::read_file(path, &mut bytes);
+    let n = try_common::read_file(path, &mut bytes);
     from_sheet(&bytes[..n])
 }
 
 // The code with the copies that the list in a file asks for.
 fn with_bans(value: Enlarged, path: &[u8]) -> Enlarged {
     let mut bytes = [0u8; Sheet::BYTES + 1];
-    let n = trying::read_file(path, &mut bytes);
-    let enlargement = banning::enlarge(value, &bytes[..n]);
+    let n = try_common::read_file(path, &mut bytes);
+    let enlargement = ban_enlarge::enlarge(value, &bytes[..n]);
     enlargement.enlarged
 }
 
 // The code of a sheet and, behind a plus sign, of a ban list.
 fn from_files(names: &[u8]) -> Enlarged {
     let plus = fields::find(names, 0, b'+');
-    let value = enlargements::plain(from_file(&names[0..plus]));
+    let value = well_enlarged::plain(from_file(&names[0..plus]));
     let end = names.len();
     if plus < end {
         let from = plus + 1;

@@ -10,7 +10,7 @@ use code::Enlarged;
 use code::Splitting;
 use copying::copy_at;
 use libc::STDOUT_FILENO;
-use trying::fields;
+use try_common::fields;
 ghost use Prim.Native.Nat.{_≤_};
 ghost use lib.ListN.{length};
 
@@ -93,7 +93,7 @@ fn split_in(
     second: &mut [u8],
     work: &mut [u64],
 ) {
-    let answer = splitting::split(value, letters, text, out, message, first, second, work);
+    let answer = text_split::split(value, letters, text, out, message, first, second, work);
     let n = write_splitting(answer, quoted, out);
     buffers::write_kept(buffers::is_kept(out, n));
     buffers::write_used(b"; message ", message);
@@ -131,7 +131,7 @@ fn split_by(line: &[u8], value: Enlarged, letters: Classes) {
 // By the Turkish letters.
 pub fn split(line: &[u8]) {
     let value = tables::of_trial(line, 8);
-    split_by(line, value, letters::turkish());
+    split_by(line, value, turkish_letters::turkish());
 }
 
 // By the letters of a class sheet.

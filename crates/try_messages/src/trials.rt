@@ -8,7 +8,7 @@ use code::Enlarged;
 use code::Reading;
 use code::Refusal;
 use libc::STDOUT_FILENO;
-use trying::fields;
+use try_common::fields;
 ghost use Prim.Native.Nat.{_≤_};
 ghost use lib.ListN.{length};
 

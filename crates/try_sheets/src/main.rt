@@ -3,7 +3,7 @@
 use code::Sheet;
 use code::SheetAnswer;
 use libc::STDOUT_FILENO;
-use trying::tables;
+use try_common::tables;
 
 fn write_answer(sheet: &[u8]) {
     let taken = sheet::take_in(sheet);
@@ -25,7 +25,7 @@ fn try_file(path: &[u8]) {
     io::write_all(STDOUT_FILENO, path);
     io::write_all(STDOUT_FILENO, b": ");
     let mut bytes = [0u8; Sheet::BYTES + 1];
-    let n = trying::read_file(path, &mut bytes);
+    let n = try_common::read_file(path, &mut bytes);
     write_answer(&bytes[..n]);
 }
 

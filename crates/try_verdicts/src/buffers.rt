@@ -27,11 +27,11 @@ pub fn is_kept(buffer: &[u8], from: usize) -> bool {
 
 // Writes what became of the working buffer.
 pub fn write_work(work: &[u64]) {
-    if trying::is_all(work, WORK_BEFORE) {
+    if try_common::is_all(work, WORK_BEFORE) {
         io::write_all(STDOUT_FILENO, b", work kept\r\n");
         return;
     }
-    if trying::is_all(work, 0) {
+    if try_common::is_all(work, 0) {
         io::write_all(STDOUT_FILENO, b", work zero\r\n");
         return;
     }

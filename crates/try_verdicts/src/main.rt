@@ -44,7 +44,7 @@ fn write_name(name: &[u8]) {
 fn try_file(path: &[u8]) {
     write_name(path);
     let mut bytes = [0u8; Sheet::BYTES + 1];
-    let n = trying::read_file(path, &mut bytes);
+    let n = try_common::read_file(path, &mut bytes);
     try_code(from_sheet(&bytes[..n]));
 }
 

@@ -83,7 +83,7 @@ fn write_kept(message: &[u8], first: &[u8], second: &[u8], written: Written) {
 }
 
 fn try_in(code: Code, message: &mut [u8], first: &mut [u8], second: &mut [u8], work: &mut [u64]) {
-    let judgement = decipher::verdict(enlargements::plain(code), message, first, second, work);
+    let judgement = decipher::verdict(well_enlarged::plain(code), message, first, second, work);
     write_result(judgement, message, first, second);
     write_kept(message, first, second, how_much(judgement));
     buffers::write_work(work);

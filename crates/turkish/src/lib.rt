@@ -1,9 +1,9 @@
 // The twelve syllable types of Turkish (source 000, table 1) and which may follow which, as constants, and the code that they make.
 
-use building::blank_code;
 use code::Code;
 use code::Row;
 use code::Word;
+use sheet_table::blank_code;
 ghost use mathlib.Core.Path.{_≡_};
 ghost use mathlib.Core.List.{map};
 ghost use Prim.Native.Nat.{_≤_};

@@ -14,8 +14,8 @@ use Rattle.code.specs.Laws.Readings.{ambiguous-unique}
 use Rattle.decipher.specs.Buffers.{Room}
 use Rattle.decipher.specs.Kinds.{verdict-answered}
 use Rattle.decipher.specs.Shown.{judged-ambiguous}
-use Rattle.meaning.specs.Empty.{plain-lists}
-use Rattle.meaning.specs.Given.{plain-original}
+use Rattle.ban_meaning.specs.Empty.{plain-lists}
+use Rattle.ban_meaning.specs.Given.{plain-original}
 use Rattle.turkish.specs.Given.{twelve-from-sheet}
 use Rattle.turkish_verdicts.specs.Cases.{twelve, messageTwelve, firstTwelve, secondTwelve, twelve-ambiguous}
 

@@ -12,8 +12,8 @@ use Rattle.cases.specs.Cases.{isNonEmpty, non-empty}
 use Rattle.cases.specs.Enumeration.{readings, reading-in}
 use Rattle.cases.specs.Members.{empty, empty-none}
 use Rattle.cases.specs.Readings.{onlyOf, firstTwoOf, only-means, first-two-means}
-use Rattle.letters.specs.Letters.{turkishClasses}
-use Rattle.texts.specs.Messages.{word-splits}
+use Rattle.turkish_letters.specs.Letters.{turkishClasses}
+use Rattle.text_theory.specs.Messages.{word-splits}
 use Rattle.turkish.specs.Types.{padded, codeOfTypes}
 use Rattle.turkish_verdicts.specs.Cases.{twelve}
 

@@ -22,17 +22,17 @@ use Rattle.code.specs.Definitions.Operations.{Enlarges, enlarged, FromLists, wr
 use Rattle.code.specs.Definitions.Sheets.{limits, body, records, fields, grid, badBytes, codeOf, takenGrid, taken, FromSheet}
 use Rattle.code.specs.Definitions.Tables.{tableOf}
 use Rattle.code.specs.Laws.Sequences.{Plain}
-use Rattle.table.specs.Given.{well}
-use Rattle.table.specs.Digits.{digitOf}
-use Rattle.places.specs.Codes.{code-fits}
+use Rattle.well_formed.specs.Given.{well}
+use Rattle.well_formed.specs.Digits.{digitOf}
+use Rattle.pair_places.specs.Codes.{code-fits}
 use Rattle.cases.specs.Banned.{checkWith, sound-with}
 use Rattle.cases.specs.Cases.{delay}
 use Rattle.cases.specs.Enumeration.{readings}
 use Rattle.cases.specs.Messages.{leastIs, ambiguous-means}
 use Rattle.cases.specs.Readings.{firstTwoOf, first-two-means}
-use Rattle.meaning.specs.Alike.{same-verdict}
-use Rattle.meaning.specs.Empty.{empty-list}
-use Rattle.meaning.specs.Given.{plain-original, lists-alike}
+use Rattle.ban_meaning.specs.Alike.{same-verdict}
+use Rattle.ban_meaning.specs.Empty.{empty-list}
+use Rattle.ban_meaning.specs.Given.{plain-original, lists-alike}
 use Rattle.printing.specs.Printed.{places}
 use Rattle.verdict.specs.Answers.{sheet-accepted, RightFor, Answers}
 use Rattle.verdict.specs.Unique.{answer-right}

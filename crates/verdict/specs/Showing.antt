@@ -25,14 +25,14 @@ use Rattle.code.specs.Definitions.Sheets.{limits, taken}
 use Rattle.code.specs.Laws.Buffers.{take-written}
 use Rattle.code.specs.Laws.Sequences.{permitted-linked}
 use Rattle.decipher.specs.Buffers.{marksRoom}
-use Rattle.table.specs.Given.{well}
-use Rattle.places.specs.Codes.{code-fits}
+use Rattle.well_formed.specs.Given.{well}
+use Rattle.pair_places.specs.Codes.{code-fits}
 use Rattle.printing.specs.Printed.{printed}
 use Rattle.printing.specs.Starts.{starts-counts}
 use Rattle.writing.specs.Puts.{Starts}
 use Rattle.printing.specs.Prints.{lengthsOf, Symbols, Printable, Prints, all, none, result}
-use Rattle.meaning.specs.Alike.{same-reads}
-use Rattle.meaning.specs.Given.{tableWith, lists-alike}
+use Rattle.ban_meaning.specs.Alike.{same-reads}
+use Rattle.ban_meaning.specs.Given.{tableWith, lists-alike}
 use Rattle.sheet.specs.Either.{not-both}
 use Rattle.verdict.specs.Answers.{outputRoom, Gives, sheet-refused, sheet-accepted, Answers, Shows}
 use Rattle.verdict.specs.Symbols.{symbols-message}

@@ -17,7 +17,7 @@ use Rattle.code.specs.Definitions.Operations.{written}
 use Rattle.code.specs.Definitions.Sheets.{limits, taken}
 use Rattle.code.specs.Laws.Readings.{ambiguous-unique}
 use Rattle.code.specs.Laws.Verdicts.{verdict-unique}
-use Rattle.meaning.specs.Answered.{enlarges-unique}
+use Rattle.ban_meaning.specs.Answered.{enlarges-unique}
 use Rattle.printing.specs.Printed.{printed}
 use Rattle.sheet.specs.Either.{not-both, one-refusal}
 use Rattle.verdict.specs.Answers.{Gives, sheet-refused, sheet-accepted, RightOf, RightFor, Answers}

@@ -33,13 +33,13 @@ fn give(sheet: &[u8], list: &[u8]) -> Enlargement
 {
     let taken = sheet::take_in(sheet);
     let answer = taken.answer;
-    let value = enlargements::plain(taken.code);
+    let value = well_enlarged::plain(taken.code);
     let alone = Enlargement {
         answer: answer,
         enlarged: value,
     };
     // The table of a refused sheet is blank, and this answer is then not used.
-    let enlarged = banning::enlarge(value, list);
+    let enlarged = ban_enlarge::enlarge(value, list);
     match answer {
         SheetAnswer::Refused(_) => alone,
         SheetAnswer::Accepted => enlarged,

@@ -1,7 +1,7 @@
 -- `decide` meets its contract: the searches are lent a part of the clear working buffer (`searchable`), and as they leave it clear the whole is (`decided-whole`).
 use borrow.Author.Needs.{needs}
 use native.Mathlib.Omega.{arith}
-use Rattle.storage.specs.Rooms.{room-most}
+use Rattle.pair_storage.specs.Rooms.{room-most}
 use Rattle.decipher.specs.Lent.{room-within, part-long, searchable}
 use Rattle.decipher.specs.Decided.{decided-whole}
 use Rattle.decipher.proofs.decide.Statement.{statement}

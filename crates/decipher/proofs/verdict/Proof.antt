@@ -1,7 +1,7 @@
 -- `verdict` meets its contract: a lemma for each refusal, in their order, and for the verdict where none holds.
 use borrow.Author.Needs.{needs}
 use borrow.Author.Tests.{not-false}
-use Rattle.enlargements.specs.Listed.{from-lists}
+use Rattle.well_enlarged.specs.Listed.{from-lists}
 use Rattle.decipher.specs.Buffers.{has-room}
 use Rattle.decipher.specs.Ways.{way-8, way-13, way-judged}
 use Rattle.decipher.proofs.verdict.Statement.{statement}

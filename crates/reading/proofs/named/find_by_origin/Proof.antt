@@ -3,7 +3,7 @@
 use native.Mathlib.Omega.{arith}
 use borrow.Author.Needs.{needs}
 use Rattle.code.specs.Definitions.Sheets.{limits}
-use Rattle.finding.specs.Counts.{first-words, second-words}
+use Rattle.read_core.specs.Counts.{first-words, second-words}
 use Rattle.reading.specs.Named.{value-origins, ordered-well, ordered-few, renamed-found}
 use Rattle.reading.proofs.named.find_by_origin.Statement.{statement}
 use Rattle.reading.proofs.named.find_by_origin.Tie as tie

@@ -1,0 +1,39 @@
+-- The five tests are joined as `any` joins them (`marks-tested`).
+use borrow.Author.Needs.{needs}
+use Rattle.class_sheet.specs.Filling.{fromTo}
+use Rattle.class_sheet.specs.Marks.{marks-tested}
+use Rattle.class_sheet.proofs.takes_mark.Statement.{statement}
+use Rattle.class_sheet.proofs.takes_mark.Tie as tie
+
+returns : tie.Need-returns
+returns c =
+    let square = c .before .before .before in
+    let round = square .before .before .before in
+    let a = round .before .before .before .args in
+    rw (
+      c .or4 .ensures,
+      c .before .or3 .ensures,
+      c .before .before .takes-in5 .ensures,
+      square .or2 .ensures,
+      square .before .takes-in4 .ensures,
+      square .before .before .takes-in3 .ensures,
+      round .or .ensures,
+      round .before .takes-in2 .ensures,
+      round .before .before .takes-in .ensures,
+    )
+    (marks-tested (fromTo (a .lowest) (a .highest)))
+
+pub takes-mark-spec : {M : Type 1} → statement M
+takes-mark-spec =
+    tie.close
+    (tie.spec
+    (λ c κs. search needs)
+    (λ c κs. search needs)
+    (λ c κs. search needs)
+    (λ c κs. search needs)
+    (λ c κs. search needs)
+    (λ c κs. search needs)
+    (λ c κs. search needs)
+    (λ c κs. search needs)
+    (λ c κs. search needs)
+    returns)

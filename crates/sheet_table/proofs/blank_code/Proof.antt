@@ -1,0 +1,13 @@
+-- An array with one value throughout is the table of that value.
+use Rattle.code.specs.Definitions.Lists.{every, table}
+use Rattle.code.specs.Definitions.Sheets.{blankCode, codeOf}
+use borrow.Author.Needs.{needs}
+use Rattle.sheet_table.proofs.blank_code.Statement.{statement}
+use Rattle.sheet_table.proofs.blank_code.Tie as tie
+
+returns : tie.Need-returns
+unfolding blankCode codeOf table every
+returns c = rw (c .before .blank-word .ensures, c .blank-row .ensures)
+
+pub blank-code-spec : {M : Type 1} → statement M
+blank-code-spec = tie.close (tie.spec (λ c κs. search needs) (λ c κs. search needs) returns)

@@ -1,0 +1,12 @@
+-- An array of zeros is the table of zeros.
+use mathlib.Core.Path.{refl}
+use Rattle.code.specs.Definitions.Lists.{table}
+use Rattle.sheet_table.proofs.blank_row.Statement.{statement}
+use Rattle.sheet_table.proofs.blank_row.Tie as tie
+
+returns : tie.Need-returns
+unfolding table
+returns c = refl
+
+pub blank-row-spec : {M : Type 1} → statement M
+blank-row-spec = tie.close (tie.spec returns)

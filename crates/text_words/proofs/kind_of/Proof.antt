@@ -1,0 +1,10 @@
+-- A case for each outcome of reading.
+use borrow.Author.Needs.{needs}
+use Rattle.text_words.proofs.kind_of.Statement.{statement}
+use Rattle.text_words.proofs.kind_of.Tie as tie
+
+returns : tie.Need-returns
+returns c = rw (c .before .found .given .1)
+
+pub kind-of-spec : {M : Type 1} → statement M
+kind-of-spec = tie.close (tie.spec (λ c. search needs) (λ c. search needs) (λ c. search needs) returns (λ c. search needs) (λ c. search needs))

@@ -1,0 +1,38 @@
+-- `some_mark_letter` looks at each of the marks.
+use borrow.Author.Needs.{needs}
+use Rattle.code.specs.Definitions.Texts.{isLetter}
+use Rattle.class_sheet.specs.Marks.{marks-tested}
+use Rattle.well_classed.proofs.some_mark_letter.Statement.{statement}
+use Rattle.well_classed.proofs.some_mark_letter.Tie as tie
+
+returns : tie.Need-returns
+returns c =
+    let square = c .before .before .before in
+    let round = square .before .before .before in
+    rw (
+      c .or4 .ensures,
+      c .before .or3 .ensures,
+      c .before .before .is-letter5 .ensures,
+      square .or2 .ensures,
+      square .before .is-letter4 .ensures,
+      square .before .before .is-letter3 .ensures,
+      round .or .ensures,
+      round .before .is-letter2 .ensures,
+      round .before .before .is-letter .ensures,
+    )
+    (marks-tested (isLetter (round .before .before .before .args .classes .now)))
+
+pub some-mark-letter-spec : {M : Type 1} → statement M
+some-mark-letter-spec =
+    tie.close
+    (tie.spec
+    (λ c κs. search needs)
+    (λ c κs. search needs)
+    (λ c κs. search needs)
+    (λ c κs. search needs)
+    (λ c κs. search needs)
+    (λ c κs. search needs)
+    (λ c κs. search needs)
+    (λ c κs. search needs)
+    (λ c κs. search needs)
+    returns)
