@@ -167,26 +167,26 @@ fn main() {
     if 3 < arguments {
         io::write_all(
             STDERR_FILENO,
-            b"split takes at most two arguments; usage: split [SHEET.csv [CLASSES.classes]] < TEXT\n",
+            b"syllabify takes at most two arguments; usage: syllabify [SHEET.csv [CLASSES.classes]] < TEXT\n",
         );
         return;
     }
     let mut file = [0u8; Sheet::BYTES + 1];
     let listed = streams::read_named(1, arguments, &mut file);
     let Input::Bytes(k) = listed else {
-        os::fail(b"split: cannot read the code sheet");
+        os::fail(b"syllabify: cannot read the code sheet");
         return;
     };
     let mut classes = [0u8; ClassSheet::BYTES + 1];
     let classed = streams::read_named(2, arguments, &mut classes);
     let Input::Bytes(j) = classed else {
-        os::fail(b"split: cannot read the class sheet");
+        os::fail(b"syllabify: cannot read the class sheet");
         return;
     };
     let mut input = [0u8; Text::BYTES + 1];
     let read = streams::read_input(STDIN_FILENO, &mut input);
     let Input::Bytes(n) = read else {
-        os::fail(b"split: cannot read standard input");
+        os::fail(b"syllabify: cannot read standard input");
         return;
     };
     let mut out = [0u8; Output::BYTES];
@@ -202,6 +202,6 @@ fn main() {
         &mut out,
     );
     if !io::write_all(STDOUT_FILENO, &out[..length]) {
-        os::fail(b"split: cannot write standard output");
+        os::fail(b"syllabify: cannot write standard output");
     }
 }
