@@ -20,7 +20,7 @@ use Rattle.code.specs.Laws.Filling.{fill-next, fill-end}
 use Rattle.ban_theory.specs.CopyLists.{origin-word, origin-copy}
 use Rattle.ban_theory.specs.BanLists.{Known, once-none, withBan, copies-next}
 use Rattle.ban_theory.specs.Triples.{banAt, bansFrom, bans-none, bans-more, KnownBan}
-use Rattle.well_formed.specs.WellFormed.{lenOf, WellFormed}
+use Rattle.code.specs.Laws.WellFormed.{lenOf, WellFormed}
 use Rattle.ban_copies.specs.declared.Copies.{Copies}
 use Rattle.ban_copies.specs.Held.{held, Held, behindAt, behind-none, withCopy, held-is, held-more}
 use Rattle.ban_copies.specs.Symbols.{symbolsWith, tooMany, symbols-none, symbols-more, refused-too-many}

@@ -9,7 +9,7 @@ use Rattle.code.specs.Definitions.Sheets.{limits}
 use Rattle.code.specs.Definitions.Bans.{Ban, copiesOf}
 use Rattle.code.specs.Definitions.Enlarged.{blankEnlarged, enlargedCode, enlargement}
 use Rattle.ban_theory.specs.BanLists.{Known}
-use Rattle.well_formed.specs.WellFormed.{WellFormed}
+use Rattle.code.specs.Laws.WellFormed.{WellFormed}
 use Rattle.ban_copies.specs.declared.Copies.{Copies}
 use Rattle.ban_copies.specs.Held.{Held}
 use Rattle.ban_copies.specs.Adding.{Collected, Passed, refused-passed, refused-not}

@@ -16,8 +16,8 @@ use Rattle.code.specs.Definitions.Bans.{Ban, Copy, isCopy, hasCopy, isBan, bann
 use Rattle.code.specs.Laws.Lists.{any-table, any-found}
 use Rattle.ban_theory.specs.CopyLists.{origin-word, stands-word, stands-copy}
 use Rattle.ban_theory.specs.Triples.{banAt, bansFrom}
-use Rattle.well_formed.specs.WellFormed.{WellFormed}
-use Rattle.well_formed.specs.Words.{size-count}
+use Rattle.code.specs.Laws.WellFormed.{WellFormed}
+use Rattle.code.specs.Laws.Words.{size-count}
 use Rattle.ban_copies.specs.declared.Copies.{Copies}
 use Rattle.ban_copies.specs.Held.{copyHeld, held, Held, origin-at, behind-at, held-is, held-again}
 

@@ -15,7 +15,7 @@ use Rattle.code.specs.Definitions.Bans.{Ban, copiesOf, origin}
 use Rattle.code.specs.Definitions.Enlarged.{enlargedCount, enlargedWord, enlargedEntry, enlargedCode}
 use Rattle.code.specs.Laws.Lists.{table-list, table-same}
 use Rattle.code.specs.Laws.Filling.{fill-next, fill-rest, fill-end}
-use Rattle.well_formed.specs.WellFormed.{WellFormed}
+use Rattle.code.specs.Laws.WellFormed.{WellFormed}
 use Rattle.ban_copies.specs.declared.Copies.{Copies}
 use Rattle.ban_copies.specs.Held.{Held, origin-at}
 use Rattle.ban_copies.specs.Coming.{comes, entryBy, comes-may}

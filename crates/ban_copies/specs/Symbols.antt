@@ -14,8 +14,8 @@ use Rattle.code.specs.Definitions.Bans.{Ban, Copy, noCopy, bannedBy, copiesOf, 
 use Rattle.code.specs.Definitions.Enlarged.{refused17}
 use Rattle.code.specs.Laws.Lists.{table-same, table-map, sum-append, sum-past}
 use Rattle.ban_theory.specs.BanLists.{Known, once-none, copies-once}
-use Rattle.well_formed.specs.WellFormed.{lenOf, WellFormed}
-use Rattle.well_formed.specs.Words.{size-count, word-length}
+use Rattle.code.specs.Laws.WellFormed.{lenOf, WellFormed}
+use Rattle.code.specs.Laws.Words.{size-count, word-length}
 
 -- the symbols of a copy
 abbrev pub copyLength : Code → Copy → ℕ

@@ -10,7 +10,7 @@ ghost use Rattle.code.specs.Definitions.Lists.{table, sum};
 ghost use Rattle.code.specs.Definitions.Sheets.{limits};
 ghost use Rattle.ban_theory.specs.BanLists.{Known};
 ghost use Rattle.ban_theory.specs.Triples.{bansFrom};
-ghost use Rattle.well_formed.specs.WellFormed.{lenOf, WellFormed};
+ghost use Rattle.code.specs.Laws.WellFormed.{lenOf, WellFormed};
 ghost use Rattle.ban_copies.specs.Held.{held};
 ghost use Rattle.ban_copies.specs.Adding.{Start, Added, Gathered};
 

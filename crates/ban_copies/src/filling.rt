@@ -12,7 +12,7 @@ ghost use Rattle.code.specs.Definitions.Bans.{isBan, bannedBy, copiesOf, stands
 ghost use Rattle.code.specs.Definitions.Enlarged.{enlargedCode};
 ghost use Rattle.code.specs.Definitions.Sheets.{limits};
 ghost use Rattle.ban_theory.specs.Triples.{bansFrom};
-ghost use Rattle.well_formed.specs.WellFormed.{WellFormed};
+ghost use Rattle.code.specs.Laws.WellFormed.{WellFormed};
 ghost use Rattle.ban_copies.specs.Held.{held, Held};
 ghost use Rattle.ban_copies.specs.Coming.{Asked, allowed, comes, entryBy};
 

@@ -9,8 +9,8 @@ use code::Enlarged;
 use code::Enlargement;
 use code::Refusal;
 use code::SheetAnswer;
+use code::blanks::blank_code;
 use filling::fill;
-use sheet_table::blank_code;
 ghost use mathlib.Core.Path.{_≡_};
 ghost use Prim.Native.Nat.{_*_, _≤_};
 ghost use lib.ListN.{length};
@@ -19,7 +19,7 @@ ghost use Rattle.code.specs.Definitions.Enlarged.{blankEnlarged, enlargedCode, 
 ghost use Rattle.code.specs.Definitions.Sheets.{limits};
 ghost use Rattle.ban_theory.specs.BanLists.{Known};
 ghost use Rattle.ban_theory.specs.Triples.{bansFrom};
-ghost use Rattle.well_formed.specs.WellFormed.{WellFormed};
+ghost use Rattle.code.specs.Laws.WellFormed.{WellFormed};
 ghost use Rattle.ban_copies.specs.Adding.{Collected};
 
 // Copies as they are collected, behind the words of a code. What stands past the last copy is zero.

@@ -25,9 +25,9 @@ use Rattle.ban_list.specs.Contracts.{Listed, wrong, bans}
 use Rattle.ban_theory.specs.BanLists.{Known}
 use Rattle.ban_theory.specs.Triples.{bansFrom}
 use Rattle.ban_writing.specs.Named.{listed-known}
-use Rattle.well_formed.specs.Exactly.{Exactly}
+use Rattle.code.specs.Laws.Exactly.{Exactly}
 use Rattle.well_formed.specs.Given.{well}
-use Rattle.well_formed.specs.WellFormed.{WellFormed}
+use Rattle.code.specs.Laws.WellFormed.{WellFormed}
 
 -- The answer to a refused list.
 abbrev pub refusedList : Limits → Refusal → Enlargement

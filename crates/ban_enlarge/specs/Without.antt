@@ -18,7 +18,7 @@ use Rattle.ban_theory.specs.CopyLists.{origin-word, origin-copy}
 use Rattle.well_enlarged.specs.WellEnlarged.{WellEnlarged}
 use Rattle.well_enlarged.specs.Plain.{plain-well}
 use Rattle.well_enlarged.specs.Listed.{RoomyLists, from-lists, to-lists}
-use Rattle.well_formed.specs.Exactly.{Exactly, exactly-false}
+use Rattle.code.specs.Laws.Exactly.{Exactly, exactly-false}
 use Rattle.well_formed.specs.Given.{well}
 use Rattle.well_formed.specs.Round.{from-sheet}
 use Rattle.well_formed.specs.Written.{Roomy}

@@ -13,7 +13,7 @@ use well_enlarged::well_enlarged;
 ghost use mathlib.Core.Path.{_≡_};
 ghost use Rattle.code.specs.Definitions.Operations.{WithoutCopies, Enlarges};
 ghost use Rattle.code.specs.Definitions.Sheets.{limits};
-ghost use Rattle.well_formed.specs.Exactly.{Exactly};
+ghost use Rattle.code.specs.Laws.Exactly.{Exactly};
 ghost use Rattle.ban_enlarge.specs.Ways.{refusedList};
 
 // Whether an accepted sheet gives the table, and it has no copies.

@@ -25,8 +25,8 @@ use Rattle.ban_theory.specs.BanLists.{no-ban, copies-serve}
 use Rattle.well_enlarged.specs.Plain.{none-stand}
 use Rattle.well_enlarged.specs.Totals.{enlarged-lengths}
 use Rattle.well_formed.specs.Given.{well}
-use Rattle.well_formed.specs.WellFormed.{lenOf, WellFormed}
-use Rattle.well_formed.specs.Words.{size-count}
+use Rattle.code.specs.Laws.WellFormed.{lenOf, WellFormed}
+use Rattle.code.specs.Laws.Words.{size-count}
 use Rattle.ban_meaning.specs.Answered.{enlarges-unique}
 
 none-copied : copiesOf [] ≡ []

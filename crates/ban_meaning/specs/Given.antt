@@ -25,8 +25,8 @@ use Rattle.well_enlarged.specs.Meaning.{Covers, value-covers, bans-covers, bans
 use Rattle.well_enlarged.specs.Plain.{no-copies}
 use Rattle.well_enlarged.specs.Listed.{given-by, accepted-never}
 use Rattle.well_formed.specs.Given.{well}
-use Rattle.well_formed.specs.WellFormed.{WellFormed}
-use Rattle.well_formed.specs.Words.{size-count}
+use Rattle.code.specs.Laws.WellFormed.{WellFormed}
+use Rattle.code.specs.Laws.Words.{size-count}
 use Rattle.ban_meaning.specs.Alike.{Alike, same-size, same-message}
 use Rattle.ban_meaning.specs.OneToOne.{OneToOne, originals, numbers, covers-match}
 

@@ -15,7 +15,7 @@ use Rattle.ban_theory.specs.Covers.{lift, named-permitted, named-lift, named-me
 use Rattle.ban_theory.specs.Matches.{names-apart}
 use Rattle.well_enlarged.specs.WellEnlarged.{WellEnlarged}
 use Rattle.well_enlarged.specs.Meaning.{Covers, value-covers}
-use Rattle.well_formed.specs.Words.{size-count}
+use Rattle.code.specs.Laws.Words.{size-count}
 
 -- `there` takes the sequences that d permits to those that t permits, with the same messages, and `back` takes them back.
 pub record OneToOne (d t : Table) (there back : List ℕ → List ℕ) : Type 0 where

@@ -15,8 +15,8 @@ use Rattle.code.specs.Definitions.BanLists.{banOf, badBan, banRecords, refused1
 use Rattle.code.specs.Laws.Lists.{or-neither}
 use Rattle.ban_theory.specs.BanLists.{Known, ban}
 use Rattle.ban_theory.specs.Triples.{KnownBan}
-use Rattle.well_formed.specs.Join.{length-join}
-use Rattle.well_formed.specs.Sheets.{recordOf, sheetOf, Digital, none, more, sheet-bytes, sheet-grid, sheet-some, sheet-length}
+use Rattle.csv.specs.Join.{length-join}
+use Rattle.csv.specs.Sheets.{recordOf, sheetOf, Digital, none, more, sheet-bytes, sheet-grid, sheet-some, sheet-length}
 use Rattle.ban_writing.specs.Numbers.{numberField, number-back, number-digits, number-short, number-known}
 
 -- the fields of a ban's record

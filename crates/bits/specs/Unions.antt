@@ -9,7 +9,7 @@ use native.Mathlib.Decide.{decLt, ℕ-discrete}
 use native.Mathlib.Omega.{arith}
 use lib.Bits.{bitOr}
 use lib.ListN.{length, getD}
-use Rattle.well_formed.specs.Exactly.{Exactly, exactly-false, exactly-iff, exactly-itself}
+use Rattle.code.specs.Laws.Exactly.{Exactly, exactly-false, exactly-iff, exactly-itself}
 use Rattle.bits.specs.Bits.{bitOf, bit-none, bit-out, bit-below}
 use Rattle.bits.specs.Sets.{exactly-join}
 use Rattle.bits.specs.Lowest.{LowestOf, lowest-in, lowest-between}

@@ -14,7 +14,7 @@ use Rattle.code.specs.Definitions.Lists.{every}
 use Rattle.code.specs.Definitions.Sheets.{isDigit, valueOf}
 use Rattle.code.specs.Definitions.Texts.{other}
 use Rattle.csv.specs.Fields.{leading}
-use Rattle.well_formed.specs.Digits.{value-symbol}
+use Rattle.csv.specs.Digits.{value-symbol}
 
 pub digits-many : (n : ℕ) (f : List ℕ) → digits n f ≡ true → length f ≡ n
 digits-many n f e = eqb-true (length f) n (and-eq-true-iff (eqb (length f) n) (every isDigit f) .0 e .0)

@@ -1,2 +1,5 @@
 pub mod Fields
 pub mod Front
+pub mod Digits
+pub mod Join
+pub mod Sheets

@@ -1,7 +1,8 @@
 // The bytes of an RFC 4180 file of digits, a code sheet or another: which may stand in it, where it ends, and how far a field goes.
 
+use code::bools::or;
 ghost use mathlib.Core.Path.{_≡_};
-ghost use mathlib.Core.Bool.{true, false, _||_};
+ghost use mathlib.Core.Bool.{true, false};
 ghost use Prim.Native.Nat.{_+_, _≤_};
 ghost use lib.ListN.{length, take, drop, getD};
 ghost use Rattle.code.specs.Definitions.Sheets.{isDigit, valueOf, badBytes, body};
@@ -70,12 +71,6 @@ fn now_cr(cr: bool, b: u8) -> bool
         return false;
     }
     b == 13
-}
-
-pub fn or(a: bool, b: bool) -> bool
-    ensures { λ r. ⌜ r ≡ (a || b) ⌝ }
-{
-    if a { true } else { b }
 }
 
 // How long the file is without a final CR LF.

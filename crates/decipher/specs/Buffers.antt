@@ -7,7 +7,7 @@ use lib.Dec.{ltb}
 use Rattle.code.specs.Definitions.Operations.{verdictRoom}
 use Rattle.code.specs.Definitions.Sheets.{limits}
 use Rattle.code.specs.Laws.Buffers.{long-enough}
-use Rattle.well_formed.specs.Exactly.{Exactly, exactly-iff, exactly-lt}
+use Rattle.code.specs.Laws.Exactly.{Exactly, exactly-iff, exactly-lt}
 
 -- the entries of the working buffer: one for each place with each place
 abbrev pub marksRoom : ℕ

@@ -13,7 +13,7 @@ use Rattle.code.specs.declared.Verdict.{Verdict}
 use Rattle.code.specs.Definitions.Enlarged.{originalTable}
 use Rattle.code.specs.Definitions.Operations.{FromLists, Judges, refused, judged}
 use Rattle.code.specs.Definitions.Sheets.{limits}
-use Rattle.well_formed.specs.Exactly.{Exactly}
+use Rattle.code.specs.Laws.Exactly.{Exactly}
 use Rattle.decipher.specs.Buffers.{Short}
 use Rattle.decipher.specs.Decided.{Decided}
 

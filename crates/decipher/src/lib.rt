@@ -15,7 +15,7 @@ ghost use Rattle.code.specs.Definitions.Enlarged.{originalTable};
 ghost use Rattle.code.specs.Definitions.Operations.{zeroed, Judges};
 ghost use Rattle.code.specs.Definitions.Sheets.{limits};
 ghost use Rattle.well_enlarged.specs.WellEnlarged.{WellEnlarged};
-ghost use Rattle.well_formed.specs.Exactly.{Exactly};
+ghost use Rattle.code.specs.Laws.Exactly.{Exactly};
 ghost use Rattle.decipher.specs.Buffers.{marksRoom, Short, Room};
 ghost use Rattle.decipher.specs.Decided.{Decided};
 ghost use Rattle.decipher.specs.Lent.{Searchable};

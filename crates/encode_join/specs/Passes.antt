@@ -11,9 +11,9 @@ use Rattle.code.specs.declared.Limits.{Limits}
 use Rattle.code.specs.Definitions.Tables.{symbolsOf, noWord, tableOf}
 use Rattle.code.specs.Definitions.Operations.{written}
 use Rattle.copying.specs.Copies.{paste-behind}
-use Rattle.well_formed.specs.WellFormed.{WordFits, WellFormed}
+use Rattle.code.specs.Laws.WellFormed.{WordFits, WellFormed}
 use Rattle.encode_join.specs.Messages.{messageOf, message-more, message-all, message-part}
-use Rattle.well_formed.specs.Words.{word-symbols, word-length}
+use Rattle.code.specs.Laws.Words.{word-symbols, word-length}
 
 -- Each of the first i entries of s is below n.
 abbrev pub WordsBelow : ℕ → List ℕ → ℕ → Type 0

@@ -14,7 +14,7 @@ use Rattle.code.specs.Definitions.Enlarged.{originalTable}
 use Rattle.code.specs.Definitions.Operations.{HasUnknown}
 use Rattle.well_enlarged.specs.WellEnlarged.{WellEnlarged}
 use Rattle.well_enlarged.specs.Back.{original-size}
-use Rattle.well_formed.specs.Exactly.{Exactly, exactly-true, exactly-false}
+use Rattle.code.specs.Laws.Exactly.{Exactly, exactly-true, exactly-false}
 use Rattle.encode_join.specs.Messages.{messageOf}
 use Rattle.encode_join.specs.Passes.{WordsBelow, Known}
 

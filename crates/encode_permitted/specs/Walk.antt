@@ -17,8 +17,8 @@ use Rattle.code.specs.Definitions.Enlarged.{copiesIn, originalTable}
 use Rattle.code.specs.Definitions.Operations.{HasForbidden, opening, pair, triple}
 use Rattle.well_enlarged.specs.Back.{original-size}
 use Rattle.well_enlarged.specs.Meaning.{Covers, value-covers}
-use Rattle.well_formed.specs.Exactly.{Exactly, exactly-true, exactly-false}
-use Rattle.well_formed.specs.Words.{size-count}
+use Rattle.code.specs.Laws.Exactly.{Exactly, exactly-true, exactly-false}
+use Rattle.code.specs.Laws.Words.{size-count}
 use Rattle.encode_permitted.specs.Originals.{Original}
 
 -- the number of the word x after the word y

@@ -6,7 +6,7 @@ ghost use Rattle.code.specs.Definitions.Enlarged.{originalTable};
 ghost use Rattle.code.specs.Definitions.Operations.{HasUnknown, HasForbidden};
 ghost use Rattle.code.specs.Definitions.Sheets.{limits};
 ghost use Rattle.well_enlarged.specs.WellEnlarged.{WellEnlarged};
-ghost use Rattle.well_formed.specs.Exactly.{Exactly};
+ghost use Rattle.code.specs.Laws.Exactly.{Exactly};
 ghost use Rattle.encode_permitted.specs.Originals.{Original};
 
 // Refusal 9: some entry is no original word's number.

@@ -14,7 +14,7 @@ use Rattle.code.specs.declared.Encoding.the-variants.{Encoded, Refused}
 use Rattle.code.specs.Definitions.Tables.{message}
 use Rattle.code.specs.Definitions.Enlarged.{originalTable}
 use Rattle.code.specs.Definitions.Operations.{FromLists, HasUnknown, HasForbidden, written, Encodes, refused, encoded}
-use Rattle.well_formed.specs.Exactly.{Exactly}
+use Rattle.code.specs.Laws.Exactly.{Exactly}
 use Rattle.well_enlarged.specs.WellEnlarged.{WellEnlarged}
 use Rattle.well_enlarged.specs.Listed.{from-lists}
 use Rattle.encode_join.specs.Messages.{messageOf}

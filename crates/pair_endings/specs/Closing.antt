@@ -11,9 +11,9 @@ use lib.Dec.{eqb}
 use lib.ListN.{length, getD, set, length-set}
 use Rattle.code.specs.Definitions.Lists.{if_then_else_}
 use Rattle.code.specs.Definitions.Sheets.{limits}
-use Rattle.graph.specs.Cells.{total, total-set, on-set}
+use Rattle.code.specs.Laws.Cells.{total, total-set, on-set}
 use Rattle.pair_places.specs.Flat.{wordCount, atStart, mayCome}
-use Rattle.well_formed.specs.Exactly.{Exactly, exactly-true, exactly-false}
+use Rattle.code.specs.Laws.Exactly.{Exactly, exactly-true, exactly-false}
 
 -- Word x may begin, or may follow a marked word.
 pub data Comes (f ms : List ℕ) (x : ℕ) : Type 0 where

@@ -10,7 +10,7 @@ use lib.Seq.{paste, getD-set-same, getD-set-other}
 use borrow.Author.Tests.{eqb-true, eqb-false, eq-eqb, ne-eqb}
 use Rattle.code.specs.Definitions.Sheets.{limits}
 use Rattle.code.specs.Definitions.Tables.{Table, size}
-use Rattle.graph.specs.Cells.{zeros}
+use Rattle.code.specs.Laws.Cells.{zeros}
 use Rattle.pair_places.specs.Bases.{base-before}
 use Rattle.pair_places.specs.Flat.{ownerAt, firstAt, wordCount, placeCount, Laid}
 use Rattle.pair_places.specs.Lays.{base, LaysWord}

@@ -8,7 +8,7 @@ use native.Mathlib.Omega.{arith}
 use lib.ListN.{length, getD, set, length-set}
 use lib.Seq.{getD-set-same, getD-set-other}
 use Rattle.graph.specs.Graph.{Graph}
-use Rattle.graph.specs.Cells.{on-set, on-push, total, total-set}
+use Rattle.code.specs.Laws.Cells.{on-set, on-push, total, total-set}
 use Rattle.pair_storage.specs.Entries.{nodeIn, nodeAt, aboveAt}
 use Rattle.pair_storage.specs.Fields.{aboveIn}
 use Rattle.pair_groups.specs.Links.{Link, link-node}

@@ -7,7 +7,7 @@ use Prim.Native.Nat.{ℕ, _+_, _≤_, _<_}
 use native.Mathlib.Decide.{ℕ-discrete}
 use native.Mathlib.Omega.{arith}
 use lib.ListN.{length, getD, set, length-set}
-use Rattle.graph.specs.Cells.{on-set, inside, total, total-set}
+use Rattle.code.specs.Laws.Cells.{on-set, inside, total, total-set}
 use Rattle.pair_places.specs.Flat.{Laid, placeCount, cellCount, pairCount, lower, higher}
 use Rattle.pair_places.specs.Opens.{openGraph}
 use Rattle.pair_places.specs.Roots.{Numbered}

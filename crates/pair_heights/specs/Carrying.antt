@@ -6,7 +6,7 @@ use lib.ListN.{getD}
 use Rattle.pair_places.specs.declared.Pair.{Pair}
 use Rattle.pair_places.specs.Flat.{Laid, placeCount, cellCount, pairGraph}
 use Rattle.pair_places.specs.Nodes.{low-inside}
-use Rattle.graph.specs.Cells.{inside}
+use Rattle.code.specs.Laws.Cells.{inside}
 use Rattle.pair_storage.specs.Fields.{Carries}
 use Rattle.pair_storage.specs.Entries.{held, nodeAt, PairOf, carried}
 use Rattle.pair_storage.specs.Stores.{markOf}

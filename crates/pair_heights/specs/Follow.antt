@@ -9,7 +9,7 @@ use Rattle.pair_places.specs.declared.Pair.{Pair}
 use Rattle.pair_places.specs.Flat.{placeCount, slotsOf, arcFrom, pairGraph}
 use Rattle.pair_places.specs.Nodes.{slots-few, cell-inside, cell-outside, cells-most}
 use Rattle.pair_places.specs.Steps.{pairCell, Arrives}
-use Rattle.graph.specs.Cells.{total-le}
+use Rattle.code.specs.Laws.Cells.{total-le}
 use Rattle.pair_storage.specs.Fields.{pairRoom}
 use Rattle.pair_storage.specs.Entries.{held, entryOf, node-entry, above-entry, length-held}
 use Rattle.pair_storage.specs.Marks.{marks}

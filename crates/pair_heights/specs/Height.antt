@@ -7,7 +7,7 @@ use native.Mathlib.Omega.{arith}
 use lib.ListN.{length, getD, set}
 use lib.Seq.{getD-set-same, getD-set-other}
 use Rattle.graph.specs.Graph.{Graph}
-use Rattle.graph.specs.Cells.{total}
+use Rattle.code.specs.Laws.Cells.{total}
 use Rattle.graph.specs.Heights.{HeightUpTo, up-to-none}
 use Rattle.pair_storage.specs.Fields.{aboveIn}
 use Rattle.pair_storage.specs.Entries.{nodeIn}

@@ -9,7 +9,7 @@ use Rattle.pair_places.specs.declared.Pair.{Pair}
 use Rattle.pair_places.specs.Flat.{Laid, placeCount, cellCount, pairGraph}
 use Rattle.pair_places.specs.Nodes.{cells-most}
 use Rattle.pair_places.specs.Steps.{pairCell}
-use Rattle.graph.specs.Cells.{total-le}
+use Rattle.code.specs.Laws.Cells.{total-le}
 use Rattle.graph.specs.Graph.{Endless}
 use Rattle.pair_storage.specs.Fields.{markRoom, Carries}
 use Rattle.pair_storage.specs.Entries.{held, aboveAt, links, length-held, above-held}

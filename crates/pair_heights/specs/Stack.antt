@@ -7,7 +7,7 @@ use native.Mathlib.Omega.{arith}
 use lib.ListN.{length, getD, set}
 use lib.Seq.{getD-set-same, getD-set-other}
 use Rattle.graph.specs.Graph.{Graph, Edge}
-use Rattle.graph.specs.Cells.{on-set, on-push, total, total-set}
+use Rattle.code.specs.Laws.Cells.{on-set, on-push, total, total-set}
 use Rattle.graph.specs.Paths.{PathFrom, here, along}
 use Rattle.pair_storage.specs.Entries.{nodeIn, nodeAt}
 use Rattle.pair_heights.specs.Marks.{OnStack, Finished, stacked, stacked-one, stacked-zero, stacked-finished}

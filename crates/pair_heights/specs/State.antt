@@ -7,7 +7,7 @@ use native.Mathlib.Decide.{decLt}
 use native.Mathlib.Omega.{arith}
 use lib.ListN.{length, getD, set, length-set}
 use Rattle.graph.specs.Graph.{Graph}
-use Rattle.graph.specs.Cells.{on-push, inside, total-set, total-le}
+use Rattle.code.specs.Laws.Cells.{on-push, inside, total-set, total-le}
 use Rattle.graph.specs.Paths.{Reached, reached-root}
 use Rattle.pair_storage.specs.Fields.{aboveIn}
 use Rattle.pair_storage.specs.Entries.{nodeIn, nodeAt}

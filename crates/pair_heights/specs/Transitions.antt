@@ -6,7 +6,7 @@ use native.Mathlib.Omega.{arith}
 use lib.ListN.{length, getD, set, length-set}
 use lib.Seq.{getD-set-other, set-getD}
 use Rattle.graph.specs.Graph.{Graph, Edge, Endless}
-use Rattle.graph.specs.Cells.{on-set, on-push, total, total-set}
+use Rattle.code.specs.Laws.Cells.{on-set, on-push, total, total-set}
 use Rattle.graph.specs.Paths.{reached-edge, endless}
 use Rattle.graph.specs.Heights.{HeightUpTo, up-to-nowhere, up-to-edge, up-to-all}
 use Rattle.pair_storage.specs.Fields.{aboveIn}

@@ -4,7 +4,7 @@ use Prim.Native.Nat.{ℕ, _≤_, _<_}
 use native.Mathlib.Decide.{decLt}
 use native.Mathlib.Omega.{arith}
 use lib.ListN.{getD}
-use Rattle.graph.specs.Cells.{total}
+use Rattle.code.specs.Laws.Cells.{total}
 use Rattle.pair_places.specs.Flat.{Laid, placeCount, cellCount, pairCount, pairGraph}
 use Rattle.pair_places.specs.Roots.{Numbered, reach-pair}
 use Rattle.pair_places.specs.Triangle.{ordered, ordered-one, pairs-most}

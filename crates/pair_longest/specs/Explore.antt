@@ -10,7 +10,7 @@ use Rattle.pair_places.specs.declared.Pair.{Pair}
 use Rattle.pair_places.specs.Flat.{cellCount, pairGraph}
 use Rattle.pair_places.specs.Nodes.{cell-inside, cells-most}
 use Rattle.pair_places.specs.Steps.{pairCell}
-use Rattle.graph.specs.Cells.{total}
+use Rattle.code.specs.Laws.Cells.{total}
 use Rattle.graph.specs.Heights.{Height}
 use Rattle.pair_longest.specs.declared.Extent.the-variants.{Finite, Unbounded}
 use Rattle.pair_heights.specs.declared.Progress.{Progress}

@@ -7,7 +7,7 @@ use lib.ListN.{length, replicate, length-replicate}
 use Rattle.pair_places.specs.Flat.{Laid, wordCount, cellCount, pairCount, pairGraph}
 use Rattle.pair_places.specs.Roots.{Numbered}
 use Rattle.graph.specs.Graph.{Graph, Longest}
-use Rattle.graph.specs.Cells.{zeros}
+use Rattle.code.specs.Laws.Cells.{zeros}
 use Rattle.pair_longest.specs.declared.Extent.{Extent}
 use Rattle.pair_longest.specs.declared.Extent.the-variants.{Finite}
 use Rattle.pair_longest.specs.Answer.{Answer, finite}

@@ -11,8 +11,8 @@ use Rattle.code.specs.Definitions.Lists.{table, sum}
 use Rattle.code.specs.Definitions.Sheets.{limits}
 use Rattle.code.specs.Definitions.Tables.{size, word, noWord, noRow, tableOf}
 use Rattle.code.specs.Laws.Lists.{table-same, sum-past}
-use Rattle.well_formed.specs.WellFormed.{lenOf, WellFormed}
-use Rattle.well_formed.specs.Words.{size-count, word-symbols, word-length}
+use Rattle.code.specs.Laws.WellFormed.{lenOf, WellFormed}
+use Rattle.code.specs.Laws.Words.{size-count, word-symbols, word-length}
 use Rattle.pair_places.specs.Bases.{base-more, base-before}
 use Rattle.pair_places.specs.Lays.{lengthOf, base}
 use Rattle.pair_places.specs.Layouts.{LaysTo, Holds, lays-none, lays-more, counted}

@@ -6,7 +6,7 @@ use Prim.Native.Nat.{ℕ, zero, suc, _+_, _*_, _-_, _/_, _≤_, _<_, min, max}
 use native.Mathlib.Nat.{le-trans, suc-mul, zero-mul}
 use native.Mathlib.Omega.{arith}
 use lib.ListN.{length, getD}
-use Rattle.graph.specs.Cells.{total, sumFrom, total-under}
+use Rattle.code.specs.Laws.Cells.{total, sumFrom, total-under}
 use Rattle.pair_theory.specs.Numbering.{upTo, upTo-next, triangle}
 use Rattle.pair_places.specs.Cells.{cellOf, lowOf, highOf, low-cell, high-cell}
 

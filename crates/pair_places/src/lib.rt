@@ -14,7 +14,7 @@ ghost use Rattle.pair_places.specs.Words.{Room, WordLaid};
 ghost use Rattle.pair_places.specs.Whole.{LaidOut};
 ghost use Rattle.code.specs.Definitions.Sheets.{limits};
 ghost use Rattle.code.specs.Definitions.Tables.{tableOf};
-ghost use Rattle.well_formed.specs.WellFormed.{WellFormed};
+ghost use Rattle.code.specs.Laws.WellFormed.{WellFormed};
 
 // Where each part of the flat list starts. The symbols of the places come first.
 pub struct Layout {}

@@ -6,7 +6,7 @@ use native.Mathlib.Numerals.{add-one}
 use native.Mathlib.Omega.{arith}
 use lib.ListN.{length, getD, drop, set, replicate, length-set, length-reverse, length-replicate}
 use lib.Seq.{drop-cons, drop-set-lt, getD-set-same}
-use Rattle.graph.specs.Cells.{zeros}
+use Rattle.code.specs.Laws.Cells.{zeros}
 use Rattle.graph.specs.Goals.{NoGoal}
 use Rattle.graph.specs.Graph.{Graph}
 use Rattle.pair_places.specs.declared.Pair.{Pair}

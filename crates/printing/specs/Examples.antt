@@ -8,7 +8,7 @@ use Rattle.code.specs.declared.Refusal.the-variants.{RecordCount, NoReading}
 use Rattle.code.specs.declared.Verdict.the-variants.{Ambiguous as Two-ways, Finite, Unbounded}
 use Rattle.code.specs.declared.Judgement.the-variants.{Judged, Refused as Not-judged}
 use Rattle.code.specs.Definitions.Lists.{join}
-use Rattle.well_formed.specs.Digits.{digitOf}
+use Rattle.csv.specs.Digits.{digitOf}
 use Rattle.printing.specs.Printed.{places, printed}
 
 abbrev symbols : ℕ → SymbolCount

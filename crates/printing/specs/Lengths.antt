@@ -5,7 +5,7 @@ use Prim.Native.Nat.{ℕ, suc, _+_, _*_, _^_, _≤_, _<_}
 use native.Mathlib.Omega.{arith}
 use lib.ListN.{length, getD, length-append}
 use Rattle.code.specs.Definitions.Lists.{sum, join}
-use Rattle.well_formed.specs.Join.{length-join}
+use Rattle.csv.specs.Join.{length-join}
 use Rattle.printing.specs.Printed.{decimal, recordOf}
 use Rattle.printing.specs.Decimals.{places-most, length-decimal}
 

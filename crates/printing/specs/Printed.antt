@@ -8,7 +8,7 @@ use Rattle.code.specs.declared.Judgement.{Judgement}
 use Rattle.code.specs.declared.Judgement.the-variants.{Judged, Refused as Not-judged}
 use Rattle.code.specs.Definitions.Lists.{if_then_else_, join}
 use Rattle.code.specs.Definitions.Answers.{refusalNumber}
-use Rattle.well_formed.specs.Digits.{digitOf}
+use Rattle.csv.specs.Digits.{digitOf}
 
 -- How many decimal digits n has: one more for each division by ten that leaves something, and k divisions are tried. Decimals shows that n divisions
 -- are enough, and that no fewer digits hold n.

@@ -10,7 +10,7 @@ use Rattle.code.specs.declared.WordCount.{WordCount}
 use Rattle.code.specs.declared.Verdict.the-variants.{Ambiguous as Two-ways}
 use Rattle.code.specs.declared.Judgement.the-variants.{Judged}
 use Rattle.code.specs.Definitions.Lists.{join}
-use Rattle.well_formed.specs.Digits.{digitOf}
+use Rattle.csv.specs.Digits.{digitOf}
 use Rattle.printing.specs.Printed.{decimal, recordOf, ambiguous}
 use Rattle.printing.specs.Lengths.{length-pair, decimal-word}
 use Rattle.writing.specs.Puts.{Puts, Starts, puts-then, puts-length, starts}

@@ -7,7 +7,7 @@ use native.Mathlib.Omega.{arith}
 use lib.Dec.{leb}
 use lib.ListN.{length, take}
 use Rattle.code.specs.declared.Judgement.{Judgement}
-use Rattle.well_formed.specs.Exactly.{Exactly, exactly-false, exactly-iff, exactly-le}
+use Rattle.code.specs.Laws.Exactly.{Exactly, exactly-false, exactly-iff, exactly-le}
 use Rattle.printing.specs.declared.Lengths.{Lengths}
 use Rattle.printing.specs.Prints.{lengthsOf, needed, Symbols, Printable}
 

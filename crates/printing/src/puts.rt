@@ -7,7 +7,7 @@ ghost use mathlib.Core.List.{map};
 ghost use Prim.Native.Nat.{_+_, _*_, _≤_, _<_};
 ghost use lib.ListN.{length};
 ghost use Rattle.code.specs.Definitions.Lists.{join};
-ghost use Rattle.well_formed.specs.Digits.{digitOf};
+ghost use Rattle.csv.specs.Digits.{digitOf};
 ghost use Rattle.printing.specs.Printed.{decimal, recordOf};
 ghost use Rattle.writing.specs.Puts.{Puts};
 ghost use Rattle.writing.specs.Fields.{following};

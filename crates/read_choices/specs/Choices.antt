@@ -9,7 +9,7 @@ use native.Mathlib.Omega.{arith}
 use borrow.Author.Tests.{lt-ltb, le-ltb}
 use lib.Dec.{ltb}
 use lib.ListN.{length, getD}
-use Rattle.well_formed.specs.Exactly.{Exactly, exactly-true, exactly-false}
+use Rattle.code.specs.Laws.Exactly.{Exactly, exactly-true, exactly-false}
 use Rattle.bits.specs.Lowest.{LowestOf, lowest-in, lowest-between}
 use Rattle.bits.specs.Bits.{width, bit-out}
 use Rattle.read_sets.specs.Sets.{mayAfter}

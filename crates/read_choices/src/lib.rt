@@ -3,7 +3,7 @@
 use bits::has;
 use bits::lowest;
 ghost use Prim.Native.Nat.{_≤_};
-ghost use Rattle.well_formed.specs.Exactly.{Exactly};
+ghost use Rattle.code.specs.Laws.Exactly.{Exactly};
 ghost use Rattle.read_choices.specs.Choices.{Asks, Sought, Continues};
 
 // The least word from `from` on that is marked at `pos` and may come after `y`, or `n`.

@@ -9,7 +9,7 @@ ghost use Prim.Native.Nat.{_+_, _^_, _≤_, _<_};
 ghost use lib.ListN.{length};
 ghost use Rattle.code.specs.Definitions.Sheets.{limits};
 ghost use Rattle.code.specs.Definitions.Tables.{tableOf};
-ghost use Rattle.well_formed.specs.WellFormed.{WellFormed};
+ghost use Rattle.code.specs.Laws.WellFormed.{WellFormed};
 ghost use Rattle.read_sets.specs.Sets.{SetsOf};
 ghost use Rattle.read_core.specs.Core.{ReadsSets, FindsAll};
 

@@ -10,8 +10,8 @@ use lib.Bits.{bitAnd, bitOr}
 use lib.ListN.{length, getD, set, replicate, length-set, List·getD-eq-default}
 use lib.Pow.{pow-pos}
 use lib.Seq.{getD-set-same}
-use Rattle.graph.specs.Cells.{on-set, zeros}
-use Rattle.well_formed.specs.Exactly.{Exactly, exactly-true, exactly-false, exactly-iff, exactly-on, exactly-itself}
+use Rattle.code.specs.Laws.Cells.{on-set, zeros}
+use Rattle.code.specs.Laws.Exactly.{Exactly, exactly-true, exactly-false, exactly-iff, exactly-on, exactly-itself}
 use Rattle.bits.specs.Bits.{bitOf, width, bit-none, bit-all, bit-below}
 use Rattle.bits.specs.Sets.{exactly-meet, exactly-join}
 use Rattle.bits.specs.Unions.{Within, UnionOf}

@@ -12,8 +12,8 @@ use Rattle.code.specs.declared.Code.{Code}
 use Rattle.code.specs.declared.Row.{Row}
 use Rattle.code.specs.Definitions.Tables.{noRow}
 use Rattle.code.specs.Definitions.Sheets.{limits}
-use Rattle.graph.specs.Cells.{on-push}
-use Rattle.well_formed.specs.Exactly.{Exactly, exactly-iff, exactly-same, exactly-eq}
+use Rattle.code.specs.Laws.Cells.{on-push}
+use Rattle.code.specs.Laws.Exactly.{Exactly, exactly-iff, exactly-same, exactly-eq}
 use Rattle.bits.specs.Bits.{bitOf, width, bit-digit}
 use Rattle.bits.specs.Sets.{exactly-join}
 

@@ -13,7 +13,7 @@ use Rattle.code.specs.Definitions.Lists.{if_then_else_}
 use Rattle.code.specs.Definitions.Sheets.{limits}
 use Rattle.code.specs.Definitions.Tables.{Table, size, word}
 use Rattle.code.specs.Laws.Sequences.{Free}
-use Rattle.well_formed.specs.Exactly.{Exactly}
+use Rattle.code.specs.Laws.Exactly.{Exactly}
 use Rattle.bits.specs.Bits.{bitOf, width}
 
 -- Symbols are below this number.

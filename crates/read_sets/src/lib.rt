@@ -10,7 +10,7 @@ ghost use Prim.Native.Nat.{_≤_, _<_};
 ghost use lib.ListN.{length, replicate};
 ghost use Rattle.code.specs.Definitions.Tables.{tableOf};
 ghost use Rattle.code.specs.Definitions.Sheets.{limits};
-ghost use Rattle.well_formed.specs.WellFormed.{CellsFit, WellFormed};
+ghost use Rattle.code.specs.Laws.WellFormed.{CellsFit, WellFormed};
 ghost use Rattle.bits.specs.Bits.{width};
 ghost use Rattle.read_sets.specs.Sets.{alphabet, symbolSets, blockOf, Lays};
 ghost use Rattle.read_sets.specs.Words.{Spread, LaidWords};

@@ -5,7 +5,7 @@ use mathlib.Core.List.{List, _∷_}
 use Prim.Native.Nat.{ℕ, _+_, _<_}
 use native.Mathlib.Omega.{arith}
 use lib.ListN.{length}
-use Rattle.well_formed.specs.Exactly.{exactly-on}
+use Rattle.code.specs.Laws.Exactly.{exactly-on}
 use Rattle.read_sets.specs.Sets.{lengthAt, mayAfter, SetsOf}
 use Rattle.read_marks.specs.Text.{Text, Bounded, From, done, word, Begins}
 use Rattle.read_marks.specs.Marks.{markAt, Marked}

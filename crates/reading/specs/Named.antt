@@ -28,8 +28,8 @@ use Rattle.read_core.specs.Core.{Finds, unreadable, one, two, FindsAll}
 use Rattle.read_core.specs.Counts.{firstCount, secondCount, reads-within}
 use Rattle.renumbering.specs.Origins.{Origins, ByOrigin}
 use Rattle.renumbering.specs.Renumberings.{number-in, renumbered-fits, renumbered-agrees}
-use Rattle.well_formed.specs.WellFormed.{WellFormed}
-use Rattle.well_formed.specs.Words.{size-count}
+use Rattle.code.specs.Laws.WellFormed.{WellFormed}
+use Rattle.code.specs.Laws.Words.{size-count}
 
 -- A buffer whose first n words have their names.
 abbrev pub renamed : List ℕ → ℕ → List ℕ → List ℕ

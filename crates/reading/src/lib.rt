@@ -11,7 +11,7 @@ use named::find_named;
 use well_enlarged::well_enlarged;
 ghost use Rattle.code.specs.Definitions.Sheets.{limits};
 ghost use Rattle.code.specs.Definitions.Operations.{HasHigh, ReadsMessage};
-ghost use Rattle.well_formed.specs.Exactly.{Exactly};
+ghost use Rattle.code.specs.Laws.Exactly.{Exactly};
 ghost use Rattle.reading.specs.Public.{Short};
 
 // Whether some symbol of the message is above 15.

@@ -10,7 +10,7 @@ use lib.ListN.{length, getD, set, length-set}
 use lib.Seq.{getD-set-same, getD-set-other}
 use Rattle.code.specs.Definitions.Lists.{if_then_else_}
 use Rattle.code.specs.Laws.Lists.{sum-bound}
-use Rattle.graph.specs.Cells.{on-push}
+use Rattle.code.specs.Laws.Cells.{on-push}
 use Rattle.renumbering.specs.Sums.{sumOf, sum-none, sum-ones, sum-same, sum-add, only, sum-only}
 
 -- x stands among the first n numbers of a list.

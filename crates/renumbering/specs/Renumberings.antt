@@ -17,8 +17,8 @@ use Rattle.code.specs.Definitions.Renumbering.{numberAt, oldNumber, reordered, 
 use Rattle.code.specs.Laws.Lists.{length-table, getD-table, getD-table-past}
 use Rattle.ban_theory.specs.CoversSame.{Agrees}
 use Rattle.ban_theory.specs.Renumbered.{Order, renumbered}
-use Rattle.well_formed.specs.WellFormed.{CellsFit, lenOf, WordFits, RowFits, WellFormed}
-use Rattle.well_formed.specs.Words.{size-count, word-symbols}
+use Rattle.code.specs.Laws.WellFormed.{CellsFit, lenOf, WordFits, RowFits, WellFormed}
+use Rattle.code.specs.Laws.Words.{size-count, word-symbols}
 use Rattle.renumbering.specs.Sums.{sumOf, sum-same, sum-order}
 
 module _ (n : ℕ) (number : ℕ → ℕ) where

@@ -13,7 +13,7 @@ use Rattle.code.specs.Definitions.Tables.{noWord, noRow}
 use Rattle.code.specs.Definitions.Renumbering.{oldNumber, reordered, reorderedRow, renumberedCode}
 use Rattle.code.specs.Laws.Lists.{table-list}
 use Rattle.code.specs.Laws.Filling.{fill-next, fill-rest}
-use Rattle.well_formed.specs.WellFormed.{RowFits}
+use Rattle.code.specs.Laws.WellFormed.{RowFits}
 use Rattle.renumbering.specs.Renumberings.{number-in, number-past}
 
 -- The first n entries of the list are numbers of words.

@@ -12,7 +12,7 @@ ghost use Rattle.code.specs.Definitions.Lists.{table};
 ghost use Rattle.code.specs.Definitions.Tables.{noWord, noRow};
 ghost use Rattle.code.specs.Definitions.Sheets.{limits};
 ghost use Rattle.code.specs.Definitions.Renumbering.{reordered, reorderedRow, renumberedCode};
-ghost use Rattle.well_formed.specs.WellFormed.{RowFits, WellFormed};
+ghost use Rattle.code.specs.Laws.WellFormed.{RowFits, WellFormed};
 ghost use Rattle.renumbering.specs.Reordering.{Known, rowFrom};
 
 // An array of numbers, of which the first n are put in the order of the list.

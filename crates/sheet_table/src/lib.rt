@@ -1,39 +1,24 @@
-// The table of an accepted sheet, built in one pass from record to record; and the blank table, from which it begins.
+// The table of an accepted sheet, built in one pass from record to record, from the blank table on.
 
 use code::Code;
 use code::Row;
 use code::Word;
+use code::blanks::blank_code;
+use code::blanks::blank_row;
+use code::blanks::blank_word;
 use csv::byte_at;
 use csv::field_end;
 use csv::value_of;
 ghost use mathlib.Core.Path.{_≡_};
-ghost use mathlib.Core.List.{[]};
 ghost use Prim.Native.Nat.{_+_, _≤_};
 ghost use lib.ListN.{length, drop};
-ghost use Rattle.code.specs.Definitions.Sheets.{limits, hasStarts, wordOf, rowOf, codeOf, blankCode};
+ghost use Rattle.code.specs.Definitions.Sheets.{limits, hasStarts, wordOf, codeOf};
 ghost use Rattle.code.specs.Definitions.Lists.{table};
 ghost use Rattle.code.specs.Laws.Clean.{Clean, recordFields};
 ghost use Rattle.code.specs.Laws.Fits.{Fits};
 ghost use Rattle.csv.specs.Fields.{leading};
 ghost use Rattle.sheet_table.specs.Standing.{rowStart, markAt};
 ghost use Rattle.sheet_table.specs.Building.{RowAt, rowByte};
-
-fn blank_word() -> Word
-    ensures { λ r. ⌜ r ≡ wordOf limits [] ⌝ }
-{
-    Word {
-        symbols: [0; Word::SYMBOLS],
-        len: 0,
-    }
-}
-
-fn blank_row() -> Row
-    ensures { λ r. ⌜ r ≡ rowOf limits 1 [] ⌝ }
-{
-    Row {
-        entries: [0; Code::WORDS],
-    }
-}
 
 // The word whose digits stand from `at` up to e.
 fn read_word(s: &[u8], at: usize, e: usize) -> Word
@@ -84,20 +69,6 @@ fn row_start(e: usize, starts: bool) -> usize
     ensures { λ r. ⌜ (r ≡ rowStart e starts) × (r ≤ e + 3) ⌝ }
 {
     if starts { e + 3 } else { e + 1 }
-}
-
-// No words, and all zero.
-pub fn blank_code() -> Code
-    ensures { λ r. ⌜ r ≡ blankCode limits ⌝ }
-{
-    let words = [blank_word(); Code::WORDS];
-    let rows = [blank_row(); Code::WORDS];
-    Code {
-        words: words,
-        rows: rows,
-        begins: [0; Code::WORDS],
-        count: 0,
-    }
 }
 
 // The table of n records, with start fields or without.

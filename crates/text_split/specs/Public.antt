@@ -18,8 +18,8 @@ use Rattle.code.specs.Definitions.Splitting.{SplitsText, refused, split}
 use Rattle.code.specs.Definitions.Tables.{tableOf}
 use Rattle.well_enlarged.specs.Listed.{from-lists}
 use Rattle.well_enlarged.specs.Meaning.{value-covers}
-use Rattle.well_formed.specs.Exactly.{Exactly}
-use Rattle.well_formed.specs.WellFormed.{WellFormed}
+use Rattle.code.specs.Laws.Exactly.{Exactly}
+use Rattle.code.specs.Laws.WellFormed.{WellFormed}
 use Rattle.text_theory.specs.Named.{named-splits}
 use Rattle.text_words.specs.Outputs.{SplitsInto}
 use Rattle.text_words.specs.Rooms.{Rooms}

@@ -8,7 +8,7 @@ use lib.ListN.{length}
 use Rattle.code.specs.Definitions.Sheets.{limits}
 use Rattle.code.specs.Laws.Buffers.{long-enough}
 use Rattle.text_words.specs.Rooms.{Rooms}
-use Rattle.well_formed.specs.Exactly.{Exactly, exactly-iff, exactly-le}
+use Rattle.code.specs.Laws.Exactly.{Exactly, exactly-iff, exactly-le}
 
 -- 13: a buffer is shorter than splitting n bytes needs. The five numbers are the lengths of the output buffer, the message buffer, the reading buffers and the
 -- working buffer.

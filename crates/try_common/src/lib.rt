@@ -5,7 +5,7 @@ pub mod tables;
 
 use streams::Input;
 ghost use Rattle.io.specs.Counts.{Counts};
-ghost use Rattle.well_formed.specs.Exactly.{Exactly};
+ghost use Rattle.code.specs.Laws.Exactly.{Exactly};
 ghost use Rattle.try_common.specs.All.{All};
 
 // The bytes of a file, as many as there is room for. Of one that cannot be opened or read the error is told, and it counts as empty.

@@ -3,7 +3,7 @@
 use code::Code;
 use code::Row;
 use code::Word;
-use sheet_table::blank_code;
+use code::blanks::blank_code;
 ghost use mathlib.Core.Path.{_≡_};
 ghost use mathlib.Core.List.{map};
 ghost use Prim.Native.Nat.{_≤_};

@@ -1,9 +1,9 @@
 // The two rules that say which type never follows which, and the row of the follow matrix that they give.
 
 use code::Word;
-use csv::or;
+use code::bools::and;
+use code::bools::or;
 use turkish::Types;
-use well_formed::and;
 ghost use mathlib.Core.Path.{_≡_};
 ghost use mathlib.Core.List.{[]};
 ghost use Prim.Native.Nat.{_<_};

@@ -23,7 +23,7 @@ use Rattle.code.specs.Definitions.Sheets.{limits, body, records, fields, grid, 
 use Rattle.code.specs.Definitions.Tables.{tableOf}
 use Rattle.code.specs.Laws.Sequences.{Plain}
 use Rattle.well_formed.specs.Given.{well}
-use Rattle.well_formed.specs.Digits.{digitOf}
+use Rattle.csv.specs.Digits.{digitOf}
 use Rattle.pair_places.specs.Codes.{code-fits}
 use Rattle.cases.specs.Banned.{checkWith, sound-with}
 use Rattle.cases.specs.Cases.{delay}

@@ -12,7 +12,7 @@ use Rattle.code.specs.Definitions.Sheets.{isDigit, valueOf}
 use Rattle.code.specs.Definitions.ClassSheets.{Range, rangeOf, digits, malformed, differentBytes}
 use Rattle.code.specs.Definitions.Texts.{other}
 use Rattle.code.specs.Laws.Lists.{every-at}
-use Rattle.well_formed.specs.Digits.{value-symbol}
+use Rattle.csv.specs.Digits.{value-symbol}
 
 digit-at : (n : ℕ) (f : List ℕ) → digits n f ≡ true → (k : ℕ) → k < n → valueOf (getD f k 48) < 16
 digit-at n f e k h =

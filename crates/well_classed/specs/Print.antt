@@ -4,8 +4,8 @@ use Prim.Native.Nat.{ℕ, _/_, _%_}
 use lib.ListN.{length, getD}
 use Rattle.code.specs.Definitions.Lists.{table}
 use Rattle.code.specs.Definitions.Texts.{classOf}
-use Rattle.well_formed.specs.Digits.{digitOf}
-use Rattle.well_formed.specs.Sheets.{sheetOf}
+use Rattle.csv.specs.Digits.{digitOf}
+use Rattle.csv.specs.Sheets.{sheetOf}
 
 abbrev byteField : ℕ → List ℕ
 byteField b = digitOf (b / 16) ∷ digitOf (b % 16) ∷ []

@@ -9,7 +9,7 @@ use borrow.Author.Count.{below-more}
 use borrow.Author.Tests.{ltb-false, ne-eqb, eq-eqb}
 use Rattle.code.specs.Definitions.ClassSheets.{Range, takesIn, takers, classBy}
 use Rattle.code.specs.Definitions.Texts.{other, classOf, isLetter}
-use Rattle.well_formed.specs.Exactly.{exactly-iff, exactly-and, exactly-le, exactly-eq, exactly-same}
+use Rattle.code.specs.Laws.Exactly.{exactly-iff, exactly-and, exactly-le, exactly-eq, exactly-same}
 use Rattle.well_classed.specs.Letters.{Letters, none, letter, past}
 
 module _ (c : List ℕ) where

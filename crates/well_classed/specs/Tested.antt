@@ -10,7 +10,7 @@ use Rattle.code.specs.Definitions.Lists.{any}
 use Rattle.code.specs.Definitions.ClassSheets.{differentBytes}
 use Rattle.code.specs.Definitions.Texts.{other, classOf, isLetter, marks}
 use Rattle.code.specs.Laws.Below.{someBelow, Some, some-out, some-in}
-use Rattle.well_formed.specs.Exactly.{Exactly, exactly-iff, exactly-and}
+use Rattle.code.specs.Laws.Exactly.{Exactly, exactly-iff, exactly-and}
 use Rattle.well_classed.specs.WellClassed.{WellClassed}
 
 -- Whether some number below a bound passes a test, and with one number more.

@@ -12,8 +12,8 @@ use Rattle.code.specs.Definitions.Sheets.{isDigit, fields, grid, badBytes}
 use Rattle.code.specs.Definitions.ClassSheets.{rangeOf, rangesOf, malformed, differentBytes}
 use Rattle.code.specs.Definitions.Texts.{other, classOf, isLetter}
 use Rattle.code.specs.Laws.Lists.{length-table, table-same, table-map, map-table, any-table, sum-past, sum-bound}
-use Rattle.well_formed.specs.Digits.{digitOf, value-digit, digit-digit}
-use Rattle.well_formed.specs.Sheets.{recordOf, sheetOf, Digital, digital-table, sheet-bytes, sheet-grid, sheet-some, sheet-length}
+use Rattle.csv.specs.Digits.{digitOf, value-digit, digit-digit}
+use Rattle.csv.specs.Sheets.{recordOf, sheetOf, Digital, digital-table, sheet-bytes, sheet-grid, sheet-some, sheet-length}
 use Rattle.well_classed.specs.Letters.{Letters, letter-at}
 use Rattle.well_classed.specs.Singles.{single}
 use Rattle.well_classed.specs.Print.{fieldsOf, fieldsAt, gridOf, print}

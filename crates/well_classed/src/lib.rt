@@ -1,9 +1,9 @@
 // The part of refusal 8 that is about classes: whether an accepted class sheet gives them.
 
 use code::Classes;
-use csv::or;
+use code::bools::and;
+use code::bools::or;
 use text_runs::is_letter;
-use well_formed::and;
 ghost use mathlib.Core.Path.{_≡_};
 ghost use Prim.Native.Nat.{ℕ, _≤_, _<_};
 ghost use Rattle.code.specs.Definitions.Lists.{any};
@@ -11,7 +11,7 @@ ghost use Rattle.code.specs.Definitions.ClassSheets.{differentBytes, FromClassS
 ghost use Rattle.code.specs.Definitions.Sheets.{limits};
 ghost use Rattle.code.specs.Definitions.Texts.{other, classOf, isLetter, marks};
 ghost use Rattle.code.specs.Laws.Below.{Some};
-ghost use Rattle.well_formed.specs.Exactly.{Exactly};
+ghost use Rattle.code.specs.Laws.Exactly.{Exactly};
 
 // Whether every entry is a symbol or `OTHER`, and some byte is a letter.
 fn entries_fit(classes: &[u8; Classes::BYTES]) -> bool

@@ -23,8 +23,8 @@ use Rattle.ban_theory.specs.Copies.{Serves, comes, may-come, unbanned-word, unb
 use Rattle.ban_theory.specs.BanLists.{Known, known-all, copies-serve}
 use Rattle.ban_theory.specs.Enlargements.{both-ways, Fair, same-matrix}
 use Rattle.ban_theory.specs.Witnesses.{listBans, ListBan, witness-copies, witness-length, witness-out, witness-in}
-use Rattle.well_formed.specs.WellFormed.{lenOf}
-use Rattle.well_formed.specs.Words.{size-count}
+use Rattle.code.specs.Laws.WellFormed.{lenOf}
+use Rattle.code.specs.Laws.Words.{size-count}
 use Rattle.well_formed.specs.Round.{word-is, row-is, code-is}
 use Rattle.well_enlarged.specs.WellEnlarged.{barred, WellEnlarged}
 use Rattle.well_enlarged.specs.Numbers.{count-copies, copy-in, all-numbers, number-at, copy-number, origin-number, numbers-once}

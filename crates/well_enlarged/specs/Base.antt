@@ -17,7 +17,7 @@ use Rattle.code.specs.Definitions.Tables.{noWord, noRow, entryOf, tableOf}
 use Rattle.code.specs.Definitions.Bans.{nextWord}
 use Rattle.code.specs.Definitions.Enlarged.{copiesIn}
 use Rattle.code.specs.Laws.Lists.{length-table, getD-table, sum-bound}
-use Rattle.well_formed.specs.WellFormed.{lenOf, WordFits, RowFits, WellFormed}
+use Rattle.code.specs.Laws.WellFormed.{lenOf, WordFits, RowFits, WellFormed}
 use Rattle.well_enlarged.specs.WellEnlarged.{WellEnlarged}
 use Rattle.well_enlarged.specs.Numbers.{next-within}
 use Rattle.well_enlarged.specs.Made.{table-cell}

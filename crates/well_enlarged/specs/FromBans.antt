@@ -9,7 +9,7 @@ use Rattle.code.specs.declared.Limits.{Limits}
 use Rattle.code.specs.Definitions.Bans.{Ban, bannedBy}
 use Rattle.code.specs.Definitions.Enlarged.{enlargedCode, refused17}
 use Rattle.ban_theory.specs.BanLists.{Known}
-use Rattle.well_formed.specs.WellFormed.{WellFormed}
+use Rattle.code.specs.Laws.WellFormed.{WellFormed}
 
 pub record FromBans (l : Limits) (e : Enlarged) : Type 0 where
   pub base : Code

@@ -23,11 +23,11 @@ use Rattle.code.specs.Definitions.Operations.{Enlarges, refused, enlarged, From
 use Rattle.code.specs.Laws.Lists.{length-table, getD-table, any-at}
 use Rattle.ban_writing.specs.Lists.{print, print-accepted, print-short, bans-back}
 use Rattle.ban_writing.specs.Named.{listed-known, listed-apart}
-use Rattle.well_formed.specs.Exactly.{Exactly, exactly-iff}
+use Rattle.code.specs.Laws.Exactly.{Exactly, exactly-iff}
 use Rattle.well_formed.specs.Given.{well}
 use Rattle.well_formed.specs.Round.{from-sheet}
 use Rattle.well_formed.specs.Written.{Roomy}
-use Rattle.well_formed.specs.WellFormed.{WellFormed}
+use Rattle.code.specs.Laws.WellFormed.{WellFormed}
 use Rattle.well_enlarged.specs.WellEnlarged.{WellEnlarged}
 use Rattle.well_enlarged.specs.FromBans.{FromBans}
 use Rattle.well_enlarged.specs.Made.{from-bans}

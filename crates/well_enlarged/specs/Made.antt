@@ -23,8 +23,8 @@ use Rattle.ban_theory.specs.CopyLists.{origin-word, origin-copy, origin-known, 
 use Rattle.ban_theory.specs.Copies.{Serves, comes, unbanned-copy}
 use Rattle.ban_theory.specs.BanLists.{Known, banned-known, all-copies, copies-serve}
 use Rattle.ban_theory.specs.Enlargements.{Fair, enlarged-fair}
-use Rattle.well_formed.specs.WellFormed.{lenOf, WordFits, RowFits, WellFormed}
-use Rattle.well_formed.specs.Words.{size-count}
+use Rattle.code.specs.Laws.WellFormed.{lenOf, WordFits, RowFits, WellFormed}
+use Rattle.code.specs.Laws.Words.{size-count}
 use Rattle.well_enlarged.specs.WellEnlarged.{NumberFits, Numbered, CopyFits, WellEnlarged}
 use Rattle.well_enlarged.specs.Numbers.{copyIn}
 use Rattle.well_enlarged.specs.FromBans.{FromBans}

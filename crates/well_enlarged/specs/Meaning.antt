@@ -22,8 +22,8 @@ use Rattle.ban_theory.specs.CopyLists.{Once, origin-known}
 use Rattle.ban_theory.specs.Copies.{Serves, enlarged-size, enlarged-covers}
 use Rattle.ban_theory.specs.BanLists.{Known}
 use Rattle.ban_theory.specs.Enlargements.{in-serve}
-use Rattle.well_formed.specs.WellFormed.{WellFormed}
-use Rattle.well_formed.specs.Words.{size-count, word-symbols}
+use Rattle.code.specs.Laws.WellFormed.{WellFormed}
+use Rattle.code.specs.Laws.Words.{size-count, word-symbols}
 use Rattle.well_enlarged.specs.WellEnlarged.{Numbered, WellEnlarged}
 use Rattle.well_enlarged.specs.Numbers.{all-numbers, origin-number}
 use Rattle.well_enlarged.specs.FromBans.{FromBans}

@@ -16,7 +16,7 @@ use Rattle.code.specs.Laws.Filling.{fill-next, fill-rest}
 use Rattle.code.specs.Laws.Lists.{length-table, getD-table}
 use Rattle.ban_theory.specs.CopyLists.{origin-word, origin-copy, next-stands, next-itself}
 use Rattle.ban_theory.specs.Enlargements.{Fair}
-use Rattle.well_formed.specs.WellFormed.{WellFormed}
+use Rattle.code.specs.Laws.WellFormed.{WellFormed}
 use Rattle.well_enlarged.specs.WellEnlarged.{NumberFits, Numbered, WellEnlarged}
 use Rattle.well_enlarged.specs.Numbers.{copyIn}
 

@@ -19,9 +19,9 @@ use Rattle.code.specs.Laws.Below.{Some}
 use Rattle.code.specs.Laws.Lists.{length-table, getD-table, any-table}
 use Rattle.ban_theory.specs.CopyLists.{CopyAt, Once, has-copy, origin-known, next-copy, next-itself, next-stands, copy-index, stands-next}
 use Rattle.ban_theory.specs.Enlargements.{Fair}
-use Rattle.well_formed.specs.Exactly.{Exactly, exactly-true, exactly-false, exactly-iff, exactly-and, exactly-not, exactly-same, exactly-lt, exactly-eq}
+use Rattle.code.specs.Laws.Exactly.{Exactly, exactly-true, exactly-false, exactly-iff, exactly-and, exactly-not, exactly-same, exactly-lt, exactly-eq}
 use Rattle.well_formed.specs.Round.{word-is}
-use Rattle.well_formed.specs.WellFormed.{WellFormed}
+use Rattle.code.specs.Laws.WellFormed.{WellFormed}
 use Rattle.well_enlarged.specs.WellEnlarged.{NumberFits, Numbered, barred, CopyFits, WellEnlarged}
 use Rattle.well_enlarged.specs.Numbers.{count-copies, copy-in, all-numbers, number-at, copy-number, origin-number, next-within, numbers-once}
 use Rattle.well_enlarged.specs.Tests.{numberOf, copiesAt, NumbersFit, Lent, AtOwnPlace, IfCopyFits, CopiesFit, EntryFits, MatrixFits}

@@ -12,8 +12,8 @@ use Rattle.code.specs.Definitions.Bans.{Copy, origin, enlarged}
 use Rattle.code.specs.Laws.Lists.{table-list}
 use Rattle.ban_theory.specs.CopyLists.{origin-known}
 use Rattle.ban_theory.specs.Copies.{Serves, enlarged-size, enlarged-covers}
-use Rattle.well_formed.specs.WellFormed.{lenOf, WellFormed}
-use Rattle.well_formed.specs.Words.{size-count, word-length}
+use Rattle.code.specs.Laws.WellFormed.{lenOf, WellFormed}
+use Rattle.code.specs.Laws.Words.{size-count, word-length}
 
 module _ {l : Limits} {c : Code} (given : WellFormed l c) {cs : List Copy} {b : ℕ → ℕ → ℕ → Bool} (serves : Serves (c .count) cs b) where
   -- The table has as many words as the code counts.

@@ -12,7 +12,7 @@ use Rattle.code.specs.Definitions.Enlarged.{copiesIn}
 use Rattle.code.specs.Laws.Below.{Some}
 use Rattle.ban_theory.specs.CopyLists.{CopyAt}
 use Rattle.ban_theory.specs.Enlargements.{Fair}
-use Rattle.well_formed.specs.WellFormed.{WellFormed}
+use Rattle.code.specs.Laws.WellFormed.{WellFormed}
 
 -- The number x of a code of n words and, up to `count`, copies: it is one of the word `of`, and stands after the word `behind` if it is a copy.
 pub record NumberFits (n count x of behind : ℕ) : Type 0 where

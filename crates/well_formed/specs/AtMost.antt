@@ -15,7 +15,7 @@ use Rattle.code.specs.declared.Limits.{Limits}
 use Rattle.code.specs.Definitions.Lists.{if_then_else_, table}
 use Rattle.code.specs.Laws.Lists.{getD-table}
 use Rattle.code.specs.Laws.Filling.{fill-next, fill-rest}
-use Rattle.well_formed.specs.WellFormed.{CellsFit}
+use Rattle.code.specs.Laws.WellFormed.{CellsFit}
 
 module _ (a m : List ℕ) where
   abbrev pub Under : ℕ → Type 0

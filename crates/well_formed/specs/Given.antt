@@ -19,9 +19,9 @@ use Rattle.code.specs.Laws.Lists.{length-table, getD-table, getD-table-past, ta
 use Rattle.code.specs.Laws.Clean.{clean-body, records-some}
 use Rattle.code.specs.Laws.Fits.{Fits}
 use Rattle.code.specs.Laws.Records.{entry-byte, place-some, wide-at, begins-past, width, bits}
-use Rattle.well_formed.specs.WellFormed.{lenOf, CellsFit, WordFits, RowFits, WellFormed}
+use Rattle.code.specs.Laws.WellFormed.{lenOf, CellsFit, WordFits, RowFits, WellFormed}
 use Rattle.well_formed.specs.Accepts.{accepts}
-use Rattle.well_formed.specs.Digits.{value-symbol, entryValue, first-digits}
+use Rattle.csv.specs.Digits.{value-symbol, entryValue, first-digits}
 
 -- The cells of a table, from the function that it is made of.
 table-cell : (f : ℕ → ℕ) (m p : ℕ) (P : ℕ → Type 0) → P (f p) → P 0 → Dec (p < m) → P (getD (table f m) p 0)

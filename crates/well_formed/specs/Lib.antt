@@ -1,13 +1,7 @@
-pub mod Exactly
-pub mod WellFormed
-pub mod Words
 pub mod AtMost
 pub mod Tested
 pub mod Accepts
-pub mod Digits
 pub mod Given
-pub mod Join
-pub mod Sheets
 pub mod Print
 pub mod Written
 pub mod Round

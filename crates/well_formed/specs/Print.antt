@@ -5,8 +5,8 @@ use lib.ListN.{getD}
 use Rattle.code.specs.declared.Code.{Code}
 use Rattle.code.specs.Definitions.Lists.{table}
 use Rattle.code.specs.Definitions.Tables.{noWord, symbolsOf, entryOf}
-use Rattle.well_formed.specs.Digits.{digitOf}
-use Rattle.well_formed.specs.Sheets.{sheetOf}
+use Rattle.csv.specs.Digits.{digitOf}
+use Rattle.csv.specs.Sheets.{sheetOf}
 
 module _ (c : Code) where
   abbrev pub wordField : ℕ → List ℕ

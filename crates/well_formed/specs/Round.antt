@@ -19,10 +19,10 @@ use Rattle.code.specs.Definitions.Tables.{noWord, noRow, symbolsOf, entryOf}
 use Rattle.code.specs.Definitions.Sheets.{valueOf, firstField, wordLength, hasStarts, rowPlace, badWord, badEntry, badRow, startField, wordOf, rowOf, beginsOf, codeOf, refused3, refused5, taken, FromSheet}
 use Rattle.code.specs.Laws.Lists.{length-table, getD-table, getD-table-past, table-list, table-same, map-table, any-table, every-table}
 use Rattle.code.specs.Laws.Fits.{Fits}
-use Rattle.well_formed.specs.WellFormed.{lenOf, WellFormed}
+use Rattle.code.specs.Laws.WellFormed.{lenOf, WellFormed}
 use Rattle.well_formed.specs.Accepts.{accepted}
 use Rattle.well_formed.specs.Given.{well}
-use Rattle.well_formed.specs.Digits.{entryValue, digitOf, value-digit}
+use Rattle.csv.specs.Digits.{entryValue, digitOf, value-digit}
 use Rattle.well_formed.specs.Print.{wordField, entryField, fieldsOf, gridOf, print}
 use Rattle.well_formed.specs.Written.{Roomy, within, symbol-written, length-word, written-bytes, written-grid, total-used, written-some, written-short}
 

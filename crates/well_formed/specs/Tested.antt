@@ -11,8 +11,8 @@ use Rattle.code.specs.declared.Code.{Code}
 use Rattle.code.specs.declared.Limits.{Limits}
 use Rattle.code.specs.Definitions.Lists.{table, sum}
 use Rattle.code.specs.Laws.Lists.{sum-more}
-use Rattle.well_formed.specs.Exactly.{Exactly, exactly-false, exactly-iff, exactly-and, exactly-lt, exactly-le, exactly-eq}
-use Rattle.well_formed.specs.WellFormed.{lenOf, WordFits, RowFits, RecordAt, WellFormed}
+use Rattle.code.specs.Laws.Exactly.{Exactly, exactly-false, exactly-iff, exactly-and, exactly-lt, exactly-le, exactly-eq}
+use Rattle.code.specs.Laws.WellFormed.{lenOf, WordFits, RowFits, RecordAt, WellFormed}
 use Rattle.well_formed.specs.AtMost.{AtMost, greatest-fit, greatestEntries, greatestSymbols}
 
 module _ (l : Limits) (n : ℕ) where

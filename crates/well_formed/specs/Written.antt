@@ -14,10 +14,10 @@ use Rattle.code.specs.Definitions.Lists.{every, table, sum}
 use Rattle.code.specs.Definitions.Tables.{noWord, symbolsOf, entryOf}
 use Rattle.code.specs.Definitions.Sheets.{isDigit, grid, fields, badBytes}
 use Rattle.code.specs.Laws.Lists.{length-table, map-table, every-all, every-table, sum-past, sum-bound}
-use Rattle.well_formed.specs.WellFormed.{lenOf, WellFormed}
-use Rattle.well_formed.specs.Digits.{digitOf, digit-digit}
-use Rattle.well_formed.specs.Join.{length-join}
-use Rattle.well_formed.specs.Sheets.{recordOf, sheetOf, Digital, digital-table, sheet-bytes, sheet-grid, sheet-some, sheet-length}
+use Rattle.code.specs.Laws.WellFormed.{lenOf, WellFormed}
+use Rattle.csv.specs.Digits.{digitOf, digit-digit}
+use Rattle.csv.specs.Join.{length-join}
+use Rattle.csv.specs.Sheets.{recordOf, sheetOf, Digital, digital-table, sheet-bytes, sheet-grid, sheet-some, sheet-length}
 use Rattle.well_formed.specs.Print.{wordField, entryField, fieldsOf, gridOf, print}
 
 -- A sheet has room for every table: for the symbols, and in every record for the start mark and each of the entries with a comma, and for the CR LF.

@@ -4,21 +4,15 @@
 use code::Code;
 use code::Row;
 use code::Word;
+use code::bools::and;
 ghost use mathlib.Core.Path.{_≡_};
-ghost use mathlib.Core.Bool.{_&&_};
 ghost use Prim.Native.Nat.{ℕ, _-_, _≤_, _<_, max};
 ghost use lib.ListN.{length};
 ghost use Rattle.code.specs.Definitions.Lists.{table, sum};
 ghost use Rattle.code.specs.Definitions.Sheets.{limits, FromSheet};
-ghost use Rattle.well_formed.specs.Exactly.{Exactly};
+ghost use Rattle.code.specs.Laws.Exactly.{Exactly};
 ghost use Rattle.well_formed.specs.AtMost.{AtMost, filled, greatestEntries, greatestSymbols};
-ghost use Rattle.well_formed.specs.WellFormed.{lenOf, WordFits, RowFits, RecordAt};
-
-pub fn and(a: bool, b: bool) -> bool
-    ensures { λ r. ⌜ r ≡ (a && b) ⌝ }
-{
-    if a { b } else { false }
-}
+ghost use Rattle.code.specs.Laws.WellFormed.{lenOf, WordFits, RowFits, RecordAt};
 
 // a - b, and 0 where b is greater.
 fn minus(a: usize, b: usize) -> usize

@@ -1,6 +1,6 @@
 -- `is_short` meets its contract: three buffers by the three returns, then the working buffer (`short-work`).
 use mathlib.Core.Logic.{inl, inr}
-use Rattle.well_formed.specs.Exactly.{exactly-true}
+use Rattle.code.specs.Laws.Exactly.{exactly-true}
 use Rattle.decipher.specs.Buffers.{short-work}
 use Rattle.decipher.proofs.is_short.Statement.{statement}
 use Rattle.decipher.proofs.is_short.Tie as tie

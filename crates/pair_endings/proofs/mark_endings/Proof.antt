@@ -1,6 +1,6 @@
 -- `mark_endings` marks word after word. The invariant: what is marked ends a sequence, and `x` comes next. The measure is the number of words not marked.
 use borrow.Author.Needs.{needs}
-use Rattle.graph.specs.Cells.{total}
+use Rattle.code.specs.Laws.Cells.{total}
 use Rattle.pair_endings.specs.Closing.{Sound, NextEnding, open1, sound-none, sound-more, mark-inside, still-long, kept-long, less-left, endings-done}
 use Rattle.pair_endings.proofs.mark_endings.Statement.{statement}
 use Rattle.pair_endings.proofs.mark_endings.Tie as tie

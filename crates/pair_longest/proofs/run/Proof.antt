@@ -2,7 +2,7 @@
 use borrow.Author.Needs.{needs}
 use mathlib.Core.Path.{_≡_}
 use lib.ListN.{length}
-use Rattle.graph.specs.Cells.{total}
+use Rattle.code.specs.Laws.Cells.{total}
 use Rattle.pair_places.specs.Flat.{pairGraph}
 use Rattle.pair_storage.specs.Entries.{held}
 use Rattle.pair_storage.specs.Marks.{marks}

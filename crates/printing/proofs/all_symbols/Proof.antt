@@ -4,7 +4,7 @@ use borrow.Author.Needs.{needs}
 use native.Mathlib.Omega.{arith}
 use Prim.Native.Nat.{ℕ, _≤_, _<_, _-_}
 use lib.ListN.{length, getD}
-use Rattle.well_formed.specs.Exactly.{exactly-true, exactly-false}
+use Rattle.code.specs.Laws.Exactly.{exactly-true, exactly-false}
 use Rattle.printing.specs.Prints.{all-symbols}
 use Rattle.printing.proofs.all_symbols.Statement.{statement}
 use Rattle.printing.proofs.all_symbols.Tie as tie

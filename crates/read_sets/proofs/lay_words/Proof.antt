@@ -6,7 +6,7 @@ use mathlib.Core.Path.{_≡_, refl, _∙_}
 use native.Mathlib.Omega.{arith}
 use Rattle.code.specs.Definitions.Tables.{noWord}
 use Rattle.code.specs.Definitions.Sheets.{limits}
-use Rattle.well_formed.specs.WellFormed.{lenOf, WordFits}
+use Rattle.code.specs.Laws.WellFormed.{lenOf, WordFits}
 use Rattle.read_sets.specs.Words.{LaidWords, words-none, words-more}
 use Rattle.read_sets.proofs.lay_words.Statement.{statement}
 use Rattle.read_sets.proofs.lay_words.Tie as tie

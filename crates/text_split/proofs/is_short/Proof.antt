@@ -1,7 +1,7 @@
 -- The first four buffers by a return for each, then the working buffer (`short-work`).
 use borrow.Author.Needs.{needs}
 use mathlib.Core.Logic.{inl, inr}
-use Rattle.well_formed.specs.Exactly.{exactly-true}
+use Rattle.code.specs.Laws.Exactly.{exactly-true}
 use Rattle.text_split.specs.Rooms.{short-work}
 use Rattle.text_split.proofs.is_short.Statement.{statement}
 use Rattle.text_split.proofs.is_short.Tie as tie

@@ -5,7 +5,7 @@ use mathlib.Core.Path.{_≡_}
 use Prim.Native.Nat.{ℕ, _≤_, _-_}
 use native.Mathlib.Omega.{arith}
 use lib.ListN.{length, getD}
-use Rattle.well_formed.specs.Exactly.{exactly-true, exactly-false}
+use Rattle.code.specs.Laws.Exactly.{exactly-true, exactly-false}
 use Rattle.try_common.specs.All.{AllBelow}
 use Rattle.try_common.proofs.is_all.Statement.{statement}
 use Rattle.try_common.proofs.is_all.Tie as tie

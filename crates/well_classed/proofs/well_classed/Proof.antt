@@ -3,7 +3,7 @@ use mathlib.Core.Path.{_≡_}
 use lib.ListN.{length}
 use borrow.Author.Needs.{needs}
 use Rattle.code.specs.Definitions.ClassSheets.{differentBytes}
-use Rattle.well_formed.specs.Exactly.{exactly-iff}
+use Rattle.code.specs.Laws.Exactly.{exactly-iff}
 use Rattle.well_classed.specs.Tested.{classes-tested}
 use Rattle.well_classed.specs.Round.{well-classed}
 use Rattle.well_classed.proofs.well_classed.Statement.{statement}

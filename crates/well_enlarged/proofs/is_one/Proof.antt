@@ -1,6 +1,6 @@
 -- `is_one` is one test of a number.
 use borrow.Author.Needs.{needs}
-use Rattle.well_formed.specs.Exactly.{exactly-eq}
+use Rattle.code.specs.Laws.Exactly.{exactly-eq}
 use Rattle.well_enlarged.proofs.is_one.Statement.{statement}
 use Rattle.well_enlarged.proofs.is_one.Tie as tie
 

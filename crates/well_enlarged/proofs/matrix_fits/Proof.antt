@@ -3,7 +3,7 @@ use mathlib.Core.Path.{_≡_}
 use Prim.Native.Nat.{ℕ, _≤_, _<_, _-_}
 use native.Mathlib.Omega.{arith}
 use borrow.Author.Needs.{needs}
-use Rattle.well_formed.specs.Exactly.{Exactly, exactly-none, exactly-more}
+use Rattle.code.specs.Laws.Exactly.{Exactly, exactly-none, exactly-more}
 use Rattle.well_enlarged.specs.Tests.{valueOf, RowFits}
 use Rattle.well_enlarged.specs.Tested.{lent}
 use Rattle.well_enlarged.proofs.matrix_fits.Statement.{statement}

@@ -6,7 +6,7 @@ use native.Mathlib.Omega.{arith}
 use lib.ListN.{getD}
 use borrow.Author.Needs.{needs}
 use Rattle.code.specs.Definitions.Sheets.{limits}
-use Rattle.well_formed.specs.Exactly.{Exactly, exactly-none, exactly-more}
+use Rattle.code.specs.Laws.Exactly.{Exactly, exactly-none, exactly-more}
 use Rattle.well_enlarged.specs.WellEnlarged.{NumberFits}
 use Rattle.well_enlarged.proofs.numbers_fit.Statement.{statement}
 use Rattle.well_enlarged.proofs.numbers_fit.Tie as tie

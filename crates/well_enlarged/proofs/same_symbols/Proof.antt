@@ -6,7 +6,7 @@ use native.Mathlib.Omega.{arith}
 use lib.ListN.{length, getD}
 use lib.Seq.{ext-getD}
 use borrow.Author.Needs.{needs}
-use Rattle.well_formed.specs.Exactly.{Exactly, exactly-iff, exactly-eq, exactly-none, exactly-more}
+use Rattle.code.specs.Laws.Exactly.{Exactly, exactly-iff, exactly-eq, exactly-none, exactly-more}
 use Rattle.well_enlarged.proofs.same_symbols.Statement.{statement}
 use Rattle.well_enlarged.proofs.same_symbols.Tie as tie
 

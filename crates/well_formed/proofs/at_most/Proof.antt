@@ -4,7 +4,7 @@ use Prim.Native.Nat.{_≤_, _-_}
 use native.Mathlib.Omega.{arith}
 use lib.ListN.{length}
 use borrow.Author.Needs.{needs}
-use Rattle.well_formed.specs.Exactly.{exactly-iff, exactly-eq}
+use Rattle.code.specs.Laws.Exactly.{exactly-iff, exactly-eq}
 use Rattle.well_formed.specs.AtMost.{NoExcess, excess-none, excess-more}
 use Rattle.well_formed.proofs.at_most.Statement.{statement}
 use Rattle.well_formed.proofs.at_most.Tie as tie

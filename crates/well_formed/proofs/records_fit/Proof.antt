@@ -4,8 +4,8 @@ use Prim.Native.Nat.{ℕ, _-_, _≤_, _<_}
 use native.Mathlib.Omega.{arith}
 use borrow.Author.Needs.{needs}
 use Rattle.code.specs.Definitions.Sheets.{limits}
-use Rattle.well_formed.specs.Exactly.{Exactly, exactly-and, exactly-none, exactly-more}
-use Rattle.well_formed.specs.WellFormed.{RecordAt}
+use Rattle.code.specs.Laws.Exactly.{Exactly, exactly-and, exactly-none, exactly-more}
+use Rattle.code.specs.Laws.WellFormed.{RecordAt}
 use Rattle.well_formed.proofs.records_fit.Statement.{statement}
 use Rattle.well_formed.proofs.records_fit.Tie as tie
 

@@ -5,7 +5,7 @@ use Prim.Native.Nat.{_-_, _≤_}
 use native.Mathlib.Omega.{arith}
 use borrow.Author.Needs.{needs}
 use Rattle.code.specs.Definitions.Lists.{table, sum}
-use Rattle.well_formed.specs.WellFormed.{lenOf}
+use Rattle.code.specs.Laws.WellFormed.{lenOf}
 use Rattle.well_formed.specs.Tested.{room-more, room-left}
 use Rattle.well_formed.proofs.total_fits.Statement.{statement}
 use Rattle.well_formed.proofs.total_fits.Tie as tie

@@ -4,7 +4,7 @@ use native.Mathlib.Omega.{arith}
 use lib.ListN.{length, length-map}
 use borrow.Author.Needs.{needs}
 use Rattle.code.specs.Definitions.Sheets.{limits}
-use Rattle.well_formed.specs.Exactly.{exactly-iff}
+use Rattle.code.specs.Laws.Exactly.{exactly-iff}
 use Rattle.well_formed.specs.Tested.{table-tested}
 use Rattle.well_formed.specs.Round.{well-formed}
 use Rattle.well_formed.proofs.well_formed.Statement.{statement}

@@ -5,7 +5,7 @@ use native.Mathlib.Omega.{arith}
 use Rattle.code.specs.Definitions.Lists.{table, sum}
 use Rattle.code.specs.Definitions.Sheets.{limits}
 use Rattle.code.specs.Laws.Lists.{sum-more}
-use Rattle.well_formed.specs.WellFormed.{lenOf}
+use Rattle.code.specs.Laws.WellFormed.{lenOf}
 use borrow.Author.Needs.{needs}
 use Rattle.ban_copies.proofs.adding.symbols_of.Statement.{statement}
 use Rattle.ban_copies.proofs.adding.symbols_of.Tie as tie

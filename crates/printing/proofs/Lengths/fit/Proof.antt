@@ -1,6 +1,6 @@
 -- Each test that fails refutes the bound; the last one is the bound, with the numbers counted in fours.
 use native.Mathlib.Omega.{arith}
-use Rattle.well_formed.specs.Exactly.{exactly-false}
+use Rattle.code.specs.Laws.Exactly.{exactly-false}
 use Rattle.printing.specs.Rooms.{numbers-fit}
 use Rattle.printing.proofs.Lengths.fit.Statement.{statement}
 use Rattle.printing.proofs.Lengths.fit.Tie as tie

@@ -2,7 +2,7 @@
 use borrow.Author.Needs.{needs}
 use borrow.Author.Tests.{lt-ltb, le-ltb}
 use native.Mathlib.Omega.{arith}
-use Rattle.well_formed.specs.Digits.{digitOf}
+use Rattle.csv.specs.Digits.{digitOf}
 use Rattle.printing.proofs.puts.digit.Statement.{statement}
 use Rattle.printing.proofs.puts.digit.Tie as tie
 

@@ -7,7 +7,7 @@ use Prim.Native.Nat.{_≤_, _-_}
 use lib.ListN.{length, take, length-set, length-map, List·getD-map}
 use lib.Seq.{sets, take-all}
 use Rattle.copying.specs.Runs.{sets-next}
-use Rattle.well_formed.specs.Digits.{digitOf}
+use Rattle.csv.specs.Digits.{digitOf}
 use Rattle.printing.proofs.puts.put_digits.Statement.{statement}
 use Rattle.printing.proofs.puts.put_digits.Tie as tie
 

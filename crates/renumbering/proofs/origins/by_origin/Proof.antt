@@ -3,7 +3,7 @@ use borrow.Author.Needs.{needs}
 use Prim.Native.Nat.{_-_}
 use native.Mathlib.Omega.{arith}
 use Rattle.code.specs.Definitions.Sheets.{limits}
-use Rattle.graph.specs.Cells.{zeros}
+use Rattle.code.specs.Laws.Cells.{zeros}
 use Rattle.renumbering.specs.Listing.{listed-none}
 use Rattle.renumbering.specs.Origins.{ListedTo, word-room, word-listed, word-done, by-origin}
 use Rattle.renumbering.proofs.origins.by_origin.Statement.{statement}

@@ -1,9 +1,9 @@
 -- An array with one value throughout is the table of that value.
 use Rattle.code.specs.Definitions.Lists.{every, table}
 use Rattle.code.specs.Definitions.Sheets.{blankCode, codeOf}
 use borrow.Author.Needs.{needs}
-use Rattle.sheet_table.proofs.blank_code.Statement.{statement}
-use Rattle.sheet_table.proofs.blank_code.Tie as tie
+use Rattle.code.proofs.blanks.blank_code.Statement.{statement}
+use Rattle.code.proofs.blanks.blank_code.Tie as tie
 
 returns : tie.Need-returns
 unfolding blankCode codeOf table every

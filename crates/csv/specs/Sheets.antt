@@ -9,7 +9,7 @@ use lib.ListN.{length, length-append, length-map}
 use Rattle.code.specs.Definitions.Lists.{every, table, sum, join}
 use Rattle.code.specs.Definitions.Sheets.{isDigit, fields, grid, badBytes}
 use Rattle.code.specs.Laws.Clean.{bad-end, body-end}
-use Rattle.well_formed.specs.Join.{isPlain, fields-join, records-join, bad-join, plain-join, length-join}
+use Rattle.csv.specs.Join.{isPlain, fields-join, records-join, bad-join, plain-join, length-join}
 
 -- the bytes of a record
 abbrev pub recordOf : List (List ℕ) → List ℕ

@@ -4,10 +4,10 @@ use Prim.Native.Nat.{ℕ, _<_}
 use native.Mathlib.Omega.{arith}
 use lib.ListN.{length, take, getD, length-map, List·getD-map}
 use lib.Seq.{length-take-le, getD-take}
 use Rattle.code.specs.declared.Code.{Code}
 use Rattle.code.specs.declared.Limits.{Limits}
 use Rattle.code.specs.Definitions.Tables.{size, word, symbolsOf, noWord, tableOf}
-use Rattle.well_formed.specs.WellFormed.{lenOf, WellFormed}
+use Rattle.code.specs.Laws.WellFormed.{lenOf, WellFormed}
 
 module _ {l : Limits} {c : Code} (well : WellFormed l c) where
   pub size-count : size (tableOf c) ≡ c .count
