@@ -1,9 +1,11 @@
 // The verdict on an ambiguous code, from a message that has several readings.
 
 use code::Enlarged;
-use code::Reading;
 use code::SymbolCount;
 use code::Verdict;
+use code::WordCount;
+use read_core::first_count;
+use read_core::second_count;
 use reading::named::find_named;
 ghost use Prim.Native.Nat.{_≤_, _<_};
 ghost use lib.ListN.{length};
@@ -29,9 +31,8 @@ pub fn ambiguous(
         (now (first .exit)) (now (second .exit)) (now (work .exit)) r ⌝ }
 {
     let n = message.len();
-    let Reading::Two(a, b) = find_named(e, message, first, second, work) else {
-        // not reached: the message has a second reading
-        return Verdict::Unbounded;
-    };
-    Verdict::Ambiguous(SymbolCount(n), a, b)
+    let found = find_named(e, message, first, second, work);
+    let a = first_count(found);
+    let b = second_count(found);
+    Verdict::Ambiguous(SymbolCount(n), WordCount(a), WordCount(b))
 }

@@ -1,9 +1,9 @@
 // Finding the readings of a message in a plain code: whether no, one or several permitted sequences of words have it, and the first two of them.
 
 use code::Code;
-use code::Reading;
 use code::Word;
 use read_sets::Sets;
+use read_walks::Found;
 ghost use mathlib.Core.Path.{_≡_};
 ghost use Prim.Native.Nat.{_+_, _^_, _≤_, _<_};
 ghost use lib.ListN.{length};
@@ -12,6 +12,29 @@ ghost use Rattle.code.specs.Definitions.Tables.{tableOf};
 ghost use Rattle.code.specs.Laws.WellFormed.{WellFormed};
 ghost use Rattle.read_sets.specs.Sets.{SetsOf};
 ghost use Rattle.read_core.specs.Core.{ReadsSets, FindsAll};
+ghost use Rattle.read_core.specs.Counts.{firstCount, secondCount};
+
+// How many words were read into the first buffer.
+pub fn first_count(found: Found) -> usize
+    ensures { λ n. ⌜ n ≡ firstCount found ⌝ }
+{
+    match found {
+        Found::None => 0,
+        Found::One(n) => n.0,
+        Found::Two(n, _) => n.0,
+    }
+}
+
+// How many words were read into the second buffer.
+pub fn second_count(found: Found) -> usize
+    ensures { λ n. ⌜ n ≡ secondCount found ⌝ }
+{
+    match found {
+        Found::None => 0,
+        Found::One(_) => 0,
+        Found::Two(_, n) => n.0,
+    }
+}
 
 // Reads a message by the sets of a code's words, which may serve many messages. The marks stand in the working buffer, which need not be clear before and is
 // zero after.
@@ -26,7 +49,7 @@ pub fn read_core(
     first: &mut [u8],
     second: &mut [u8],
     work: &mut [u64],
-) -> Reading
+) -> Found
     requires { ⌜ SetsOf (now having) (now ends) (now rows) (now lengths) n longest
         × (length (now work) ≡ length (now message) + 1) × (length (now message) < 2 ^ 32) × (length (now message) ≤ length (now first))
         × (length (now message) ≤ length (now second)) ⌝ }
@@ -46,7 +69,7 @@ pub fn find_readings(
     first: &mut [u8],
     second: &mut [u8],
     work: &mut [u64],
-) -> Reading
+) -> Found
     requires { ⌜ WellFormed limits code × (length (now message) < 2 ^ 32) × (length (now message) ≤ length (now first))
         × (length (now message) ≤ length (now second)) × (length (now message) < length (now work)) ⌝ }
     ensures { λ r. ⌜ FindsAll (tableOf code) (now (message .entry)) (now (first .entry)) (now (second .entry)) (now (work .entry))

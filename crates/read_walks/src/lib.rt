@@ -1,7 +1,5 @@
 // The readings that the marks show: the first, and from the last step where another word could be taken, the second.
 
-use code::Reading;
-use code::Refusal;
 use code::WordCount;
 use copying::copy_at;
 use read_choices::continues;
@@ -14,6 +12,13 @@ ghost use Rattle.read_marks.specs.Text.{Can};
 ghost use Rattle.read_walks.specs.Shown.{shown};
 ghost use Rattle.read_walks.specs.Steps.{advanced, Walkable, Taken, Ended};
 ghost use Rattle.read_walks.specs.Answers.{Branched, Second, Answer};
+
+// What the marks show: no reading, the length of the only one, or the lengths of the first two. Which refusal that is, if any, is the caller's matter.
+pub enum Found {
+    None,
+    One(WordCount),
+    Two(WordCount, WordCount),
+}
 
 // How far a walk has come: how many words it took, to which position, and which word last. At step `at`, which began at position `start`, it could also have
 // taken the word `other`, and no step after that one had a choice; where no step had, `other` is the number of words.
@@ -127,7 +132,7 @@ pub fn first_readings(
     work: &[u64],
     first: &mut [u8],
     second: &mut [u8],
-) -> Reading
+) -> Found
     requires { ⌜ Walkable (now rows) (now lengths) (now work) n end × (end ≤ length (now first)) × (end ≤ length (now second)) ⌝ }
     ensures { λ r. ⌜ Answer (shown (now (rows .entry)) (now (lengths .entry)) (now (work .entry)) n end) n
         (now (first .entry)) (now (second .entry)) (now (first .exit)) (now (second .exit)) r ⌝ }
@@ -135,10 +140,10 @@ pub fn first_readings(
     if continues(rows, n, end, work, 0, n) {
         let w = least_reading(rows, lengths, n, end, work, first, 0, 0, n);
         if w.other == n {
-            return Reading::One(WordCount(w.count));
+            return Found::One(WordCount(w.count));
         }
         let count = second_reading(rows, lengths, n, end, work, first, second, w);
-        return Reading::Two(WordCount(w.count), WordCount(count));
+        return Found::Two(WordCount(w.count), WordCount(count));
     }
-    Reading::Refused(Refusal::NoReading)
+    Found::None
 }

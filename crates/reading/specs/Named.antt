@@ -9,7 +9,6 @@ use lib.Seq.{take-at, drop-at}
 use Rattle.code.specs.declared.Code.{Code}
 use Rattle.code.specs.declared.Enlarged.{Enlarged}
 use Rattle.code.specs.declared.Limits.{Limits}
-use Rattle.code.specs.declared.Reading.{Reading}
 use Rattle.code.specs.Definitions.Bans.{nextWord}
 use Rattle.code.specs.Definitions.Enlarged.{copiesIn, originalTable}
 use Rattle.code.specs.Definitions.Operations.{written}
@@ -24,6 +23,7 @@ use Rattle.ban_theory.specs.Matches.{named-none, named-only, named-first-two}
 use Rattle.ban_theory.specs.Renumbered.{Order, renumbered-covers}
 use Rattle.well_enlarged.specs.Meaning.{value-covers}
 use Rattle.well_enlarged.specs.WellEnlarged.{WellEnlarged}
+use Rattle.read_walks.specs.declared.Found.{Found}
 use Rattle.read_core.specs.Core.{Finds, unreadable, one, two, FindsAll}
 use Rattle.read_core.specs.Counts.{firstCount, secondCount, reads-within}
 use Rattle.renumbering.specs.Origins.{Origins, ByOrigin}
@@ -71,14 +71,14 @@ module _ {l : Limits} {e : Enlarged} (w : WellEnlarged l e) where
     own-names : {m s : List ℕ} → Reads (tableOf (e .code)) m s → map (λ (x : ℕ). getD (e .origins) x 0) s ≡ s
     own-names {s = s} r = map-own (size (tableOf (e .code))) (λ x. getD (e .origins) x 0) own-name s (reads-within r)
 
-    own-finds : {m f g f′ g′ : List ℕ} {r : Reading} → Finds (tableOf (e .code)) m f g f′ g′ r → Finds (originalTable e) m f g f′ g′ r
+    own-finds : {m f g f′ g′ : List ℕ} {r : Found} → Finds (tableOf (e .code)) m f g f′ g′ r → Finds (originalTable e) m f g f′ g′ r
     own-finds (unreadable o p q) = unreadable (named-none (value-covers w) o) p q
     own-finds {m = m} (one o c p q) = one (subst (OnlyReading (originalTable e) m) (own-names (o .reads)) (named-only (value-covers w) o)) c p q
     own-finds {m = m} (two o c d p q) =
         two (subst₂ (FirstTwo (originalTable e) m) (own-names (o .first)) (own-names (o .second)) (named-first-two (value-covers w) own-rises o)) c d p q
 
     -- What is found is in the numbers of original words.
-    pub own-found : {m f g v f′ g′ v′ : List ℕ} {r : Reading} → FindsAll (tableOf (e .code)) m f g v f′ g′ v′ r → FindsAll (originalTable e) m f g v f′ g′ v′ r
+    pub own-found : {m f g v f′ g′ v′ : List ℕ} {r : Found} → FindsAll (tableOf (e .code)) m f g v f′ g′ v′ r → FindsAll (originalTable e) m f g v f′ g′ v′ r
     own-found a = record { finds = own-finds (a .finds); work = a .work }
 
   -- In the order of the origins
@@ -110,7 +110,7 @@ module _ {l : Limits} {e : Enlarged} (w : WellEnlarged l e) where
       names-are : {m s : List ℕ} → Reads (tableOf (renumberedCode l old (e .code))) m s → map (λ (x : ℕ). getD (e .origins) (getD old x 0) 0) s ≡ map (λ (x : ℕ). getD names x 0) s
       names-are {s = s} r = map-within (size (tableOf (renumberedCode l old (e .code)))) _ _ name-is s (reads-within r)
 
-      renamed-finds : {m f g f′ g′ f″ g″ : List ℕ} {r : Reading} → Finds (tableOf (renumberedCode l old (e .code))) m f g f′ g′ r → f″ ≡ renamed names (firstCount r) f′
+      renamed-finds : {m f g f′ g′ f″ g″ : List ℕ} {r : Found} → Finds (tableOf (renumberedCode l old (e .code))) m f g f′ g′ r → f″ ≡ renamed names (firstCount r) f′
           → g″ ≡ renamed names (secondCount r) g′ → Finds (originalTable e) m f g f″ g″ r
       renamed-finds (unreadable o p q) i j = unreadable (named-none ordered-covers o) (i ∙ p) (j ∙ q)
       renamed-finds {m = m} {f = f} (one {s = s} o c p q) i j =
@@ -130,7 +130,7 @@ module _ {l : Limits} {e : Enlarged} (w : WellEnlarged l e) where
       ordered-few = rw is (omega (arith, ordered-size, w .numbers .room))
 
       -- What is found, each word by its name, is in the numbers of original words.
-      pub renamed-found : {names : List ℕ} → names ≡ reordered l old (e .code .count) 0 (e .origins) → {m f g v f′ g′ v′ f″ g″ : List ℕ} {r : Reading}
+      pub renamed-found : {names : List ℕ} → names ≡ reordered l old (e .code .count) 0 (e .origins) → {m f g v f′ g′ v′ f″ g″ : List ℕ} {r : Found}
           → FindsAll (tableOf ordered) m f g v f′ g′ v′ r → f″ ≡ renamed names (firstCount r) f′ → g″ ≡ renamed names (secondCount r) g′
           → FindsAll (originalTable e) m f g v f″ g″ v′ r
       renamed-found named a i j = record { finds = renamed-finds named (rw is at (a .finds)) i j; work = a .work }

@@ -8,11 +8,13 @@ use code::Reading;
 use code::Refusal;
 use code::Word;
 use named::find_named;
+use read_walks::Found;
 use well_enlarged::well_enlarged;
+ghost use mathlib.Core.Path.{_≡_};
 ghost use Rattle.code.specs.Definitions.Sheets.{limits};
 ghost use Rattle.code.specs.Definitions.Operations.{HasHigh, ReadsMessage};
 ghost use Rattle.code.specs.Laws.Exactly.{Exactly};
-ghost use Rattle.reading.specs.Public.{Short};
+ghost use Rattle.reading.specs.Public.{Short, readingOf};
 
 // Whether some symbol of the message is above 15.
 fn has_high(message: &[u8]) -> bool
@@ -41,6 +43,17 @@ fn is_short(n: usize, first: usize, second: usize, work: usize) -> bool
     work <= n
 }
 
+// What was found, as the answer: a message without a reading is refused.
+fn reading_of(found: Found) -> Reading
+    ensures { λ r. ⌜ r ≡ readingOf found ⌝ }
+{
+    match found {
+        Found::None => Reading::Refused(Refusal::NoReading),
+        Found::One(n) => Reading::One(n),
+        Found::Two(n, k) => Reading::Two(n, k),
+    }
+}
+
 // Reads a message: the only reading or the first two, in the numbers of original words, or the lowest refusal that holds.
 pub fn read(
     e: Enlarged,
@@ -64,5 +77,6 @@ pub fn read(
     if is_short(message.len(), first.len(), second.len(), work.len()) {
         return Reading::Refused(Refusal::ShortBuffer);
     }
-    find_named(e, message, first, second, work)
+    let found = find_named(e, message, first, second, work);
+    reading_of(found)
 }

@@ -2,42 +2,20 @@
 // readings by number are the first by origin; then each word read gets the number of its origin.
 
 use code::Enlarged;
-use code::Reading;
 use read_core::find_readings;
+use read_core::first_count;
+use read_core::second_count;
+use read_walks::Found;
 use renumbering::origins::by_origin;
 use renumbering::origins::rename;
 use renumbering::renumber;
 use renumbering::reorder_entries;
-ghost use mathlib.Core.Path.{_≡_};
 ghost use Prim.Native.Nat.{_^_, _≤_, _<_};
 ghost use lib.ListN.{length};
 ghost use Rattle.code.specs.Definitions.Enlarged.{originalTable};
 ghost use Rattle.code.specs.Definitions.Sheets.{limits};
 ghost use Rattle.well_enlarged.specs.WellEnlarged.{WellEnlarged};
 ghost use Rattle.read_core.specs.Core.{FindsAll};
-ghost use Rattle.read_core.specs.Counts.{firstCount, secondCount};
-
-// How many words of the first buffer were read.
-fn first_count(r: Reading) -> usize
-    ensures { λ n. ⌜ n ≡ firstCount r ⌝ }
-{
-    match r {
-        Reading::One(n) => n.0,
-        Reading::Two(n, _) => n.0,
-        Reading::Refused(_) => 0,
-    }
-}
-
-// How many words of the second buffer were read.
-fn second_count(r: Reading) -> usize
-    ensures { λ n. ⌜ n ≡ secondCount r ⌝ }
-{
-    match r {
-        Reading::One(_) => 0,
-        Reading::Two(_, n) => n.0,
-        Reading::Refused(_) => 0,
-    }
-}
 
 // The readings in a code with copies.
 fn find_by_origin(
@@ -46,7 +24,7 @@ fn find_by_origin(
     first: &mut [u8],
     second: &mut [u8],
     work: &mut [u64],
-) -> Reading
+) -> Found
     requires { ⌜ WellEnlarged limits e × (length (now message) < 2 ^ 32) × (length (now message) ≤ length (now first))
         × (length (now message) ≤ length (now second)) × (length (now message) < length (now work)) ⌝ }
     ensures { λ r. ⌜ FindsAll (originalTable e) (now (message .entry)) (now (first .entry)) (now (second .entry)) (now (work .entry))
@@ -72,7 +50,7 @@ pub fn find_named(
     first: &mut [u8],
     second: &mut [u8],
     work: &mut [u64],
-) -> Reading
+) -> Found
     requires { ⌜ WellEnlarged limits e × (length (now message) < 2 ^ 32) × (length (now message) ≤ length (now first))
         × (length (now message) ≤ length (now second)) × (length (now message) < length (now work)) ⌝ }
     ensures { λ r. ⌜ FindsAll (originalTable e) (now (message .entry)) (now (first .entry)) (now (second .entry)) (now (work .entry))

@@ -6,13 +6,13 @@ use Prim.Native.Nat.{ℕ, suc, _+_, _-_, _^_, _≤_, _<_}
 use native.Mathlib.Omega.{arith}
 use lib.ListN.{length, take, drop, getD, length-map, length-append, length-drop, length-take}
 use lib.Seq.{length-take-le, take-all, drop-cons}
-use Rattle.code.specs.declared.Reading.{Reading}
 use Rattle.code.specs.Definitions.Operations.{written}
 use Rattle.code.specs.Definitions.Tables.{Table, word}
 use Rattle.code.specs.Definitions.Texts.{classOf, isLetter, run, symbolsIn, lengthsOf, Shows}
 use Rattle.code.specs.Definitions.Texts as Texts
 use Rattle.code.specs.Laws.Buffers.{take-written}
 use Rattle.code.specs.Laws.Finite.{Within, within-at}
+use Rattle.read_walks.specs.declared.Found.{Found}
 use Rattle.read_core.specs.Core.{ReadsSets}
 use Rattle.read_core.specs.Counts.{reads-within}
 use Rattle.text_runs.specs.Runs.{RunOf, LaysRun}
@@ -73,7 +73,7 @@ module _ (having ends rows lengths : List ℕ) (n longest : ℕ) where
     pub kind : (t : Table) → Lays t having ends rows lengths n longest → IsOfKind t (symbolsIn classes (lettersOf s w)) f (w .kind)
 
   -- A run that is laid and read gives the record.
-  pub recorded : {classes s m m′ f g v f′ g′ v′ : List ℕ} {at k : ℕ} {r : Reading} {d : Kind} → LaysRun classes (take (length s - at) (drop at s)) m m′ k
+  pub recorded : {classes s m m′ f g v f′ g′ v′ : List ℕ} {at k : ℕ} {r : Found} {d : Kind} → LaysRun classes (take (length s - at) (drop at s)) m m′ k
       → ReadsSets having ends rows lengths n longest (take k m′) f g v f′ g′ v′ r → d ≡ kindOf r
       → Recorded classes s at f′ (record { kind = d; offset = at; length = k })
   recorded {classes} {s} {m} {m′} {f} {g} {f′ = f′} {g′ = g′} {at = at} {k = k} {r = r} {d = d} l reads e =

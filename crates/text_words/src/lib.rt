@@ -1,8 +1,8 @@
 // The words of a text one by one. The sets of the code's words are laid out once and serve all of them.
 
 use code::Classes;
-use code::Reading;
 use read_core::read_core;
+use read_walks::Found;
 use text_runs::is_letter;
 use text_runs::lay_run;
 use text_syllables::Kind;
@@ -16,13 +16,13 @@ ghost use Rattle.text_words.specs.Records.{Served, Recorded};
 ghost use Rattle.text_words.specs.Outputs.{SplitsBySets};
 ghost use Rattle.text_words.specs.Rooms.{WordRooms, Rooms};
 
-fn kind_of(found: Reading) -> Kind
+fn kind_of(found: Found) -> Kind
     ensures { λ r. ⌜ r ≡ kindOf found ⌝ }
 {
     match found {
-        Reading::One(n) => Kind::Split(n),
-        Reading::Two(_, _) => Kind::Several,
-        Reading::Refused(_) => Kind::None,
+        Found::None => Kind::None,
+        Found::One(n) => Kind::Split(n),
+        Found::Two(_, _) => Kind::Several,
     }
 }
 
