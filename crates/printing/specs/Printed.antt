@@ -5,6 +5,7 @@ use lib.Dec.{ltb}
 use Rattle.io.specs.Digits.{digits}
 use Rattle.code.specs.declared.Verdict.the-variants.{Ambiguous as Two-ways, Finite, Unbounded}
 use Rattle.code.specs.declared.Judgement.{Judgement}
+use Rattle.code.specs.declared.Refusal.{Refusal}
 use Rattle.code.specs.declared.Judgement.the-variants.{Judged, Refused as Not-judged}
 use Rattle.code.specs.Definitions.Lists.{if_then_else_, join}
 use Rattle.code.specs.Definitions.Answers.{refusalNumber}
@@ -43,10 +44,14 @@ refused = 114 ∷ 101 ∷ 102 ∷ 117 ∷ 115 ∷ 101 ∷ 100 ∷ []
 abbrev pub unbounded : List ℕ
 unbounded = 117 ∷ 110 ∷ 98 ∷ 111 ∷ 117 ∷ 110 ∷ 100 ∷ 101 ∷ 100 ∷ []
 
+-- "refused", the number, and CR LF
+abbrev pub refusedRecord : Refusal → List ℕ
+refusedRecord r = recordOf (refused ∷ decimal (refusalNumber r) ∷ [])
+
 -- 01: "Second: the message in digits, the delay or `unbounded`, or the refusal number. After `ambiguous` come two records, each a reading's word numbers
 -- in decimal, parted by commas." Here m is the message and s, u its readings.
 abbrev pub printed : Judgement → (m s u : List ℕ) → List ℕ
 printed (Judged (Two-ways a b c)) m s u = recordOf (ambiguous ∷ map digitOf m ∷ []) ++ recordOf (map decimal s) ++ recordOf (map decimal u)
 printed (Judged (Finite d)) m s u = recordOf (decipherable ∷ decimal (d .0) ∷ [])
 printed (Judged Unbounded) m s u = recordOf (decipherable ∷ unbounded ∷ [])
-printed (Not-judged r) m s u = recordOf (refused ∷ decimal (refusalNumber r) ∷ [])
+printed (Not-judged r) m s u = refusedRecord r

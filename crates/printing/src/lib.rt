@@ -3,6 +3,7 @@
 pub mod puts;
 
 use code::Judgement;
+use code::Refusal;
 use code::SymbolCount;
 use code::Verdict;
 use code::Word;
@@ -19,7 +20,7 @@ ghost use Rattle.code.specs.declared.Verdict.the-variants.{Ambiguous};
 ghost use Rattle.code.specs.declared.Judgement.the-variants.{Judged};
 ghost use Rattle.csv.specs.Digits.{digitOf};
 ghost use Rattle.code.specs.Laws.Exactly.{Exactly};
-ghost use Rattle.printing.specs.Printed.{decimal, recordOf, ambiguous};
+ghost use Rattle.printing.specs.Printed.{decimal, recordOf, ambiguous, refusedRecord};
 ghost use Rattle.writing.specs.Puts.{Puts, Starts};
 ghost use Rattle.printing.specs.Prints.{lengthsOf, needed, Symbols, Printable, result, Prints};
 
@@ -128,6 +129,14 @@ fn put_pair(word: &[u8], number: u64, out: &mut [u8]) -> usize
     put(out, end, b"\r\n")
 }
 
+// The record of a refusal: it takes at most 30 bytes.
+pub fn put_refused(refusal: Refusal, out: &mut [u8]) -> usize
+    requires { ⌜ 30 ≤ length (now out) ⌝ }
+    ensures { λ r. ⌜ Starts (refusedRecord refusal) (now (out .entry)) (now (out .exit)) r ⌝ }
+{
+    put_pair(b"refused,", refusal.number() as u64, out)
+}
+
 // The record of an ambiguous message.
 fn put_message(message: &[u8], out: &mut [u8]) -> usize
     requires { ⌜ (length (now message) + 12 ≤ length (now out)) × Symbols (now message) ⌝ }
@@ -196,7 +205,7 @@ fn put_result(
 {
     match judgement {
         Judgement::Judged(verdict) => put_verdict(verdict, message, first, second, out),
-        Judgement::Refused(refusal) => put_pair(b"refused,", refusal.number() as u64, out),
+        Judgement::Refused(refusal) => put_refused(refusal, out),
     }
 }
 

@@ -15,11 +15,6 @@ abbrev pub Holds : List ℕ → Input → Type 0
 Holds b (Bytes n) = Counts n b
 Holds b Failed = Unit
 
--- The bytes of the file that argument i names, of a program with so many arguments; none where it has no such argument.
-pub record Named (i arguments : ℕ) (b : List ℕ) (r : Input) : Type 0 where
-  pub holds : Holds b r
-  pub none : arguments ≤ i → r ≡ Bytes 0
-
 -- One read of at most this many bytes gave some of them, or none.
 abbrev pub Within : ℕ → Step → Type 0
 Within most (Some n) = (1 ≤ n) × (n ≤ most)

@@ -2,7 +2,7 @@
 
 use libc::EINTR;
 ghost use lib.ListN.{length};
-ghost use Rattle.streams.specs.Inputs.{Holds, Named, Within};
+ghost use Rattle.streams.specs.Inputs.{Holds, Within};
 
 // The bytes at the start of a buffer, which are the whole input or fill the buffer; or an open or a read failed, and errno says why.
 pub enum Input {
@@ -72,26 +72,4 @@ pub fn read_file(path: &[u8], bytes: &mut [u8]) -> Input
     let read = read_input(file, bytes);
     libc::close(file);
     read
-}
-
-// The same for the file that argument i names. A name that is longer than a path may be is not cut: `arg` says so by errno.
-pub fn read_argument(i: usize, bytes: &mut [u8]) -> Input
-    ensures { λ r. ⌜ Holds (now (bytes .exit)) r ⌝ }
-{
-    let mut path = io::buffer();
-    let n = os::arg(i, &mut path);
-    if os::errno() != 0 {
-        return Input::Failed;
-    }
-    read_file(&path[..n], bytes)
-}
-
-// The same for argument i of a program that has so many, its own name among them. Where it has no such argument, there are 0 bytes.
-pub fn read_named(i: usize, arguments: usize, bytes: &mut [u8]) -> Input
-    ensures { λ r. ⌜ Named i arguments (now (bytes .exit)) r ⌝ }
-{
-    if arguments <= i {
-        return Input::Bytes(0);
-    }
-    read_argument(i, bytes)
 }

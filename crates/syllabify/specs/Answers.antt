@@ -10,7 +10,6 @@ use Rattle.code.specs.declared.Refusal.the-variants.{SheetLength, MessageLength
 use Rattle.code.specs.declared.SheetAnswer.the-variants.{Accepted, Refused}
 use Rattle.code.specs.declared.Splitting.{Splitting}
 use Rattle.code.specs.declared.Splitting.the-variants.{Split, Refused as Not-split}
-use Rattle.code.specs.declared.Judgement.the-variants.{Refused as Not-judged}
 use Rattle.code.specs.declared.Taken.{Taken}
 use Rattle.code.specs.declared.TakenClasses.{TakenClasses}
 use Rattle.code.specs.Definitions.ClassSheets.{takenClasses}
@@ -19,17 +18,13 @@ use Rattle.code.specs.Definitions.Sheets.{limits, taken}
 use Rattle.code.specs.Definitions.Tables.{tableOf}
 use Rattle.code.specs.Definitions.Texts.{Splits}
 use Rattle.turkish_letters.specs.Letters.{turkishClasses}
-use Rattle.printing.specs.Printed.{printed}
+use Rattle.printing.specs.Printed.{refusedRecord}
 use Rattle.turkish.specs.Types.{types, codeOfTypes}
 use Rattle.writing.specs.Puts.{Starts}
 
 -- What a named sheet gives; the twelve types where none is named.
 unfoldable pub codeGiven : Bool → List ℕ → Taken
 codeGiven named sheet = if named then taken limits sheet else record { answer = Accepted; code = codeOfTypes limits types }
-
--- "refused", the number, and CR LF: the record that the program `verdict` prints, too
-abbrev pub refusedRecord : Refusal → List ℕ
-refusedRecord r = printed (Not-judged r) [] [] []
 
 -- What a named class sheet gives; the Turkish letters where none is named.
 unfoldable pub classesGiven : Bool → List ℕ → TakenClasses

@@ -15,7 +15,6 @@ use Rattle.code.specs.declared.Refusal.the-variants.{SheetLength, MessageLength
 use Rattle.code.specs.declared.SheetAnswer.the-variants.{Accepted, Refused}
 use Rattle.code.specs.declared.Splitting.{Splitting}
 use Rattle.code.specs.declared.Splitting.the-variants.{Refused as Not-split}
-use Rattle.code.specs.declared.Judgement.the-variants.{Refused as Not-judged}
 use Rattle.code.specs.declared.Taken.{Taken}
 use Rattle.code.specs.declared.TakenClasses.{TakenClasses}
 use Rattle.class_sheet.specs.Taking.{way-long as classes-long}
@@ -28,7 +27,7 @@ use Rattle.turkish_letters.specs.Letters.{turkishClasses}
 use Rattle.turkish_letters.specs.Given.{turkish-from-sheet}
 use Rattle.ban_meaning.specs.Empty.{plain-lists}
 use Rattle.ban_meaning.specs.Given.{plain-original}
-use Rattle.printing.specs.Prints.{Prints, all, none}
+use Rattle.printing.specs.Printed.{refusedRecord}
 use Rattle.printing.specs.Starts.{starts-counts}
 use Rattle.sheet.specs.Either.{not-both, one-refusal}
 use Rattle.sheet.specs.Taking.{way-long}
@@ -36,7 +35,7 @@ use Rattle.turkish.specs.Types.{types, codeOfTypes}
 use Rattle.turkish.specs.Given.{twelve-from-sheet}
 use Rattle.writing.specs.Puts.{Starts}
 use Rattle.syllabify.specs.Answers as Answers
-use Rattle.syllabify.specs.Answers.{codeGiven, classesGiven, refusedRecord, Answer, sheet-refused, classes-refused, text-refused, output, outputRoom, Shown, SplitsGiven, stands, Printed, stays, put, Answers, AnswersInput}
+use Rattle.syllabify.specs.Answers.{codeGiven, classesGiven, Answer, sheet-refused, classes-refused, text-refused, output, outputRoom, Shown, SplitsGiven, stands, Printed, stays, put, Answers, AnswersInput}
 
 -- The code by whether a sheet is named
 pub given-named : (named : Bool) (sheet : List ℕ) {t : Taken} → named ≡ true → t ≡ taken limits sheet → t ≡ codeGiven named sheet
@@ -106,12 +105,6 @@ module _ {t : Taken} {k : TakenClasses} (code : t .answer ≡ Accepted) (classes
         right = output code classes (omega (arith, holds .1 .0)) (rw (plain-original limits (t .code)) at d);
         starts = record { count = c; out = p };
       })
-
--- A refusal takes few bytes.
-pub refusal-put : {r : Refusal} {o o′ : List ℕ} {n : ℕ} → length o ≡ outputRoom → Prints (Not-judged r) [] [] [] o o′ n → Starts (refusedRecord r) o o′ n
-refusal-put room (all h c p) = record { count = c; out = p }
-refusal-put room (none h p) =
-    absurd (h (record { message = omega arith; first = omega arith; second = omega arith; symbols = λ k. omega arith; room = omega arith }))
 
 -- What is found is printed.
 pub given-answers : (named : Bool) (sheet : List ℕ) (lettered : Bool) (classSheet : List ℕ) {t : Taken} {k : TakenClasses} {text o o₁ o′ : List ℕ} {r : ℕ}

@@ -4,8 +4,6 @@
 use class_sheet::take_classes;
 use code::ClassSheet;
 use code::Code;
-use code::Judgement;
-use code::Refusal;
 use code::Sheet;
 use code::SheetAnswer;
 use code::Splitting;
@@ -13,9 +11,12 @@ use code::Taken;
 use code::TakenClasses;
 use code::Text;
 use libc::STDERR_FILENO;
-use libc::STDIN_FILENO;
 use libc::STDOUT_FILENO;
-use printing::print_result;
+use printing::put_refused;
+use program::asks_help;
+use program::read_named;
+use program::read_standard;
+use program::write_standard;
 use streams::Input;
 use well_enlarged::plain;
 ghost use mathlib.Core.Path.{_≡_};
@@ -25,8 +26,7 @@ ghost use Rattle.code.specs.declared.SheetAnswer.the-variants.{Accepted};
 ghost use Rattle.code.specs.Definitions.ClassSheets.{FromClassSheet};
 ghost use Rattle.code.specs.Definitions.Sheets.{limits, FromSheet};
 ghost use Rattle.io.specs.Counts.{Counts};
-ghost use Rattle.writing.specs.Puts.{Starts};
-ghost use Rattle.syllabify.specs.Answers.{codeGiven, classesGiven, outputRoom, refusedRecord, SplitsGiven, Printed, Answers, AnswersInput};
+ghost use Rattle.syllabify.specs.Answers.{codeGiven, classesGiven, outputRoom, SplitsGiven, Printed, Answers, AnswersInput};
 
 pub struct Output {}
 
@@ -103,14 +103,6 @@ fn split_given(given: Taken, letters: TakenClasses, text: &[u8], out: &mut [u8])
     }
 }
 
-fn put_refusal(refusal: Refusal, out: &mut [u8]) -> usize
-    requires { ⌜ length (now out) ≡ outputRoom ⌝ }
-    ensures { λ r. ⌜ Starts (refusedRecord refusal) (now (out .entry)) (now (out .exit)) r ⌝ }
-{
-    let none = [0u8; 0];
-    print_result(Judgement::Refused(refusal), &none, &none, &none, out)
-}
-
 // Puts a refusal at the start of `out`, where an output stands already. Gives the number of bytes.
 fn put_splitting(s: Splitting, out: &mut [u8]) -> usize
     requires { ⌜ length (now out) ≡ outputRoom ⌝ }
@@ -118,7 +110,7 @@ fn put_splitting(s: Splitting, out: &mut [u8]) -> usize
 {
     match s {
         Splitting::Split(n) => n.0,
-        Splitting::Refused(refusal) => put_refusal(refusal, out),
+        Splitting::Refused(refusal) => put_refused(refusal, out),
     }
 }
 
@@ -164,6 +156,13 @@ fn answer_input(
 // read whole gets no answer.
 fn main() {
     let arguments = os::arg_count();
+    if asks_help(arguments) {
+        io::write_all(
+            STDOUT_FILENO,
+            b"usage: syllabify [SHEET.csv [CLASSES.classes]] < TEXT\nSplits the words of a text into syllables: by the Turkish types and letters, or by those of a code sheet and a class sheet. docs/GUIDE.md has their form, and what each refusal means.\n",
+        );
+        return;
+    }
     if 3 < arguments {
         io::write_all(
             STDERR_FILENO,
@@ -172,21 +171,28 @@ fn main() {
         return;
     }
     let mut file = [0u8; Sheet::BYTES + 1];
-    let listed = streams::read_named(1, arguments, &mut file);
+    let listed = read_named(
+        1,
+        arguments,
+        b"syllabify: cannot read the code sheet",
+        &mut file,
+    );
     let Input::Bytes(k) = listed else {
-        os::fail(b"syllabify: cannot read the code sheet");
         return;
     };
     let mut classes = [0u8; ClassSheet::BYTES + 1];
-    let classed = streams::read_named(2, arguments, &mut classes);
+    let classed = read_named(
+        2,
+        arguments,
+        b"syllabify: cannot read the class sheet",
+        &mut classes,
+    );
     let Input::Bytes(j) = classed else {
-        os::fail(b"syllabify: cannot read the class sheet");
         return;
     };
     let mut input = [0u8; Text::BYTES + 1];
-    let read = streams::read_input(STDIN_FILENO, &mut input);
+    let read = read_standard(b"syllabify: cannot read standard input", &mut input);
     let Input::Bytes(n) = read else {
-        os::fail(b"syllabify: cannot read standard input");
         return;
     };
     let mut out = [0u8; Output::BYTES];
@@ -201,7 +207,5 @@ fn main() {
         n,
         &mut out,
     );
-    if !io::write_all(STDOUT_FILENO, &out[..length]) {
-        os::fail(b"syllabify: cannot write standard output");
-    }
+    write_standard(b"syllabify: cannot write standard output", &out[..length]);
 }

@@ -6,9 +6,12 @@ use code::Sheet;
 use code::SheetAnswer;
 use decipher::Pairs;
 use libc::STDERR_FILENO;
-use libc::STDIN_FILENO;
 use libc::STDOUT_FILENO;
 use printing::Lengths;
+use program::asks_help;
+use program::read_named;
+use program::read_standard;
+use program::write_standard;
 use streams::Input;
 ghost use Prim.Native.Nat.{_<_};
 ghost use mathlib.Core.Path.{_≡_};
@@ -34,15 +37,12 @@ fn give(sheet: &[u8], list: &[u8]) -> Enlargement
     let taken = sheet::take_in(sheet);
     let answer = taken.answer;
     let value = well_enlarged::plain(taken.code);
-    let alone = Enlargement {
-        answer: answer,
-        enlarged: value,
-    };
-    // The table of a refused sheet is blank, and this answer is then not used.
-    let enlarged = ban_enlarge::enlarge(value, list);
     match answer {
-        SheetAnswer::Refused(_) => alone,
-        SheetAnswer::Accepted => enlarged,
+        SheetAnswer::Refused(_) => Enlargement {
+            answer: answer,
+            enlarged: value,
+        },
+        SheetAnswer::Accepted => ban_enlarge::enlarge(value, list),
     }
 }
 
@@ -92,6 +92,13 @@ fn answer_input(input: &[u8], n: usize, file: &[u8], k: usize, out: &mut [u8]) -
 // sheet or a list that was not read whole gets no answer.
 fn main() {
     let arguments = os::arg_count();
+    if asks_help(arguments) {
+        io::write_all(
+            STDOUT_FILENO,
+            b"usage: verdict [BANS.csv] < SHEET.csv\nSays whether the code of a sheet is ambiguous, or decipherable with which delay. docs/GUIDE.md has the form of a sheet and of a ban list, and what each refusal means.\n",
+        );
+        return;
+    }
     if 2 < arguments {
         io::write_all(
             STDERR_FILENO,
@@ -101,20 +108,21 @@ fn main() {
     }
     let mut file = [0u8; Sheet::BYTES + 1];
     // Without an argument the list has 0 bytes, which hold no ban.
-    let listed = streams::read_named(1, arguments, &mut file);
+    let listed = read_named(
+        1,
+        arguments,
+        b"verdict: cannot read the ban list",
+        &mut file,
+    );
     let Input::Bytes(k) = listed else {
-        os::fail(b"verdict: cannot read the ban list");
         return;
     };
     let mut input = [0u8; Sheet::BYTES + 1];
-    let read = streams::read_input(STDIN_FILENO, &mut input);
+    let read = read_standard(b"verdict: cannot read standard input", &mut input);
     let Input::Bytes(n) = read else {
-        os::fail(b"verdict: cannot read standard input");
         return;
     };
     let mut out = [0u8; Output::BYTES];
     let length = answer_input(&input, n, &file, k, &mut out);
-    if !io::write_all(STDOUT_FILENO, &out[..length]) {
-        os::fail(b"verdict: cannot write standard output");
-    }
+    write_standard(b"verdict: cannot write standard output", &out[..length]);
 }

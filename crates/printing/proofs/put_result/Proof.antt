@@ -1,6 +1,5 @@
 -- A verdict has its records, a refusal its number.
 use borrow.Author.Needs.{needs}
-use Rattle.code.specs.Definitions.Lists.{join}
 use Rattle.printing.proofs.put_result.Statement.{statement}
 use Rattle.printing.proofs.put_result.Tie as tie
 
@@ -11,8 +10,7 @@ returns : tie.Need-returns
 returns c = rw (c .before .before .before .before .before .judgement .given .1) (c .before .before .put-verdict .ensures)
 
 returns-2 : tie.Need-returns-2
-unfolding join
-returns-2 c = rw (c .before .before .before .before .before .before .before .judgement2 .given .1, ← c .before .before .before .before .number .ensures) (c .before .before .put-pair .ensures)
+returns-2 c = rw (c .before .before .before .before .before .judgement2 .given .1) (c .before .before .put-refused .ensures)
 
 pub put-result-spec : {M : Type 1} → statement M
 put-result-spec =
@@ -20,9 +18,6 @@ put-result-spec =
     (tie.spec
     (λ c. search needs)
     put-verdict-requires
-    (λ c. search needs)
-    (λ c. search needs)
-    (λ c κs. search needs)
     (λ c. search needs)
     (λ c κs. search needs)
     (λ c. search needs)

@@ -1,0 +1,84 @@
+// What the programs share: a word of help, the files that their arguments name, standard input and standard output. Where one of these fails, a line on
+// standard error tells it: `what`, which names the program and what it could not do, then the file and the system's reason.
+
+use libc::STDERR_FILENO;
+use libc::STDIN_FILENO;
+use libc::STDOUT_FILENO;
+use streams::Input;
+use streams::read_file;
+use streams::read_input;
+ghost use Rattle.program.specs.Arguments.{Named};
+ghost use Rattle.streams.specs.Inputs.{Holds};
+
+fn is_same(a: &[u8], b: &[u8]) -> bool {
+    if a.len() != b.len() {
+        return false;
+    }
+    let mut i: usize = 0;
+    while i < a.len() {
+        if a[i] != b[i] {
+            return false;
+        }
+        i += 1;
+    }
+    true
+}
+
+// Whether the first argument asks for help, of a program that has so many arguments, its own name among them.
+pub fn asks_help(arguments: usize) -> bool {
+    if arguments < 2 {
+        return false;
+    }
+    let mut word = io::buffer();
+    let n = os::arg(1, &mut word);
+    is_same(&word[..n], b"--help")
+}
+
+fn is_failed(read: Input) -> bool {
+    match read {
+        Input::Bytes(_) => false,
+        Input::Failed => true,
+    }
+}
+
+// The bytes of the file that argument i names. Where the program has no such argument, there are 0 bytes. A name that is longer than a path may be is not
+// cut: `arg` says so by errno.
+pub fn read_named(i: usize, arguments: usize, what: &[u8], bytes: &mut [u8]) -> Input
+    ensures { λ r. ⌜ Named i arguments (now (bytes .exit)) r ⌝ }
+{
+    if arguments <= i {
+        return Input::Bytes(0);
+    }
+    let mut path = io::buffer();
+    let n = os::arg(i, &mut path);
+    if os::errno() != 0 {
+        os::fail(what);
+        return Input::Failed;
+    }
+    let read = read_file(&path[..n], bytes);
+    if is_failed(read) {
+        // a write that succeeds leaves errno as it is
+        io::write_all(STDERR_FILENO, what);
+        io::write_all(STDERR_FILENO, b": ");
+        os::fail(&path[..n]);
+    }
+    read
+}
+
+// The bytes of standard input.
+pub fn read_standard(what: &[u8], bytes: &mut [u8]) -> Input
+    ensures { λ r. ⌜ Holds (now (bytes .exit)) r ⌝ }
+{
+    let read = read_input(STDIN_FILENO, bytes);
+    if is_failed(read) {
+        os::fail(what);
+    }
+    read
+}
+
+// Writes bytes on standard output.
+pub fn write_standard(what: &[u8], bytes: &[u8]) {
+    if !io::write_all(STDOUT_FILENO, bytes) {
+        os::fail(what);
+    }
+}
