@@ -11,7 +11,7 @@ use lib.Dec.{ltb}
 use lib.ListN.{length, drop, set, replicate, length-append, length-replicate}
 use borrow.Author.Tests.{ltb-true, lt-ltb, le-ltb}
 use Rattle.code.specs.declared.Code.{Code}
-use Rattle.code.specs.Definitions.Lists.{table, sum}
+use Rattle.code.specs.Definitions.Lists.{tabulate, sum}
 use Rattle.code.specs.Definitions.Sheets.{limits}
 use Rattle.code.specs.Definitions.Bans.{Ban, Copy, hasCopy, copiesFrom, copiesOf, origin}
 use Rattle.code.specs.Definitions.Enlarged.{refused17}
@@ -29,21 +29,21 @@ use Rattle.ban_copies.specs.Symbols.{symbolsWith, tooMany, symbols-none,
 pub record Start (n all : ℕ) (k : Copies) : Type 0 where
   pub originals : k .originals ≡ n
   pub number : k .number ≡ 0
-  pub origins : k .origins ≡ table (origin n []) (limits .words)
-  pub behind : k .behind ≡ table (behindAt n []) (limits .words)
+  pub origins : k .origins ≡ tabulate (origin n []) (limits .words)
+  pub behind : k .behind ≡ tabulate (behindAt n []) (limits .words)
   pub symbols : k .symbols ≡ all
   pub fits : k .fits ≡ true
 
 -- The numbers of the words, written in front of zeros.
 pub own-next : (n x : ℕ) → x < n → n ≤ limits .words
-    → set (table (origin n []) x ++ drop x (replicate (limits .words) 0)) x x ≡ table (origin n []) (x + 1) ++ drop (x + 1) (replicate (limits .words) 0)
+    → set (tabulate (origin n []) x ++ drop x (replicate (limits .words) 0)) x x ≡ tabulate (origin n []) (x + 1) ++ drop (x + 1) (replicate (limits .words) 0)
 own-next n x h m =
-    ap (λ (v : ℕ). set (table (origin n []) x ++ drop x (replicate (limits .words) 0)) x v) (sym (origin-word n [] x h))
+    ap (λ (v : ℕ). set (tabulate (origin n []) x ++ drop x (replicate (limits .words) 0)) x v) (sym (origin-word n [] x h))
     ∙ fill-next (origin n []) (replicate (limits .words) 0) x (omega (arith, length-replicate {A = ℕ} (limits .words) 0))
 
-pub start : (n all x : ℕ) {origins : List ℕ} → origins ≡ table (origin n []) x ++ drop x (replicate (limits .words) 0) → n ≤ x → x ≤ limits .words
+pub start : (n all x : ℕ) {origins : List ℕ} → origins ≡ tabulate (origin n []) x ++ drop x (replicate (limits .words) 0) → n ≤ x → x ≤ limits .words
     → Start n all (record { originals = n; number = 0; origins = origins; behind = replicate (limits .words) 0; symbols = all; fits = true })
-unfolding table
+unfolding tabulate
 start n all x e h m = record {
   originals = refl;
   number = refl;
@@ -143,7 +143,7 @@ pub record Gathered (c : Code) (bs : List Ban) (k : Copies) : Type 0 where
 
 -- The ways through `collect`, over the numbers l of the bans.
 module _ {c : Code} (l : List ℕ) where
-  pub collected-none : {k : Copies} → WellFormed limits c → Start (c .count) (sum (table (lenOf c) (limits .words))) k → Collected c (copiesOf (bansFrom l 0)) k
+  pub collected-none : {k : Copies} → WellFormed limits c → Start (c .count) (sum (tabulate (lenOf c) (limits .words))) k → Collected c (copiesOf (bansFrom l 0)) k
   unfolding copiesFrom
   collected-none well s =
       rw (bans-none l)

@@ -13,7 +13,7 @@ use Rattle.code.specs.Definitions.Lists.{if_then_else_}
 use Rattle.code.specs.Definitions.Sheets.{limits}
 use Rattle.code.specs.Definitions.Tables.{noRow, tableOf}
 use Rattle.code.specs.Definitions.Bans.{Ban, Copy, isCopy, hasCopy, isBan, bannedBy, copiesOf, copyAt, origin, standsAfter, unbanned, mayCome}
-use Rattle.code.specs.Laws.Lists.{any-table, any-found}
+use Rattle.code.specs.Laws.Lists.{any-tabulate, any-found}
 use Rattle.ban_theory.specs.CopyLists.{origin-word, stands-word, stands-copy}
 use Rattle.ban_theory.specs.Triples.{banAt, bansFrom}
 use Rattle.code.specs.Laws.WellFormed.{WellFormed}
@@ -35,7 +35,7 @@ module _ (k : Copies) (y z i : ℕ) {r : Bool} (e : r ≡ isCopy y z (copyHeld k
 
 pub copy-none : (k : Copies) (y z i : ℕ) → NoCopy k y z i → k .number ≤ i → false ≡ hasCopy (held k) y z
 unfolding held hasCopy
-copy-none k y z i before h = sym (any-table (isCopy y z) (copyHeld k) (k .number) (λ j l. before j (omega arith)))
+copy-none k y z i before h = sym (any-tabulate (isCopy y z) (copyHeld k) (k .number) (λ j l. before j (omega arith)))
 
 -- A scan of the bans: none before i is on x after y then z.
 abbrev pub NoBan : List ℕ → ℕ → ℕ → ℕ → ℕ → Type 0
@@ -51,7 +51,7 @@ module _ (l : List ℕ) (x y z i : ℕ) {r : Bool} (e : r ≡ isBan x y z (banAt
 
 pub ban-none : (l : List ℕ) (n x y z i : ℕ) → NoBan l x y z i → n ≤ i → false ≡ bannedBy (bansFrom l n) x y z
 unfolding bansFrom bannedBy
-ban-none l n x y z i before h = sym (any-table (isBan x y z) (banAt l) n (λ j m. before j (omega arith)))
+ban-none l n x y z i before h = sym (any-tabulate (isBan x y z) (banAt l) n (λ j m. before j (omega arith)))
 
 -- Behind a word of n nothing is banned; behind a copy, what the bans say.
 unfoldable pub allowed : ℕ → List Ban → ℕ → ℕ → Bool

@@ -9,21 +9,21 @@ use lib.Dec.{ltb}
 use lib.ListN.{length, getD, set, length-append, List·getD-append, List·getD-eq-default}
 use lib.Seq.{getD-at}
 use borrow.Author.Tests.{lt-ltb, le-ltb}
-use Rattle.code.specs.Definitions.Lists.{if_then_else_, table}
+use Rattle.code.specs.Definitions.Lists.{if_then_else_, tabulate}
 use Rattle.code.specs.Definitions.Sheets.{limits}
 use Rattle.code.specs.Definitions.Bans.{Copy, noCopy, hasCopy, copyAt, origin}
-use Rattle.code.specs.Laws.Lists.{getD-table, table-list}
+use Rattle.code.specs.Laws.Lists.{getD-tabulate, tabulate-list}
 use Rattle.ban_theory.specs.CopyLists.{Once, origin-word, origin-copy, origin-known}
 use Rattle.ban_theory.specs.BanLists.{once-more}
 use Rattle.ban_copies.specs.declared.Copies.{Copies}
-use Rattle.ban_copies.specs.Arrays.{set-table}
+use Rattle.ban_copies.specs.Arrays.{set-tabulate}
 
 -- copy i of the arrays
 abbrev pub copyHeld : Copies → ℕ → Copy
 copyHeld k i = record { behind = getD (k .behind) (k .originals + i) 0; of = getD (k .origins) (k .originals + i) 0 }
 
 unfoldable pub held : Copies → List Copy
-held k = table (copyHeld k) (k .number)
+held k = tabulate (copyHeld k) (k .number)
 
 -- for a copy the word after which it stands, else 0
 abbrev pub behindAt : ℕ → List Copy → ℕ → ℕ
@@ -41,16 +41,16 @@ pub record Held (n : ℕ) (cs : List Copy) (k : Copies) : Type 0 where
   pub originals : k .originals ≡ n
   pub number : k .number ≡ length cs
   pub most : n + length cs ≤ limits .words
-  pub origins : k .origins ≡ table (origin n cs) (limits .words)
-  pub behind : k .behind ≡ table (behindAt n cs) (limits .words)
+  pub origins : k .origins ≡ tabulate (origin n cs) (limits .words)
+  pub behind : k .behind ≡ tabulate (behindAt n cs) (limits .words)
   pub copies : Once n cs
 
 module _ {n : ℕ} {cs : List Copy} {k : Copies} (h : Held n cs k) where
   pub origin-at : (x : ℕ) → x < limits .words → getD (k .origins) x 0 ≡ origin n cs x
-  origin-at x l = rw (h .origins) (getD-table (origin n cs) (limits .words) x 0 l)
+  origin-at x l = rw (h .origins) (getD-tabulate (origin n cs) (limits .words) x 0 l)
 
   pub behind-at : (x : ℕ) → x < limits .words → getD (k .behind) x 0 ≡ behindAt n cs x
-  behind-at x l = rw (h .behind) (getD-table (behindAt n cs) (limits .words) x 0 l)
+  behind-at x l = rw (h .behind) (getD-tabulate (behindAt n cs) (limits .words) x 0 l)
 
   copy-at : (i : ℕ) → i < length cs → copyHeld k i ≡ getD cs i noCopy
   copy-at i l =
@@ -62,7 +62,7 @@ module _ {n : ℕ} {cs : List Copy} {k : Copies} (h : Held n cs k) where
 
   pub held-is : held k ≡ cs
   unfolding held
-  held-is = rw (h .number) (table-list (copyHeld k) (length cs) cs noCopy refl copy-at)
+  held-is = rw (h .number) (tabulate-list (copyHeld k) (length cs) cs noCopy refl copy-at)
 
   -- The arrays have numbers of words.
   pub number-below : (x : ℕ) → x < k .originals + k .number → getD (k .origins) x 0 < n
@@ -131,8 +131,8 @@ held-more {n} {cs} {k} y z len h fresh y< z< room =
       number = omega (arith, h .number, long);
       most = omega (arith, long);
       origins = rw (h .originals, h .number, h .origins)
-          (set-table (origin n cs) (origin n (cs ++ (c ∷ []))) (limits .words) (n + length cs) z room (origin-new n cs c) (origin-kept n cs c));
+          (set-tabulate (origin n cs) (origin n (cs ++ (c ∷ []))) (limits .words) (n + length cs) z room (origin-new n cs c) (origin-kept n cs c));
       behind = rw (h .originals, h .number, h .behind)
-          (set-table (behindAt n cs) (behindAt n (cs ++ (c ∷ []))) (limits .words) (n + length cs) y room (behind-new n cs c) (behind-kept n cs c));
+          (set-tabulate (behindAt n cs) (behindAt n (cs ++ (c ∷ []))) (limits .words) (n + length cs) y room (behind-new n cs c) (behind-kept n cs c));
       copies = once-more (h .copies) c fresh y< z<;
     }

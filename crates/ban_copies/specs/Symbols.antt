@@ -8,11 +8,11 @@ use lib.Dec.{ltb}
 use lib.ListN.{length, getD}
 use Rattle.code.specs.declared.Code.{Code}
 use Rattle.code.specs.declared.Limits.{Limits}
-use Rattle.code.specs.Definitions.Lists.{table, sum}
+use Rattle.code.specs.Definitions.Lists.{tabulate, sum}
 use Rattle.code.specs.Definitions.Tables.{word, tableOf}
 use Rattle.code.specs.Definitions.Bans.{Ban, Copy, noCopy, bannedBy, copiesOf, enlarged}
 use Rattle.code.specs.Definitions.Enlarged.{refused17}
-use Rattle.code.specs.Laws.Lists.{table-same, table-map, sum-append, sum-past}
+use Rattle.code.specs.Laws.Lists.{tabulate-same, tabulate-map, sum-append, sum-past}
 use Rattle.ban_theory.specs.BanLists.{Known, once-none, copies-once}
 use Rattle.code.specs.Laws.WellFormed.{lenOf, WellFormed}
 use Rattle.code.specs.Laws.Words.{size-count, word-length}
@@ -23,13 +23,13 @@ copyLength c k = lenOf c (k .of)
 
 module _ (l : Limits) (c : Code) where
   unfoldable pub symbolsWith : List Copy → ℕ
-  symbolsWith cs = sum (table (lenOf c) (l .words)) + sum (map (copyLength c) cs)
+  symbolsWith cs = sum (tabulate (lenOf c) (l .words)) + sum (map (copyLength c) cs)
 
   -- 17: "the copies pass the limits on words or symbols"
   abbrev pub tooMany : List Copy → Bool
   tooMany cs = ltb (l .words) (c .count + length cs) || ltb (l .total) (symbolsWith cs)
 
-  pub symbols-none : symbolsWith [] ≡ sum (table (lenOf c) (l .words))
+  pub symbols-none : symbolsWith [] ≡ sum (tabulate (lenOf c) (l .words))
   unfolding symbolsWith sum
   symbols-none = omega arith
 
@@ -38,11 +38,11 @@ module _ (l : Limits) (c : Code) where
   symbols-more cs k = rw (map-append (copyLength c) cs (k ∷ []), sum-append (map (copyLength c) cs) (copyLength c k ∷ [])) (omega arith)
 
 module _ {l : Limits} {c : Code} (well : WellFormed l c) where
-  own-symbols : sum (map length (tableOf c .words)) ≡ sum (table (lenOf c) (l .words))
+  own-symbols : sum (map length (tableOf c .words)) ≡ sum (tabulate (lenOf c) (l .words))
   own-symbols =
-      ap sum (sym (table-map length (tableOf c .words) []))
-      ∙ ap (λ (n : ℕ). sum (table (λ x. length (word (tableOf c) x)) n)) (size-count well)
-      ∙ ap sum (table-same (λ x. length (word (tableOf c) x)) (lenOf c) (c .count) (word-length well))
+      ap sum (sym (tabulate-map length (tableOf c .words) []))
+      ∙ ap (λ (n : ℕ). sum (tabulate (λ x. length (word (tableOf c) x)) n)) (size-count well)
+      ∙ ap sum (tabulate-same (λ x. length (word (tableOf c) x)) (lenOf c) (c .count) (word-length well))
       ∙ sym (sum-past (lenOf c) (c .count) (l .words) (well .most) (λ k h b. well .word k b .unused h))
 
   copied-symbols : (cs : List Copy) → ((i : ℕ) → i < length cs → getD cs i noCopy .of < c .count)

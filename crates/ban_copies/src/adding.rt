@@ -6,7 +6,7 @@ ghost use mathlib.Core.Path.{_≡_};
 ghost use Prim.Native.Nat.{_+_, _*_, _≤_, _<_};
 ghost use lib.ListN.{length};
 ghost use Rattle.code.specs.Definitions.Bans.{isCopy, hasCopy};
-ghost use Rattle.code.specs.Definitions.Lists.{table, sum};
+ghost use Rattle.code.specs.Definitions.Lists.{tabulate, sum};
 ghost use Rattle.code.specs.Definitions.Sheets.{limits};
 ghost use Rattle.ban_theory.specs.BanLists.{Known};
 ghost use Rattle.ban_theory.specs.Triples.{bansFrom};
@@ -17,7 +17,7 @@ ghost use Rattle.ban_copies.specs.Adding.{Start, Added, Gathered};
 // The symbols of all words together.
 fn symbols_of(code: Code) -> usize
     requires { ⌜ WellFormed limits code ⌝ }
-    ensures { λ r. ⌜ r ≡ sum (table (lenOf code) (limits .words)) ⌝ }
+    ensures { λ r. ⌜ r ≡ sum (tabulate (lenOf code) (limits .words)) ⌝ }
 {
     let mut symbols: usize = 0;
     let mut k: usize = 0;

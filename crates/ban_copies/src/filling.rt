@@ -7,7 +7,7 @@ use code::Row;
 ghost use mathlib.Core.Path.{_≡_};
 ghost use Prim.Native.Nat.{_+_, _*_, _≤_, _<_};
 ghost use lib.ListN.{length, getD};
-ghost use Rattle.code.specs.Definitions.Lists.{if_then_else_, table};
+ghost use Rattle.code.specs.Definitions.Lists.{if_then_else_, tabulate};
 ghost use Rattle.code.specs.Definitions.Bans.{isBan, bannedBy, copiesOf, standsAfter};
 ghost use Rattle.code.specs.Definitions.Enlarged.{enlargedCode};
 ghost use Rattle.code.specs.Definitions.Sheets.{limits};
@@ -109,7 +109,7 @@ fn bit(b: bool) -> u8
 // Row x of the matrix; `row` is that of the word of which x is a copy.
 fn fill_row(row: Row, copies: Copies, numbers: &[u8], bans: usize, x: usize) -> Row
     requires { ⌜ Held (copies .originals) (copiesOf (bansFrom (now numbers) bans)) copies × (3 * bans ≤ length (now numbers)) × (x < copies .originals + copies .number) ⌝ }
-    ensures { λ r. ⌜ r ≡ record { entries = table (entryBy (row .entries) (copies .originals) (bansFrom (now (numbers .entry)) bans) x) (limits .words) } ⌝ }
+    ensures { λ r. ⌜ r ≡ record { entries = tabulate (entryBy (row .entries) (copies .originals) (bansFrom (now (numbers .entry)) bans) x) (limits .words) } ⌝ }
 {
     let count = copies.originals + copies.number;
     let mut filled = Row {

@@ -13,7 +13,7 @@ use Rattle.code.specs.declared.Limits.{Limits}
 use Rattle.code.specs.Definitions.Bans.{origin}
 use Rattle.code.specs.Definitions.Enlarged.{plainOf}
 use Rattle.code.specs.Definitions.Operations.{WithoutCopies, FromLists}
-use Rattle.code.specs.Laws.Lists.{table-list}
+use Rattle.code.specs.Laws.Lists.{tabulate-list}
 use Rattle.ban_theory.specs.CopyLists.{origin-word, origin-copy}
 use Rattle.well_enlarged.specs.WellEnlarged.{WellEnlarged}
 use Rattle.well_enlarged.specs.Plain.{plain-well}
@@ -42,8 +42,8 @@ module _ {l : Limits} {e : Enlarged} where
       given = from-sheet room (w .code);
       plain =
           value-is e (e .code .count) _ _ (sym all)
-          (table-list (origin (e .code .count) []) (l .words) (e .origins) 0 (w .numbers .origins) (λ x h. origin-at x h (decLt x (e .code .count))))
-          (table-list (λ x. 0) (l .words) (e .behind) 0 (w .numbers .behind) (λ x h. behind-at x h (decLt x (e .code .count))));
+          (tabulate-list (origin (e .code .count) []) (l .words) (e .origins) 0 (w .numbers .origins) (λ x h. origin-at x h (decLt x (e .code .count))))
+          (tabulate-list (λ x. 0) (l .words) (e .behind) 0 (w .numbers .behind) (λ x h. behind-at x h (decLt x (e .code .count))));
     }
 
   plain-value : WithoutCopies l e → WellEnlarged l e

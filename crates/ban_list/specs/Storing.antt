@@ -5,7 +5,7 @@ use Prim.Native.Nat.{ℕ, _+_, _*_, _≤_, _<_}
 use native.Mathlib.Omega.{arith}
 use lib.ListN.{length, getD, set, length-set}
 use lib.Seq.{getD-set-same, getD-set-other}
-use Rattle.code.specs.Laws.Lists.{table-same}
+use Rattle.code.specs.Laws.Lists.{tabulate-same}
 use Rattle.ban_theory.specs.Triples.{banAt, bansFrom, bans-more}
 
 -- One ban more.
@@ -38,4 +38,4 @@ module _ (l : List ℕ) (k x y z : ℕ) (room : 3 * k + 3 ≤ length l) where
 
   pub stored-more : bansFrom after (k + 1) ≡ bansFrom l k ++ (record { x = x; y = y; z = z } ∷ [])
   unfolding bansFrom
-  stored-more = bans-more after k ∙ rw (table-same (banAt after) (banAt l) k same-before, at-x, at-y, at-z)
+  stored-more = bans-more after k ∙ rw (tabulate-same (banAt after) (banAt l) k same-before, at-x, at-y, at-z)

@@ -12,14 +12,14 @@ use Rattle.code.specs.declared.Code.{Code}
 use Rattle.code.specs.declared.Enlargement.{Enlargement}
 use Rattle.code.specs.declared.Limits.{Limits}
 use Rattle.code.specs.declared.SheetAnswer.the-variants.{Accepted}
-use Rattle.code.specs.Definitions.Lists.{if_then_else_, any, table, sum}
+use Rattle.code.specs.Definitions.Lists.{if_then_else_, any, tabulate, sum}
 use Rattle.code.specs.Definitions.Tables.{noWord, noRow, entryOf, tableOf}
 use Rattle.code.specs.Definitions.Sheets.{badBytes, FromSheet}
 use Rattle.code.specs.Definitions.Bans.{bannedBy, copiesFrom, copiesOf, origin, mayCome, enlarged}
 use Rattle.code.specs.Definitions.BanLists.{banRecords, refused16, bansOf}
 use Rattle.code.specs.Definitions.Enlarged.{plainOf, enlargedWord, enlargedEntry, behindOf, enlargedCode, refused17}
 use Rattle.code.specs.Definitions.Operations.{Enlarges, enlarged as accepted, FromLists}
-use Rattle.code.specs.Laws.Lists.{table-list, table-same, sum-past}
+use Rattle.code.specs.Laws.Lists.{tabulate-list, tabulate-same, sum-past}
 use Rattle.ban_theory.specs.CopyLists.{origin-word}
 use Rattle.ban_theory.specs.BanLists.{no-ban, copies-serve}
 use Rattle.well_enlarged.specs.Plain.{none-stand}
@@ -64,10 +64,10 @@ module _ {l : Limits} {c : Code} (given : WellFormed l c) where
   entry-at x y i (yes h) (no k) = rw (le-ltb y (c .count + 0) (omega arith), and-false) (sym (given .row x i .entries .zero y (omega arith)))
   entry-at x y i (no h) k = rw (le-ltb x (c .count + 0) (omega arith)) (sym (given .row x i .unused (omega arith) y))
 
-  row-at : (x : ℕ) → x < l .words → record { entries = table (enlargedEntry l c [] x) (l .words) } ≡ getD (c .rows) x noRow
+  row-at : (x : ℕ) → x < l .words → record { entries = tabulate (enlargedEntry l c [] x) (l .words) } ≡ getD (c .rows) x noRow
   row-at x h =
       ap (λ (es : List ℕ). record { entries = es })
-      (table-list (enlargedEntry l c [] x) (l .words) (getD (c .rows) x noRow .entries) 0 (given .row x h .array) (λ y k. entry-at x y h (decLt x (c .count)) (decLt y (c .count))))
+      (tabulate-list (enlargedEntry l c [] x) (l .words) (getD (c .rows) x noRow .entries) 0 (given .row x h .array) (λ y k. entry-at x y h (decLt x (c .count)) (decLt y (c .count))))
 
   behind-at : (x : ℕ) → Dec (x < c .count) → behindOf l c [] x ≡ 0
   unfolding copiesFrom
@@ -78,15 +78,15 @@ module _ {l : Limits} {c : Code} (given : WellFormed l c) where
   pub none-enlarged : enlargedCode l c [] ≡ plainOf l c
   unfolding enlargedCode plainOf copiesFrom
   none-enlarged =
-      let words = table-list (enlargedWord l c []) (l .words) (c .words) noWord (given .words) (λ x h. word-at x (decLt x (c .count))) in
-      let rows = table-list (λ x. record { entries = table (enlargedEntry l c [] x) (l .words) }) (l .words) (c .rows) noRow (given .rows) row-at in
-      let behind = table-same (behindOf l c []) (λ x. 0) (l .words) (λ x h. behind-at x (decLt x (c .count))) in
+      let words = tabulate-list (enlargedWord l c []) (l .words) (c .words) noWord (given .words) (λ x h. word-at x (decLt x (c .count))) in
+      let rows = tabulate-list (λ x. record { entries = tabulate (enlargedEntry l c [] x) (l .words) }) (l .words) (c .rows) noRow (given .rows) row-at in
+      let behind = tabulate-same (behindOf l c []) (λ x. 0) (l .words) (λ x h. behind-at x (decLt x (c .count))) in
       let count : c .count + length (copiesOf []) ≡ c .count = omega arith in
       rw (words, rows, behind, count)
 
-  lengths : sum (table (λ x. lenOf c (origin (c .count) [] x)) (c .count + 0)) ≡ sum (table (lenOf c) (l .words))
+  lengths : sum (tabulate (λ x. lenOf c (origin (c .count) [] x)) (c .count + 0)) ≡ sum (tabulate (lenOf c) (l .words))
   lengths =
-      ap sum (table-same (λ x. lenOf c (origin (c .count) [] x)) (lenOf c) (c .count + 0) (λ x h. ap (lenOf c) (origin-word (c .count) [] x (omega arith))))
+      ap sum (tabulate-same (λ x. lenOf c (origin (c .count) [] x)) (lenOf c) (c .count + 0) (λ x h. ap (lenOf c) (origin-word (c .count) [] x (omega arith))))
       ∙ sym (sum-past (lenOf c) (c .count + 0) (l .words) (omega (arith, given .most)) (λ k h i. given .word k i .unused (omega arith)))
 
   none-room : refused17 l c [] ≡ false
@@ -114,4 +114,4 @@ empty-gives given e = enlarges-unique e (empty-list given)
 
 -- So the value without copies of a sheet's code is one that a sheet and a list give.
 pub plain-lists : {l : Limits} {c : Code} → FromSheet l c → FromLists l (plainOf l c)
-plain-lists {c = c} given = record { table = c; given = given; list = []; gives = empty-list given }
+plain-lists {c = c} given = record { tabulate = c; given = given; list = []; gives = empty-list given }

@@ -4,9 +4,9 @@ use mathlib.Core.Path.{_≡_, sym, ap, _∙_, subst, subst₂}
 use mathlib.Core.Bool.{true}
 use mathlib.Core.List.{[]}
 use Prim.Native.Nat.{ℕ, _<_}
-use Rattle.code.specs.Definitions.Lists.{table}
+use Rattle.code.specs.Definitions.Lists.{tabulate}
 use Rattle.code.specs.Definitions.Tables.{Table, size, word}
-use Rattle.code.specs.Laws.Lists.{length-table, getD-table}
+use Rattle.code.specs.Laws.Lists.{length-tabulate, getD-tabulate}
 use Rattle.ban_theory.specs.Covers.{Cover}
 
 -- `old i` is the number of the word that becomes i, `new x` the number that word x becomes.
@@ -18,7 +18,7 @@ pub record Order (n : ℕ) (old new : ℕ → ℕ) : Type 0 where
 
 unfoldable pub renumbered : Table → (ℕ → ℕ) → Table
 renumbered e old = record {
-  words = table (λ i. word e (old i)) (size e);
+  words = tabulate (λ i. word e (old i)) (size e);
   follow = λ i j. e .follow (old i) (old j);
   begins = λ i. e .begins (old i);
   banned = λ x y z. e .banned (old x) (old y) (old z);
@@ -27,7 +27,7 @@ renumbered e old = record {
 module _ {e t : Table} {name start : ℕ → ℕ} {after : ℕ → ℕ → ℕ} (c : Cover e t name start after) {old new : ℕ → ℕ} (o : Order (size e) old new) where
   same-size : size (renumbered e old) ≡ size e
   unfolding renumbered
-  same-size = length-table (λ i. word e (old i)) (size e)
+  same-size = length-tabulate (λ i. word e (old i)) (size e)
 
   known : (i : ℕ) → i < size (renumbered e old) → i < size e
   known i h = subst (λ (n : ℕ). i < n) same-size h
@@ -44,7 +44,7 @@ module _ {e t : Table} {name start : ℕ → ℕ} {after : ℕ → ℕ → ℕ} 
   renumbered-covers = record {
     free = λ x y z. c .free (old x) (old y) (old z);
     named = λ i h. c .named (old i) (old-known i h);
-    words = λ i h. getD-table (λ k. word e (old k)) (size e) i [] (known i h) ∙ c .words (old i) (old-known i h);
+    words = λ i h. getD-tabulate (λ k. word e (old k)) (size e) i [] (known i h) ∙ c .words (old i) (old-known i h);
     start-known = λ x h. new-known (start x) (c .start-known x h);
     start-named = λ x h. ap name (o .old-new (start x) (c .start-known x h)) ∙ c .start-named x h;
     after-known = λ y x h k. new-known (after y x) (c .after-known y x h k);

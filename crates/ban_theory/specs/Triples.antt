@@ -4,9 +4,9 @@ use mathlib.Core.List.{List, [], _∷_, _++_}
 use Prim.Native.Nat.{ℕ, zero, suc, _+_, _*_, _<_}
 use native.Mathlib.Omega.{arith}
 use lib.ListN.{length, getD}
-use Rattle.code.specs.Definitions.Lists.{table}
+use Rattle.code.specs.Definitions.Lists.{tabulate}
 use Rattle.code.specs.Definitions.Bans.{Ban}
-use Rattle.code.specs.Laws.Lists.{table-more, length-table, getD-table}
+use Rattle.code.specs.Laws.Lists.{tabulate-more, length-tabulate, getD-tabulate}
 use Rattle.ban_theory.specs.BanLists.{Known, no-ban, ban}
 
 -- ban i of the list
@@ -15,15 +15,15 @@ banAt l i = record { x = getD l (3 * i) 0; y = getD l (3 * i + 1) 0; z = getD l 
 
 -- the first k bans
 unfoldable pub bansFrom : List ℕ → ℕ → List Ban
-bansFrom l k = table (banAt l) k
+bansFrom l k = tabulate (banAt l) k
 
 pub bans-none : (l : List ℕ) → bansFrom l 0 ≡ []
-unfolding bansFrom table
+unfolding bansFrom tabulate
 bans-none l = refl
 
 pub bans-more : (l : List ℕ) (k : ℕ) → bansFrom l (k + 1) ≡ bansFrom l k ++ (banAt l k ∷ [])
 unfolding bansFrom
-bans-more l k = table-more (banAt l) k
+bans-more l k = tabulate-more (banAt l) k
 
 -- A ban on known words.
 pub record KnownBan (n : ℕ) (b : Ban) : Type 0 where
@@ -38,4 +38,4 @@ known-at (ban x y z k) (suc i) d h = known-at k i d (omega arith)
 
 pub known-ban : {n : ℕ} (l : List ℕ) (k : ℕ) → Known n (bansFrom l k) → (i : ℕ) → i < k → KnownBan n (banAt l i)
 unfolding bansFrom
-known-ban l k known i h = rw (getD-table (banAt l) k i (banAt l i) h) at (known-at known i (banAt l i) (rw (length-table (banAt l) k) h))
+known-ban l k known i h = rw (getD-tabulate (banAt l) k i (banAt l i) h) at (known-at known i (banAt l i) (rw (length-tabulate (banAt l) k) h))

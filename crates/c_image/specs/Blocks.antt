@@ -7,7 +7,7 @@ use native.Mathlib.Nat.{suc-mul, zero-mul}
 use native.Mathlib.Numerals.{add-one}
 use lib.ListN.{length, take, drop, getD, length-append, List·getD-append}
 use lib.Seq.{sets, take-suc, split-at, getD-append-add, take-add, drop-drop}
-use Rattle.code.specs.Definitions.Lists.{table}
+use Rattle.code.specs.Definitions.Lists.{tabulate}
 use Rattle.copying.specs.Runs.{sets-behind}
 
 module _ {A : Type 0} (f : A → List ℕ) where
@@ -45,10 +45,10 @@ module _ {A : Type 0} (f : A → List ℕ) where
         (getD-append-add (flatMap f (take k xs)) (f (getD xs k d) ++ later) j 0 ∙ List·getD-append (f (getD xs k d)) later 0 j (omega (arith, wide k h)))
 
   -- Bytes that part into blocks of one width are those blocks, joined.
-  pub blocks-table : (g : ℕ → A) (width at n : ℕ) (b : List ℕ) → ((k : ℕ) → k < n → f (g k) ≡ take width (drop (at + k * width) b))
-      → flatMap f (table g n) ≡ take (n * width) (drop at b)
-  unfolding flatMap table
-  blocks-table g width at zero b same = rw zero-mul
-  blocks-table g width at (suc n) b same =
-      blocks-one (table g n) (g n)
-      ∙ rw (blocks-table g width at n b (λ k h. same k (omega arith)), same n (omega arith), suc-mul, take-add, drop-drop)
+  pub blocks-tabulate : (g : ℕ → A) (width at n : ℕ) (b : List ℕ) → ((k : ℕ) → k < n → f (g k) ≡ take width (drop (at + k * width) b))
+      → flatMap f (tabulate g n) ≡ take (n * width) (drop at b)
+  unfolding flatMap tabulate
+  blocks-tabulate g width at zero b same = rw zero-mul
+  blocks-tabulate g width at (suc n) b same =
+      blocks-one (tabulate g n) (g n)
+      ∙ rw (blocks-tabulate g width at n b (λ k h. same k (omega arith)), same n (omega arith), suc-mul, take-add, drop-drop)

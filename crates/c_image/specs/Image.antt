@@ -7,7 +7,7 @@ use Rattle.code.specs.declared.Word.{Word}
 use Rattle.code.specs.declared.Row.{Row}
 use Rattle.code.specs.declared.Code.{Code}
 use Rattle.code.specs.declared.Enlarged.{Enlarged}
-use Rattle.code.specs.Definitions.Lists.{table}
+use Rattle.code.specs.Definitions.Lists.{tabulate}
 use Rattle.code.specs.Definitions.Sheets.{limits}
 use Rattle.code.specs.Definitions.Tables.{noWord, noRow}
 
@@ -78,10 +78,10 @@ byteFrom b at k = getD b (at + k) 0
 
 -- the word, and the row, that stand from `at` on
 abbrev pub wordIn : List ℕ → ℕ → Word
-wordIn b at = record { symbols = table (byteFrom b at) 16; len = byteFrom b at 16 }
+wordIn b at = record { symbols = tabulate (byteFrom b at) 16; len = byteFrom b at 16 }
 
 abbrev pub rowIn : List ℕ → ℕ → Row
-rowIn b at = record { entries = table (byteFrom b at) 32 }
+rowIn b at = record { entries = tabulate (byteFrom b at) 32 }
 
 -- word k, and row k
 abbrev pub wordNumber : List ℕ → ℕ → Word
@@ -91,7 +91,7 @@ abbrev pub rowNumber : List ℕ → ℕ → Row
 rowNumber b k = rowIn b (rowsPlace + k * 32)
 
 unfoldable pub codeIn : List ℕ → Code
-codeIn b = record { words = table (wordNumber b) 32; rows = table (rowNumber b) 32; begins = rowIn b marksPlace .entries; count = getD b countPlace 0 }
+codeIn b = record { words = tabulate (wordNumber b) 32; rows = tabulate (rowNumber b) 32; begins = rowIn b marksPlace .entries; count = getD b countPlace 0 }
 
 unfoldable pub enlargedIn : List ℕ → Enlarged
 enlargedIn b = record { code = codeIn b; originals = getD b codeLength 0; origins = rowIn b originsPlace .entries; behind = rowIn b behindPlace .entries }

@@ -9,12 +9,12 @@ use Rattle.code.specs.declared.Word.{Word}
 use Rattle.code.specs.declared.Row.{Row}
 use Rattle.code.specs.declared.Code.{Code}
 use Rattle.code.specs.declared.Enlarged.{Enlarged}
-use Rattle.code.specs.Definitions.Lists.{table}
+use Rattle.code.specs.Definitions.Lists.{tabulate}
 use Rattle.code.specs.Definitions.Sheets.{limits}
 use Rattle.code.specs.Definitions.Tables.{noWord, noRow}
-use Rattle.code.specs.Laws.Lists.{table-list, table-more}
+use Rattle.code.specs.Laws.Lists.{tabulate-list, tabulate-more}
 use Rattle.c_image.specs.Image.{wordWidth, rowsPlace, marksPlace, countPlace, codeLength, originsPlace, behindPlace, imageLength, wordBytes, rowBytes, wordsBytes, rowsBytes, codeBytes, imageOf, PackableCode, Packable, byteFrom, wordNumber, rowNumber, codeIn, enlargedIn}
-use Rattle.c_image.specs.Blocks.{block-at, blocks-table}
+use Rattle.c_image.specs.Blocks.{block-at, blocks-tabulate}
 use Rattle.c_image.specs.Packing.{word-wide, row-wide, length-words, length-both, length-all, length-code, length-originals, length-origins}
 
 module _ {c : Code} (fits : PackableCode c) (rest : List ℕ) where
@@ -48,7 +48,7 @@ module _ {c : Code} (fits : PackableCode c) (rest : List ℕ) where
   word-same k h =
       let w : Word = getD (c .words) k noWord in
       let long = fits .symbols k h in
-      let symbols-same = table-list (byteFrom (codeBytes c ++ rest) (k * wordWidth)) 16 (w .symbols) 0 long
+      let symbols-same = tabulate-list (byteFrom (codeBytes c ++ rest) (k * wordWidth)) 16 (w .symbols) 0 long
       (λ j i. word-byte k j h (omega arith) ∙ List·getD-append (w .symbols) (w .len ∷ []) 0 j (omega arith)) in
       let len-same = word-byte k 16 h (omega arith) ∙ getD-at (w .symbols) (w .len) [] 0 16 long in
       rw (symbols-same, len-same)
@@ -56,16 +56,16 @@ module _ {c : Code} (fits : PackableCode c) (rest : List ℕ) where
   row-same : (k : ℕ) → k < 32 → rowNumber (codeBytes c ++ rest) k ≡ getD (c .rows) k noRow
   row-same k h =
       let r : Row = getD (c .rows) k noRow in
-      let entries-same = table-list (byteFrom (codeBytes c ++ rest) (rowsPlace + k * 32)) 32 (r .entries) 0 (fits .entries k h) (λ j i. row-byte k j h i) in
+      let entries-same = tabulate-list (byteFrom (codeBytes c ++ rest) (rowsPlace + k * 32)) 32 (r .entries) 0 (fits .entries k h) (λ j i. row-byte k j h i) in
       rw entries-same
 
   -- A code is what its bytes hold.
   code-holds : codeIn (codeBytes c ++ rest) ≡ c
   unfolding codeIn
   code-holds =
-      let words-same = table-list (wordNumber (codeBytes c ++ rest)) 32 (c .words) noWord (fits .words) word-same in
-      let rows-same = table-list (rowNumber (codeBytes c ++ rest)) 32 (c .rows) noRow (fits .rows) row-same in
-      let marks-same = table-list (byteFrom (codeBytes c ++ rest) marksPlace) 32 (c .begins) 0 (fits .begins) mark-byte in
+      let words-same = tabulate-list (wordNumber (codeBytes c ++ rest)) 32 (c .words) noWord (fits .words) word-same in
+      let rows-same = tabulate-list (rowNumber (codeBytes c ++ rest)) 32 (c .rows) noRow (fits .rows) row-same in
+      let marks-same = tabulate-list (byteFrom (codeBytes c ++ rest) marksPlace) 32 (c .begins) 0 (fits .begins) mark-byte in
       rw (words-same, rows-same, marks-same, count-byte)
 
 module _ {e : Enlarged} (fits : Packable e) (rest : List ℕ) where
@@ -96,17 +96,17 @@ module _ {e : Enlarged} (fits : Packable e) (rest : List ℕ) where
   pub image-holds : enlargedIn (imageOf e ++ rest) ≡ e
   unfolding enlargedIn
   image-holds =
-      let origins-same = table-list (byteFrom (imageOf e ++ rest) originsPlace) (limits .words) (e .origins) 0 (fits .origins) origin-byte in
-      let behind-same = table-list (byteFrom (imageOf e ++ rest) behindPlace) (limits .words) (e .behind) 0 (fits .behind) behind-byte in
+      let origins-same = tabulate-list (byteFrom (imageOf e ++ rest) originsPlace) (limits .words) (e .origins) 0 (fits .origins) origin-byte in
+      let behind-same = tabulate-list (byteFrom (imageOf e ++ rest) behindPlace) (limits .words) (e .behind) 0 (fits .behind) behind-byte in
       rw (code-same, originals-byte, origins-same, behind-same)
 
 module _ (b : List ℕ) (room : imageLength ≤ length b) where
-  bytes-from : (at n : ℕ) → at + n ≤ length b → table (byteFrom b at) n ≡ take n (drop at b)
+  bytes-from : (at n : ℕ) → at + n ≤ length b → tabulate (byteFrom b at) n ≡ take n (drop at b)
   bytes-from at n h =
-      table-list (byteFrom b at) n (take n (drop at b)) 0 (length-take-le n (drop at b) (omega (arith, length-drop at b))) (λ k l. rw (getD-take, getD-drop))
+      tabulate-list (byteFrom b at) n (take n (drop at b)) 0 (length-take-le n (drop at b) (omega (arith, length-drop at b))) (λ k l. rw (getD-take, getD-drop))
 
   word-block : (k : ℕ) → k < 32 → wordBytes (wordNumber b k) ≡ take wordWidth (drop (0 + k * wordWidth) b)
-  word-block k h = let at : 0 + k * wordWidth ≡ k * wordWidth = omega arith in rw at (sym (table-more (byteFrom b (k * wordWidth)) 16) ∙ bytes-from (k * wordWidth) wordWidth (omega arith))
+  word-block k h = let at : 0 + k * wordWidth ≡ k * wordWidth = omega arith in rw at (sym (tabulate-more (byteFrom b (k * wordWidth)) 16) ∙ bytes-from (k * wordWidth) wordWidth (omega arith))
 
   row-block : (k : ℕ) → k < 32 → rowBytes (rowNumber b k) ≡ take 32 (drop (rowsPlace + k * 32) b)
   row-block k h = bytes-from (rowsPlace + k * 32) 32 (omega arith)
@@ -114,7 +114,7 @@ module _ (b : List ℕ) (room : imageLength ≤ length b) where
   held-code : codeBytes (codeIn b) ≡ take codeLength b
   unfolding codeBytes codeIn
   held-code =
-      rw (blocks-table wordBytes (wordNumber b) wordWidth 0 32 b word-block, blocks-table rowBytes (rowNumber b) 32 rowsPlace 32 b row-block, bytes-from marksPlace 32 (omega arith))
+      rw (blocks-tabulate wordBytes (wordNumber b) wordWidth 0 32 b word-block, blocks-tabulate rowBytes (rowNumber b) 32 rowsPlace 32 b row-block, bytes-from marksPlace 32 (omega arith))
       (rw (← take-add rowsPlace 1024 b, ← take-add marksPlace 32 b) (sym (take-suc b countPlace 0 (omega arith))))
 
   -- The bytes of an image are those of the code with copies that it holds.

@@ -7,12 +7,12 @@ use lib.ListN.{length, drop, getD, set, replicate, length-set, drop-of-length-le
 use Rattle.code.specs.declared.Word.{Word}
 use Rattle.code.specs.declared.Row.{Row}
 use Rattle.code.specs.declared.Code.{Code}
-use Rattle.code.specs.Definitions.Lists.{table}
+use Rattle.code.specs.Definitions.Lists.{tabulate}
 use Rattle.code.specs.Laws.Filling.{fill-next}
 use Rattle.c_image.specs.Image.{marksPlace, countPlace, codeLength, originsPlace, behindPlace, rowIn, wordNumber, rowNumber, codeIn, enlargedIn}
 
 -- Filled to its end, an array is the table.
-pub filled : {A : Type 0} (f : ℕ → A) (d : List A) (i n : ℕ) → i ≡ n → length d ≤ n → table f i ++ drop i d ≡ table f n
+pub filled : {A : Type 0} (f : ℕ → A) (d : List A) (i n : ℕ) → i ≡ n → length d ≤ n → tabulate f i ++ drop i d ≡ tabulate f n
 filled f d i n e h = rw (e, drop-of-length-le d h, append-nil)
 
 abbrev pub zeroWord : Word
@@ -26,8 +26,8 @@ pub record Unpacked (b : List ℕ) (c : Code) (k : ℕ) : Type 0 where
   pub most : k ≤ 32
   pub words-long : length (c .words) ≡ 32
   pub rows-long : length (c .rows) ≡ 32
-  pub words : c .words ≡ table (wordNumber b) k ++ drop k (replicate 32 zeroWord)
-  pub rows : c .rows ≡ table (rowNumber b) k ++ drop k (replicate 32 zeroRow)
+  pub words : c .words ≡ tabulate (wordNumber b) k ++ drop k (replicate 32 zeroWord)
+  pub rows : c .rows ≡ tabulate (rowNumber b) k ++ drop k (replicate 32 zeroRow)
   pub begins : c .begins ≡ rowIn b marksPlace .entries
   pub count : c .count ≡ getD b countPlace 0
 

@@ -6,7 +6,7 @@ use mathlib.Core.Logic.{_⊎_, inl, inr}
 use Prim.Native.Nat.{ℕ, zero, suc, _<_}
 use native.Mathlib.Decide.{ℕ-discrete}
 use native.Mathlib.Omega.{arith}
-use Rattle.code.specs.Definitions.Lists.{if_then_else_, every, table}
+use Rattle.code.specs.Definitions.Lists.{if_then_else_, every, tabulate}
 
 module _ {A : Type 0} where
   unfoldable pub empty : List A → Bool
@@ -90,8 +90,8 @@ module _ {A : Type 0} (f : A → Bool) where
 
 -- the numbers below n
 unfoldable pub numbers : ℕ → List ℕ
-unfolding table
-numbers n = table (λ x. x) n
+unfolding tabulate
+numbers n = tabulate (λ x. x) n
 
 last-in : {x n : ℕ} → (x < n → List·Memᴰ x (numbers n)) → x < suc n → Dec (x ≡ n) → List·Memᴰ x (numbers (suc n))
 unfolding numbers

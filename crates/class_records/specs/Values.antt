@@ -8,7 +8,7 @@ use native.Mathlib.Decide.{decLt}
 use lib.Dec.{eqb}
 use lib.ListN.{length, drop, getD, List·getD-eq-default}
 use borrow.Author.Tests.{eqb-true}
-use Rattle.sheet_table.specs.Building.{word-digit, word-symbol}
+use Rattle.csv.specs.Symbols.{field-digit, field-symbol}
 use Rattle.code.specs.Definitions.ClassSheets.{byteOf, digits}
 use Rattle.code.specs.Definitions.Lists.{every}
 use Rattle.code.specs.Definitions.Sheets.{isDigit, valueOf}
@@ -37,8 +37,8 @@ pub record DigitAt (s f : List ℕ) (k j : ℕ) : Type 0 where
 pub field-digit : (s : List ℕ) (from n j k : ℕ) → k ≡ from + j → digits n (leading (drop from s)) ≡ true → j < n → DigitAt s (leading (drop from s)) k j
 field-digit s from n j k q d h =
     let l : j < length (leading (drop from s)) = omega (arith, digits-many n (leading (drop from s)) d) in
-    let e = word-digit s from j l in
-    rw q (record { within = digit-within s (from + j) e; digit = e; value = word-symbol s from j l; small = value-symbol (getD s (from + j) 0) e })
+    let e = field-digit s from j l in
+    rw q (record { within = digit-within s (from + j) e; digit = e; value = field-symbol s from j l; small = value-symbol (getD s (from + j) 0) e })
 
 -- The digit of a symbol, and the two of a byte.
 module _ (s : List ℕ) (from : ℕ) where

@@ -10,9 +10,9 @@ use lib.ListN.{length, set, length-set}
 use lib.Seq.{getD-set-same, getD-set-other}
 use borrow.Author.Tests.{lt-ltb, le-ltb, le-leb, lt-leb}
 use Rattle.code.specs.Definitions.ClassSheets.{differentBytes, allBytes}
-use Rattle.code.specs.Definitions.Lists.{if_then_else_, any, table}
+use Rattle.code.specs.Definitions.Lists.{if_then_else_, any, tabulate}
 use Rattle.code.specs.Definitions.Texts.{other, classOf, isLetter}
-use Rattle.code.specs.Laws.Lists.{any-table, any-found, any-alike}
+use Rattle.code.specs.Laws.Lists.{any-tabulate, any-found, any-alike}
 
 -- the bytes from `low` to `high`
 abbrev pub fromTo : ℕ → ℕ → ℕ → Bool
@@ -106,7 +106,7 @@ unfolding allBytes
 filling-starts low symbol c long = record {
   long = long;
   at = λ b h. rw (between-none low b) (both b (isLetter c b));
-  met = sym (any-table (λ b. isLetter c b && between low low b) (λ b. b) differentBytes (λ b h. rw (between-none low b, and-false)));
+  met = sym (any-tabulate (λ b. isLetter c b && between low low b) (λ b. b) differentBytes (λ b h. rw (between-none low b, and-false)));
 }
   where
     both : (b : ℕ) (x : Bool) → classOf c b ≡ (if x then classOf c b else classOf c b)

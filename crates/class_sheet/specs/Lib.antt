@@ -1,4 +1,4 @@
-pub mod Marks
+pub mod Signs
 pub mod Filling
 pub mod Records
 pub mod Counting

@@ -9,7 +9,7 @@ use lib.ListN.{length, drop, replicate}
 use Rattle.code.specs.declared.SheetAnswer.{SheetAnswer}
 use Rattle.code.specs.Definitions.ClassSheets.{malformed, differentBytes}
 use Rattle.code.specs.Definitions.Lists.{any}
-use Rattle.code.specs.Definitions.Texts.{other, marks}
+use Rattle.code.specs.Definitions.Texts.{other, signs}
 use Rattle.code.specs.Laws.Clean.{Clean, recordFields}
 use Rattle.class_records.specs.declared.Record.{Record}
 use Rattle.class_records.specs.declared.Record.the-variants.{Wrong, Range as Found}
@@ -17,7 +17,7 @@ use Rattle.class_records.specs.Contracts.{RangeFrom, RecordFrom, wrong, found}
 use Rattle.csv.specs.Front.{restOf, rest-within, rest-past}
 use Rattle.class_sheet.specs.Filling.{fromTo, FilledBy}
 use Rattle.class_sheet.specs.Records.{judged, Answers}
-use Rattle.class_sheet.specs.Sofar.{Sofar, sofar-none, sofar-mark, sofar-next, sofar-ends, refused-18}
+use Rattle.class_sheet.specs.Sofar.{Sofar, sofar-none, sofar-sign, sofar-next, sofar-ends, refused-18}
 
 -- The next record begins at `at`.
 pub record Passed (s c : List ℕ) (upside twice : Bool) (at : ℕ) : Type 0 where
@@ -68,13 +68,13 @@ module _ {s c : List ℕ} {upside twice : Bool} {at : ℕ} (p : Passed s c upsid
         sofar-here : Sofar (recordFields s) (here .fields ∷ restOf s next) c upside twice
         sofar-here = rw (rest-within s at h, here .first) at (p .sofar)
 
-        pub passing-mark : {b : SheetAnswer} {t : Bool} → t ≡ any (fromTo low high) marks → t ≡ true → b ≡ judged true upside twice → Answers (recordFields s) c b
-        passing-mark q y = refused-18 (recordFields s) (sofar-mark sofar-here low high symbol (here .same) (sym q ∙ y))
+        pub passing-sign : {b : SheetAnswer} {t : Bool} → t ≡ any (fromTo low high) signs → t ≡ true → b ≡ judged true upside twice → Answers (recordFields s) c b
+        passing-sign q y = refused-18 (recordFields s) (sofar-sign sofar-here low high symbol (here .same) (sym q ∙ y))
 
         pub passing-less : length s + 2 - next < length s + 2 - at
         passing-less = let b = here in omega (arith, b .long, b .within)
 
-        pub passing-on : {t : Bool} → t ≡ any (fromTo low high) marks → t ≡ false → {u v m : Bool} {d : List ℕ} → u ≡ (upside || ltb high low)
+        pub passing-on : {t : Bool} → t ≡ any (fromTo low high) signs → t ≡ false → {u v m : Bool} {d : List ℕ} → u ≡ (upside || ltb high low)
             → FilledBy (fromTo low high) symbol c d m → v ≡ (m || twice) → Passed s d u v next
         passing-on q y i f j =
             record {

@@ -8,7 +8,7 @@ use Rattle.code.specs.declared.Refusal.the-variants.{ClassRecord, ClassRange, C
 use Rattle.code.specs.declared.SheetAnswer.{SheetAnswer}
 use Rattle.code.specs.declared.SheetAnswer.the-variants.{Accepted, Refused}
 use Rattle.code.specs.declared.TakenClasses.{TakenClasses}
-use Rattle.code.specs.Definitions.ClassSheets.{Range, rangeOf, malformed, takesMark, refused19, refused20, classesOf, noClasses}
+use Rattle.code.specs.Definitions.ClassSheets.{Range, rangeOf, malformed, takesSign, refused19, refused20, classesOf, noClasses}
 use Rattle.code.specs.Definitions.Lists.{if_then_else_, any}
 
 abbrev pub rangesIn : List (List (List ℕ)) → List Range
@@ -16,7 +16,7 @@ rangesIn g = map rangeOf g
 
 -- 18, but for wrong bytes
 abbrev pub badRecords : List (List (List ℕ)) → Bool
-badRecords g = any malformed g || any takesMark (rangesIn g)
+badRecords g = any malformed g || any takesSign (rangesIn g)
 
 unfoldable pub takenRecords : List (List (List ℕ)) → TakenClasses
 takenRecords g =

@@ -9,10 +9,10 @@ use lib.ListN.{length, replicate, length-replicate, getD-replicate}
 use Rattle.code.specs.declared.Refusal.the-variants.{ClassRecord, ClassRange, ClassOverlap}
 use Rattle.code.specs.declared.SheetAnswer.{SheetAnswer}
 use Rattle.code.specs.declared.SheetAnswer.the-variants.{Refused}
-use Rattle.code.specs.Definitions.ClassSheets.{Range, rangeOf, malformed, takesMark, refused19, differentBytes, allBytes, takers, refused20, classBy, classesOf}
+use Rattle.code.specs.Definitions.ClassSheets.{Range, rangeOf, malformed, takesSign, refused19, differentBytes, allBytes, takers, refused20, classBy, classesOf}
 use Rattle.code.specs.Definitions.Lists.{if_then_else_, any}
-use Rattle.code.specs.Definitions.Texts.{other, classOf, isLetter, marks}
-use Rattle.code.specs.Laws.Lists.{any-table, any-alike, table-list}
+use Rattle.code.specs.Definitions.Texts.{other, classOf, isLetter, signs}
+use Rattle.code.specs.Laws.Lists.{any-tabulate, any-alike, tabulate-list}
 use Rattle.class_sheet.specs.Filling.{fromTo, FilledBy}
 use Rattle.class_sheet.specs.Records.{rangesIn, badRecords, takenRecords, judged, Answers, refused, accepted}
 use Rattle.class_sheet.specs.Counting.{seen, twice-next, class-next, others-next}
@@ -45,22 +45,22 @@ sofar-none g {c} e =
 -- One record more
 module _ {whole g : List (List (List ℕ))} {f : List (List ℕ)} {c : List ℕ} {upside twice : Bool} (s : Sofar whole (f ∷ g) c upside twice) (low high symbol : ℕ)
     (is : rangeOf f ≡ record { lowest = low; highest = high; symbol = symbol }) where
-  abbrev marked : Bool
-  marked = any (fromTo low high) marks
+  abbrev takes : Bool
+  takes = any (fromTo low high) signs
 
-  mark-tested : takesMark (rangeOf f) ≡ marked
-  unfolding takesMark
-  mark-tested = ap takesMark is
+  sign-tested : takesSign (rangeOf f) ≡ takes
+  unfolding takesSign
+  sign-tested = ap takesSign is
 
-  pub sofar-mark : marked ≡ true → badRecords whole ≡ true
+  pub sofar-sign : takes ≡ true → badRecords whole ≡ true
   unfolding any
-  sofar-mark e = sym (s .bad) ∙ rw (mark-tested, e) (last (malformed f || any malformed g))
+  sofar-sign e = sym (s .bad) ∙ rw (sign-tested, e) (last (malformed f || any malformed g))
     where
       last : (a : Bool) → (a || true) ≡ true
       last true = refl
       last false = refl
 
-  pub sofar-next : malformed f ≡ false → marked ≡ false → symbol < other → {d : List ℕ} {m : Bool} → FilledBy (fromTo low high) symbol c d m
+  pub sofar-next : malformed f ≡ false → takes ≡ false → symbol < other → {d : List ℕ} {m : Bool} → FilledBy (fromTo low high) symbol c d m
       → Sofar whole g d (upside || ltb high low) (m || twice)
   unfolding any refused19
   sofar-next right free small {d} {m} filled =
@@ -68,7 +68,7 @@ module _ {whole g : List (List (List ℕ))} {f : List (List ℕ)} {c : List ℕ}
       let met = rw is at (s .met) in
       let class = rw is at (s .class) in
       record {
-        bad = sym (rw (right, mark-tested, free)) ∙ s .bad;
+        bad = sym (rw (right, sign-tested, free)) ∙ s .bad;
         down = or-assoc upside (ltb high low) (refused19 (rangesIn g)) ∙ down;
         met = twice-next low high symbol filled small (rangesIn g) twice ∙ met;
         class = λ b h. class-next low high symbol filled small (rangesIn g) b h ∙ class b h;
@@ -80,7 +80,7 @@ module _ {whole g : List (List (List ℕ))} {f : List (List ℕ)} {c : List ℕ}
 module _ {whole : List (List (List ℕ))} {c : List ℕ} {upside twice : Bool} (s : Sofar whole [] c upside twice) where
   once : any (λ b. ltb 1 (seen c b + takers b [])) allBytes ≡ false
   unfolding allBytes takers
-  once = any-table (λ b. ltb 1 (seen c b + 0)) (λ b. b) differentBytes (λ b h. by-test (isLetter c b))
+  once = any-tabulate (λ b. ltb 1 (seen c b + 0)) (λ b. b) differentBytes (λ b h. by-test (isLetter c b))
     where
       by-test : (t : Bool) → ltb 1 ((if t then 1 else 0) + 0) ≡ false
       by-test true = refl
@@ -97,7 +97,7 @@ module _ {whole : List (List (List ℕ))} {c : List ℕ} {upside twice : Bool} (
   unfolding classesOf classBy
   is-classes =
       ap (λ (l : List ℕ). record { entries = l })
-      (table-list (classBy (rangesIn whole)) differentBytes c 0 (s .long) (λ b h. sym (s .class b h) ∙ by-test b h (isLetter c b) refl))
+      (tabulate-list (classBy (rangesIn whole)) differentBytes c 0 (s .long) (λ b h. sym (s .class b h) ∙ by-test b h (isLetter c b) refl))
     where
       by-test : (b : ℕ) → b < differentBytes → (t : Bool) → isLetter c b ≡ t → (if t then classOf c b else other) ≡ classOf c b
       by-test b h true e = refl
@@ -112,7 +112,7 @@ module _ {whole : List (List (List ℕ))} {c : List ℕ} {upside twice : Bool} (
       by-flags false true p q = refused {r = ClassOverlap} (rw (← s .bad, p, q))
       by-flags false false p q = accepted (rw (← s .bad, p, q, is-classes))
 
--- A record is malformed, or takes in a mark.
+-- A record is malformed, or takes in a sign.
 pub refused-18 : (g : List (List (List ℕ))) {c : List ℕ} → badRecords g ≡ true → {a : SheetAnswer} → a ≡ Refused ClassRecord → Answers g c a
 unfolding takenRecords
 refused-18 g bad e = rw e (refused {r = ClassRecord} (rw bad))

@@ -17,7 +17,7 @@ ghost use lib.ListN.{length, replicate};
 ghost use Rattle.code.specs.Definitions.ClassSheets.{differentBytes, noClasses, takenClasses};
 ghost use Rattle.code.specs.Definitions.Lists.{any};
 ghost use Rattle.code.specs.Definitions.Sheets.{limits};
-ghost use Rattle.code.specs.Definitions.Texts.{other, marks};
+ghost use Rattle.code.specs.Definitions.Texts.{other, signs};
 ghost use Rattle.code.specs.Laws.Clean.{Clean, recordFields};
 ghost use Rattle.class_sheet.specs.Filling.{fromTo, Gives, FilledBy};
 ghost use Rattle.class_sheet.specs.Records.{takenRecords, judged, Answers};
@@ -30,8 +30,8 @@ fn takes_in(lowest: u8, highest: u8, b: u8) -> bool
 }
 
 // Whether a range takes in B7 or a bracket.
-fn takes_mark(lowest: u8, highest: u8) -> bool
-    ensures { λ r. ⌜ r ≡ any (fromTo lowest highest) marks ⌝ }
+fn takes_sign(lowest: u8, highest: u8) -> bool
+    ensures { λ r. ⌜ r ≡ any (fromTo lowest highest) signs ⌝ }
 {
     let round = or(
         takes_in(lowest, highest, b'('),
@@ -70,7 +70,7 @@ fn fill(entries: &mut [u8], lowest: u8, highest: u8, symbol: u8) -> bool
     twice
 }
 
-// The lowest refusal, by what was seen: a record that is malformed or takes in a mark, a range that is upside down, a byte in two records.
+// The lowest refusal, by what was seen: a record that is malformed or takes in a sign, a range that is upside down, a byte in two records.
 fn judge(bad: bool, upside: bool, twice: bool) -> SheetAnswer
     ensures { λ r. ⌜ r ≡ judged bad upside twice ⌝ }
 {
@@ -100,7 +100,7 @@ fn take_records(s: &[u8], entries: &mut [u8]) -> SheetAnswer
                 return judge(true, upside, twice);
             }
             Record::Range(lowest, highest, symbol, next) => {
-                if takes_mark(lowest, highest) {
+                if takes_sign(lowest, highest) {
                     return judge(true, upside, twice);
                 }
                 upside = or(upside, highest < lowest);

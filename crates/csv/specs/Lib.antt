@@ -3,3 +3,4 @@ pub mod Front
 pub mod Digits
 pub mod Join
 pub mod Sheets
+pub mod Symbols

@@ -6,7 +6,7 @@ use mathlib.Core.List.{List, [], _∷_, _++_, map}
 use Prim.Native.Nat.{ℕ, zero, suc, _+_, _≤_, _<_}
 use native.Mathlib.Omega.{arith}
 use lib.ListN.{length, length-append, length-map}
-use Rattle.code.specs.Definitions.Lists.{every, table, sum, join}
+use Rattle.code.specs.Definitions.Lists.{every, tabulate, sum, join}
 use Rattle.code.specs.Definitions.Sheets.{isDigit, fields, grid, badBytes}
 use Rattle.code.specs.Laws.Clean.{bad-end, body-end}
 use Rattle.csv.specs.Join.{isPlain, fields-join, records-join, bad-join, plain-join, length-join}
@@ -30,10 +30,10 @@ digital-append : {g h : List (List (List ℕ))} → Digital g → Digital h → 
 digital-append none e = e
 digital-append (more h i d) e = more h i (digital-append d e)
 
-pub digital-table : (f : ℕ → List (List ℕ)) (n : ℕ) → ((k : ℕ) → k < n → (1 ≤ length (f k)) × (every (every isDigit) (f k) ≡ true)) → Digital (table f n)
-unfolding table
-digital-table f zero h = none
-digital-table f (suc n) h = digital-append (digital-table f n (λ k i. h k (omega arith))) (more (h n (omega arith) .0) (h n (omega arith) .1) none)
+pub digital-tabulate : (f : ℕ → List (List ℕ)) (n : ℕ) → ((k : ℕ) → k < n → (1 ≤ length (f k)) × (every (every isDigit) (f k) ≡ true)) → Digital (tabulate f n)
+unfolding tabulate
+digital-tabulate f zero h = none
+digital-tabulate f (suc n) h = digital-append (digital-tabulate f n (λ k i. h k (omega arith))) (more (h n (omega arith) .0) (h n (omega arith) .1) none)
 
 records-plain : {g : List (List (List ℕ))} → Digital g → every (every isPlain) (map recordOf g) ≡ true
 unfolding every

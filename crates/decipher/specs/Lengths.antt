@@ -14,7 +14,7 @@ use Rattle.code.specs.Definitions.Orders.{Shortlex}
 use Rattle.code.specs.Definitions.Readings.{TwoReadings, Ambiguous, Decipherable}
 use Rattle.code.specs.Definitions.Sheets.{limits}
 use Rattle.code.specs.Definitions.Tables.{Table, tableOf}
-use Rattle.code.specs.Laws.Lists.{table-map}
+use Rattle.code.specs.Laws.Lists.{tabulate-map}
 use Rattle.code.specs.Laws.Readings.{first-two-readings}
 use Rattle.ban_theory.specs.Matches.{named-two, lifted-two, decipherable-lifted, lifted-delay}
 use Rattle.well_enlarged.specs.Listed.{from-lists}
@@ -30,7 +30,7 @@ use Rattle.pair_theory.specs.Lengths.{short-ends, least-short, delay-short}
 module _ {t : Table} (fits : Fits t) where
   places-few : placeCount t ≤ limits .total
   unfolding placeCount base
-  places-few = rw (← table-map length (t .words) []) (fits .total)
+  places-few = rw (← tabulate-map length (t .words) []) (fits .total)
 
   pairs-few : pairCount t ≤ unorderedPairs limits
   pairs-few = pairs-within t (limits .total) places-few
@@ -38,7 +38,7 @@ module _ {t : Table} (fits : Fits t) where
   -- The least symbols that reach two ends are no more than there are pairs, by the flat list of the table.
   places-laid : {f : List ℕ} → Lays t f → placeCount t ≤ placesLaid f
   unfolding placeCount base
-  places-laid l = rw (l .places, ← table-map length (t .words) []) (omega arith)
+  places-laid l = rw (l .places, ← tabulate-map length (t .words) []) (omega arith)
 
   pub least-laid : {f m : List ℕ} → Lays t f → LeastTwoEnds t m → length m ≤ pairsLaid f
   unfolding pairsLaid

@@ -12,7 +12,7 @@ use Rattle.code.specs.declared.SheetAnswer.the-variants.{Accepted}
 use Rattle.well_classed.specs.Given.{given-well}
 use Rattle.code.specs.Definitions.ClassSheets.{takenClasses}
 use Rattle.code.specs.Definitions.Enlarged.{plainOf}
-use Rattle.code.specs.Definitions.Lists.{table}
+use Rattle.code.specs.Definitions.Lists.{tabulate}
 use Rattle.code.specs.Definitions.Operations.{Enlarges, FromLists}
 use Rattle.code.specs.Definitions.Sheets.{limits, taken}
 use Rattle.c_results.specs.Given.{Answered, classesIn}
@@ -47,7 +47,7 @@ list-held (EnlargeCall.answered h g call) = let d = held call (list-packs g) in 
 pub both-held : (s : List ℕ) {t b u d d′ : List ℕ} → TakesIn s b t 0 → EnlargeCall t u d d′ 0 → FromLists limits (enlargedIn d′)
 both-held s {u = u} first second =
     let a = sheet-held s first in
-    record { table = taken limits s .code; given = record { sheet = s; gives = rw (a .0) }; list = u; gives = rw (a .1) at (list-held second) }
+    record { tabulate = taken limits s .code; given = record { sheet = s; gives = rw (a .0) }; list = u; gives = rw (a .1) at (list-held second) }
 
 -- Classes that a class sheet leaves are not refused 8 either.
 pub classes-held : (s : List ℕ) {b b′ : List ℕ} → ClassesCall s b b′ 0 → takenClasses limits s ≡ record { answer = Accepted; classes = classesIn b′ }
@@ -59,7 +59,7 @@ classes-held s {b} call =
     from ∙ rw (d .1, classes-there (c .entries) b whole)
 
 pub letters-held : {b b′ : List ℕ} → TurkishClassesCall b b′ 0 → classesIn b′ ≡ record { entries = turkishClasses }
-unfolding turkishClasses table
+unfolding turkishClasses tabulate
 letters-held {b} call = rw (given call .1) (classes-there turkishClasses b refl)
 
 -- The call does what taking in sheets/turkish.classes does.

@@ -7,7 +7,7 @@ use Rattle.graph.specs.Goals.{LeastGoal}
 use Rattle.pair_places.specs.Flat.{Laid, cellCount, pairCount}
 use Rattle.pair_places.specs.Opens.{toward, openGraph}
 use Rattle.pair_places.specs.Roots.{Numbered}
-use Rattle.pair_storage.specs.Entries.{nodeAt, held}
+use Rattle.pair_storage.specs.Entries.{nodeAt, entriesIn}
 use Rattle.pair_slots.specs.declared.Progress.{Progress}
 use Rattle.pair_slots.specs.declared.Progress.the-variants.{Goal, Tail}
 use Rattle.pair_groups.specs.Labels.{Label, Labelled}
@@ -30,13 +30,13 @@ pub record Ready (f ms q : List ℕ) (tail a b t k : ℕ) : Type 0 where
   pub member : k < b
   pub ends : b ≤ tail
   pub low : t < 16
-  pub node : nodeAt (held f q) k ≤ cellCount f
+  pub node : nodeAt (entriesIn f q) k ≤ cellCount f
 
 -- What dealing with a slot rests on.
 pub record Expanding (f ms q : List ℕ) (tail a b t k c : ℕ) : Type 0 where
   pub laid : Laid f
   pub numbered : Numbered f
-  pub stands : Stands f ms (held f q) tail a b t k c
+  pub stands : Stands f ms (entriesIn f q) tail a b t k c
   pub ready : Ready f ms q tail a b t k
 
 -- A goal comes next after the group that begins at a, by symbol t, and no other has a message before that.

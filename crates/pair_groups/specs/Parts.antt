@@ -7,7 +7,7 @@ use lib.ListN.{length}
 use Rattle.pair_places.specs.Flat.{Laid, pairCount}
 use Rattle.pair_places.specs.Opens.{openGraph}
 use Rattle.pair_places.specs.Roots.{Numbered}
-use Rattle.pair_storage.specs.Entries.{held}
+use Rattle.pair_storage.specs.Entries.{entriesIn}
 use Rattle.pair_slots.specs.declared.Progress.{Progress}
 use Rattle.pair_slots.specs.declared.Progress.the-variants.{Goal, Tail}
 use Rattle.pair_slots.specs.Contracts.{Space}
@@ -45,7 +45,7 @@ group-known s = entries-known (s .stage .queue) (s .stage .group .ends)
 pub known-again : {f ms q : List ℕ} {a b t k c e : ℕ} {r : Progress} → Progressed f ms q a b t k c r → r ≡ Tail e → Known f q b
 known-again h d = group-known (was-tail h d)
 
-module _ {f ms : List ℕ} (q : List ℕ) {tail a b t k c : ℕ} (laid : Laid f) (n : Numbered f) (s : Stands f ms (held f q) tail a b t k c) where
+module _ {f ms : List ℕ} (q : List ℕ) {tail a b t k c : ℕ} (laid : Laid f) (n : Numbered f) (s : Stands f ms (entriesIn f q) tail a b t k c) where
   stands-few : tail ≤ pairCount f + 1
   stands-few = tail-most laid n (s .stage .queue)
 
@@ -72,12 +72,12 @@ module _ {f ms : List ℕ} (q : List ℕ) {tail a b t k c : ℕ} (laid : Laid f)
   ready-again r e = ready (let w = r .wide in omega arith) (r .member) (r .low)
 
   -- After the last member, the next symbol.
-  pub symbol-end : b ≤ k → t < 16 → Progressed f ms (held f q) a b (t + 1) a 0 (Tail tail)
+  pub symbol-end : b ≤ k → t < 16 → Progressed f ms (entriesIn f q) a b (t + 1) a 0 (Tail tail)
   symbol-end l h = went (slots-begin (next-symbol (s .stage) l h))
 
 -- From one slot to another.
 pub expanding-next : {f ms q ms₀ q₀ : List ℕ} {tail₀ a b t k c c₀ e : ℕ} {r : Progress} → Expanding f ms₀ q₀ tail₀ a b t k c₀
-    → Progressed f ms (held f q) a b t k c r → r ≡ Tail e → length q ≡ length q₀ → Expanding f ms q e a b t k c
+    → Progressed f ms (entriesIn f q) a b t k c r → r ≡ Tail e → length q ≡ length q₀ → Expanding f ms q e a b t k c
 expanding-next {q = q} x h d l =
     let s = was-tail h d in
     record { laid = x .laid; numbered = x .numbered; stands = s; ready = ready-again q (x .laid) (x .numbered) s (x .ready) l }

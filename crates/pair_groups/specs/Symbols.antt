@@ -11,7 +11,7 @@ use Rattle.pair_places.specs.declared.Pair.{Pair}
 use Rattle.pair_places.specs.Flat.{Laid, placeCount, cell}
 use Rattle.pair_places.specs.Opens.{straightOn, turning}
 use Rattle.pair_places.specs.Roots.{Numbered}
-use Rattle.pair_storage.specs.Entries.{nodeAt, held}
+use Rattle.pair_storage.specs.Entries.{nodeAt, entriesIn}
 use Rattle.pair_storage.specs.Fields.{Carries}
 use Rattle.pair_slots.specs.declared.Progress.{Progress}
 use Rattle.pair_slots.specs.declared.Progress.the-variants.{Tail}
@@ -55,14 +55,14 @@ module _ {f q : List ℕ} {a t : ℕ} where
   none-led-end r l = record { order = r .order; none = λ i h. r .none i (omega arith) }
 
 -- One member more, by the two places that its link carries.
-pub none-led-more : {f : List ℕ} (q : List ℕ) {a b t k u n : ℕ} {p : Pair} → Laid f → Known f (held f q) b → k < b → NoneLed f (held f q) a k t u
-    → Carries (getD q k 0) p → NotLed f (cell f (p .low) (p .high)) t n → n ≤ u → NoneLed f (held f q) a (k + 1) t n
+pub none-led-more : {f : List ℕ} (q : List ℕ) {a b t k u n : ℕ} {p : Pair} → Laid f → Known f (entriesIn f q) b → k < b → NoneLed f (entriesIn f q) a k t u
+    → Carries (getD q k 0) p → NotLed f (cell f (p .low) (p .high)) t n → n ≤ u → NoneLed f (entriesIn f q) a (k + 1) t n
 none-led-more {f} q {a} {b} {t} {k} {u} {n} laid known m r c x l =
     let d = known-pair q laid known m c in
     record {
       order = x .order;
       none =
-          below-more (λ i. a ≤ i → (s : ℕ) → t ≤ s → s < n → width f (nodeAt (held f q) i) s ≡ 0) k (λ i h o s e z. r .none i h o s e (omega arith))
+          below-more (λ i. a ≤ i → (s : ℕ) → t ≤ s → s < n → width f (nodeAt (entriesIn f q) i) s ≡ 0) k (λ i h o s e z. r .none i h o s e (omega arith))
           (λ o s e z. ap (λ (v : ℕ). width f v s) (sym (d .node)) ∙ x .none s e z);
     }
 

@@ -14,7 +14,7 @@ use Rattle.code.specs.Definitions.Sheets.{limits}
 use Rattle.pair_places.specs.Flat.{symbolAt, firstAt, mayCome, opensAt, wordCount, cellCount, higher}
 use Rattle.pair_places.specs.Nodes.{node-of}
 use Rattle.pair_places.specs.Opens.{leftWord, rightWord, inOrder, pairBehind, toward, openGraph, behind-tests, behind-words, in-order, in-order-least, toward-turning}
-use Rattle.pair_storage.specs.Entries.{nodeAt, held}
+use Rattle.pair_storage.specs.Entries.{nodeAt, entriesIn}
 use Rattle.pair_slots.specs.declared.Progress.{Progress}
 use Rattle.pair_slots.specs.declared.Progress.the-variants.{Goal, Tail}
 use Rattle.pair_slots.specs.Contracts.{Turned, Arrived}
@@ -63,10 +63,10 @@ module _ {f ms q : List ℕ} {tail a b t k : ℕ} (y : ℕ) (u : Turned f (nodeA
       by j l h i (yes m) = s .now j m h i
       by j l h i (no m) = absurd (none j (omega arith) l (rw (toward-behind f u j) at h) (rw (toward-behind f u j) at i))
 
-module _ {f ms q : List ℕ} {tail a b t k : ℕ} (y : ℕ) (u : Turned f (nodeAt (held f q) k) y) where
+module _ {f ms q : List ℕ} {tail a b t k : ℕ} (y : ℕ) (u : Turned f (nodeAt (entriesIn f q) k) y) where
   -- A word that does not lead by t.
   pub word-over : (x : ℕ) {r : Bool} → Expanding f ms q tail a b t k (x * limits .words) → r ≡ leadsBehind f t y x → not r ≡ true
-      → Progressed f ms (held f q) a b t k ((x + 1) * limits .words) (Tail tail)
+      → Progressed f ms (entriesIn f q) a b t k ((x + 1) * limits .words) (Tail tail)
   word-over x {r} s d e =
       went
       (pass-over y u (s .stands) (λ j l m h i. let z : leftWord j ≡ x = omega arith in true≢false (sym (word-leads f t y j h i) ∙ rw z (sym d ∙ not-true r e))))
@@ -88,23 +88,23 @@ module _ {f ms q : List ℕ} {tail a b t k : ℕ} (y : ℕ) (u : Turned f (nodeA
 
   -- After the last word.
   pub word-ended : (x : ℕ) {z n : ℕ} → Expanding f ms q tail a b t k (x * limits .words + z) → n ≡ wordCount f → n ≤ z
-      → Progressed f ms (held f q) a b t k ((x + 1) * limits .words) (Tail tail)
+      → Progressed f ms (entriesIn f q) a b t k ((x + 1) * limits .words) (Tail tail)
   word-ended x {z} {n} s e l = went (pass-over y u (s .stands) (λ j m o h i. let g = behind-tests f y j h .known in omega arith))
 
   -- After the pair of words x and z was met.
   module _ (x z : ℕ) {ms′ q′ : List ℕ} {p : Progress} (s : Expanding f ms q tail a b t k (x * limits .words + z)) where
-    pub word-next : {e : ℕ} → Arrived f ms (held f q) ms′ (held f q′) a t tail (pairBehind f y (x * limits .words + z)) p → p ≡ Tail e → length q′ ≡ length q
+    pub word-next : {e : ℕ} → Arrived f ms (entriesIn f q) ms′ (entriesIn f q′) a t tail (pairBehind f y (x * limits .words + z)) p → p ≡ Tail e → length q′ ≡ length q
         → Expanding f ms′ q′ e a b t k (x * limits .words + (z + 1))
     word-next m d l =
         let w : x * limits .words + z + 1 ≡ x * limits .words + (z + 1) = omega arith in
         rw w at (expanding-next s (slot-done s (toward-behind f u (x * limits .words + z)) m) d l)
 
-    pub word-goal : {g t′ k′ c′ : ℕ} → Arrived f ms (held f q) ms′ q′ a t tail (pairBehind f y (x * limits .words + z)) p → p ≡ Goal g
+    pub word-goal : {g t′ k′ c′ : ℕ} → Arrived f ms (entriesIn f q) ms′ q′ a t tail (pairBehind f y (x * limits .words + z)) p → p ≡ Goal g
         → Progressed f ms′ q′ a b t′ k′ c′ (Goal g)
     word-goal m = goal-again (slot-done s (toward-behind f u (x * limits .words + z)) m)
 
   -- After the last word the member is done.
-  pub words-ended : (x : ℕ) {n : ℕ} → Expanding f ms q tail a b t k (x * limits .words) → n ≡ wordCount f → n ≤ x → Progressed f ms (held f q) a b t (k + 1) 0 (Tail tail)
+  pub words-ended : (x : ℕ) {n : ℕ} → Expanding f ms q tail a b t k (x * limits .words) → n ≡ wordCount f → n ≤ x → Progressed f ms (entriesIn f q) a b t (k + 1) 0 (Tail tail)
   words-ended x s e l =
-      let w = width-turning f (nodeAt (held f q) k) t (let g = u .turns in let h = u .behind in omega arith) in
+      let w = width-turning f (nodeAt (entriesIn f q) k) t (let g = u .turns in let h = u .behind in omega arith) in
       went (slots-begin (next-member (s .stands) (pair-slots (s .laid) (s .numbered)) (omega arith) (s .ready .member)))

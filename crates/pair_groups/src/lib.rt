@@ -17,7 +17,7 @@ ghost use Rattle.pair_places.specs.Flat.{Laid, placeCount, pairCount};
 ghost use Rattle.pair_places.specs.Opens.{openGraph};
 ghost use Rattle.pair_places.specs.Roots.{Numbered};
 ghost use Rattle.pair_places.specs.Steps.{pairCell};
-ghost use Rattle.pair_storage.specs.Entries.{held};
+ghost use Rattle.pair_storage.specs.Entries.{entriesIn};
 ghost use Rattle.pair_storage.specs.Marks.{marks};
 ghost use Rattle.pair_groups.specs.Contracts.{Known, Stands, Progressed};
 ghost use Rattle.pair_groups.specs.Queue.{Ascending, IsGroup};
@@ -41,8 +41,8 @@ fn expand_symbol(
         × Numbered (now places)
         × (pairCount (now places) + 2 ≤ length (now work))
         × (symbol < 16)
-        × Stands (now places) (marks (now places) (now work)) (held (now places) (now work)) tail (group .start) (group .end) symbol (group .start) 0 ⌝ }
-    ensures { λ r. ⌜ Progressed (now (places .entry)) (marks (now (places .entry)) (now (work .exit))) (held (now (places .entry)) (now (work .exit)))
+        × Stands (now places) (marks (now places) (now work)) (entriesIn (now places) (now work)) tail (group .start) (group .end) symbol (group .start) 0 ⌝ }
+    ensures { λ r. ⌜ Progressed (now (places .entry)) (marks (now (places .entry)) (now (work .exit))) (entriesIn (now (places .entry)) (now (work .exit)))
         (group .start) (group .end) (symbol + 1) (group .start) 0 r ⌝ }
 {
     let mut member = group.start;
@@ -78,10 +78,10 @@ fn sooner(places: &[u8], pair: Pair, symbol: usize, least: usize) -> usize
 // The least symbol, not below `symbol`, that may lead a member of a group on; 16 if there is none.
 fn next_symbol(places: &[u8], work: &[u64], group: Group, symbol: usize) -> usize
     requires { ⌜ Laid (now places)
-        × Known (now places) (held (now places) (now work)) (group .end)
+        × Known (now places) (entriesIn (now places) (now work)) (group .end)
         × (group .end ≤ length (now work))
         × (symbol ≤ 16) ⌝ }
-    ensures { λ r. ⌜ NoneLed (now (places .entry)) (held (now (places .entry)) (now (work .entry))) (group .start) (group .end) symbol r × (r ≤ 16) ⌝ }
+    ensures { λ r. ⌜ NoneLed (now (places .entry)) (entriesIn (now (places .entry)) (now (work .entry))) (group .start) (group .end) symbol r × (r ≤ 16) ⌝ }
 {
     let mut least = Word::ALPHABET as usize;
     let mut member = group.start;
@@ -97,8 +97,8 @@ pub fn expand_group(places: &[u8], work: &mut [u64], group: Group, tail: usize) 
     requires { ⌜ Laid (now places)
         × Numbered (now places)
         × (pairCount (now places) + 2 ≤ length (now work))
-        × Stands (now places) (marks (now places) (now work)) (held (now places) (now work)) tail (group .start) (group .end) 0 (group .start) 0 ⌝ }
-    ensures { λ r. ⌜ Progressed (now (places .entry)) (marks (now (places .entry)) (now (work .exit))) (held (now (places .entry)) (now (work .exit)))
+        × Stands (now places) (marks (now places) (now work)) (entriesIn (now places) (now work)) tail (group .start) (group .end) 0 (group .start) 0 ⌝ }
+    ensures { λ r. ⌜ Progressed (now (places .entry)) (marks (now (places .entry)) (now (work .exit))) (entriesIn (now (places .entry)) (now (work .exit)))
         (group .start) (group .end) 16 (group .start) 0 r ⌝ }
 {
     let mut symbol = next_symbol(places, work, group, 0);
@@ -116,11 +116,11 @@ pub fn expand_group(places: &[u8], work: &mut [u64], group: Group, tail: usize) 
 // The end of the group that starts at an entry.
 pub fn group_end(places: &[u8], work: &[u64], start: usize, tail: usize) -> usize
     requires { ⌜ Laid (now places)
-        × Known (now places) (held (now places) (now work)) tail
-        × Ascending (openGraph (now places)) (held (now places) (now work)) tail
+        × Known (now places) (entriesIn (now places) (now work)) tail
+        × Ascending (openGraph (now places)) (entriesIn (now places) (now work)) tail
         × (start < tail)
         × (tail ≤ length (now work)) ⌝ }
-    ensures { λ r. ⌜ IsGroup (openGraph (now (places .entry))) (held (now (places .entry)) (now (work .entry))) tail start r ⌝ }
+    ensures { λ r. ⌜ IsGroup (openGraph (now (places .entry))) (entriesIn (now (places .entry)) (now (work .entry))) tail start r ⌝ }
 {
     let first = key(places, work, start);
     let mut end = start + 1;

@@ -18,7 +18,7 @@ ghost use Rattle.code.specs.Definitions.Sheets.{limits};
 ghost use Rattle.pair_places.specs.Flat.{wordCount};
 ghost use Rattle.pair_places.specs.Steps.{pairCell};
 ghost use Rattle.pair_slots.specs.Contracts.{Straight, Turned};
-ghost use Rattle.pair_storage.specs.Entries.{nodeAt, held};
+ghost use Rattle.pair_storage.specs.Entries.{nodeAt, entriesIn};
 ghost use Rattle.pair_storage.specs.Marks.{marks};
 ghost use Rattle.pair_groups.specs.Contracts.{Expanding, Progressed};
 
@@ -33,9 +33,9 @@ fn expand_slots(
     tail: usize,
 ) -> Progress
     requires { ⌜ Expanding (now places) (marks (now places) (now work)) (now work) tail (group .start) (group .end) symbol member 0
-        × (nodeAt (held (now places) (now work)) member ≡ pairCell (now places) pair)
+        × (nodeAt (entriesIn (now places) (now work)) member ≡ pairCell (now places) pair)
         × Straight (now places) pair ⌝ }
-    ensures { λ r. ⌜ Progressed (now (places .entry)) (marks (now (places .entry)) (now (work .exit))) (held (now (places .entry)) (now (work .exit)))
+    ensures { λ r. ⌜ Progressed (now (places .entry)) (marks (now (places .entry)) (now (work .exit))) (entriesIn (now (places .entry)) (now (work .exit)))
         (group .start) (group .end) symbol (member + 1) 0 r ⌝ }
 {
     let end = width(places, pair, symbol);
@@ -64,11 +64,11 @@ fn expand_word(
     tail: usize,
 ) -> Progress
     requires { ⌜ Expanding (now places) (marks (now places) (now work)) (now work) tail (group .start) (group .end) symbol member (x * limits .words)
-        × Turned (now places) (nodeAt (held (now places) (now work)) member) y
+        × Turned (now places) (nodeAt (entriesIn (now places) (now work)) member) y
         × (x < wordCount (now places)) ⌝ }
-    ensures { λ r. ⌜ Progressed (now (places .entry)) (marks (now (places .entry)) (now (work .exit))) (held (now (places .entry)) (now (work .exit)))
+    ensures { λ r. ⌜ Progressed (now (places .entry)) (marks (now (places .entry)) (now (work .exit))) (entriesIn (now (places .entry)) (now (work .exit)))
         (group .start) (group .end) symbol member ((x + 1) * limits .words) r
-        × Turned (now (places .entry)) (nodeAt (held (now (places .entry)) (now (work .exit))) member) y ⌝ }
+        × Turned (now (places .entry)) (nodeAt (entriesIn (now (places .entry)) (now (work .exit))) member) y ⌝ }
 {
     if !leads(places, symbol, y, x) {
         return Progress::Tail(tail);
@@ -97,8 +97,8 @@ fn expand_words(
     tail: usize,
 ) -> Progress
     requires { ⌜ Expanding (now places) (marks (now places) (now work)) (now work) tail (group .start) (group .end) symbol member 0
-        × Turned (now places) (nodeAt (held (now places) (now work)) member) y ⌝ }
-    ensures { λ r. ⌜ Progressed (now (places .entry)) (marks (now (places .entry)) (now (work .exit))) (held (now (places .entry)) (now (work .exit)))
+        × Turned (now places) (nodeAt (entriesIn (now places) (now work)) member) y ⌝ }
+    ensures { λ r. ⌜ Progressed (now (places .entry)) (marks (now (places .entry)) (now (work .exit))) (entriesIn (now (places .entry)) (now (work .exit)))
         (group .start) (group .end) symbol (member + 1) 0 r ⌝ }
 {
     let n = pair_places::word_count(places);
@@ -124,7 +124,7 @@ pub fn expand_member(
     tail: usize,
 ) -> Progress
     requires { ⌜ Expanding (now places) (marks (now places) (now work)) (now work) tail (group .start) (group .end) symbol member 0 ⌝ }
-    ensures { λ r. ⌜ Progressed (now (places .entry)) (marks (now (places .entry)) (now (work .exit))) (held (now (places .entry)) (now (work .exit)))
+    ensures { λ r. ⌜ Progressed (now (places .entry)) (marks (now (places .entry)) (now (work .exit))) (entriesIn (now (places .entry)) (now (work .exit)))
         (group .start) (group .end) symbol (member + 1) 0 r ⌝ }
 {
     let pair = pair_at(work, member);

@@ -8,7 +8,7 @@ use Rattle.pair_places.specs.declared.Pair.{Pair}
 use Rattle.pair_places.specs.Flat.{slotsOf}
 use Rattle.pair_places.specs.Onward.{arc-past}
 use Rattle.pair_storage.specs.Fields.{Carries}
-use Rattle.pair_storage.specs.Entries.{held}
+use Rattle.pair_storage.specs.Entries.{entriesIn}
 use Rattle.pair_storage.specs.Stores.{markOf}
 use Rattle.pair_heights.specs.Pairs.{arc-of}
 use Rattle.pair_heights.specs.Search.{top-cell, top-high, top-marked, Searching}
@@ -16,10 +16,10 @@ use Rattle.pair_heights.specs.Follow.{Following}
 use Rattle.pair_heights.specs.Pop.{Popping}
 
 -- The pair p is on top, its mark is m, and it has n slots.
-module _ (f sk : List ℕ) {xs : List ℕ} {d m n : ℕ} {p : Pair} (s : Searching f xs (held f sk) d) (c : Carries (getD sk (d - 1) 0) p)
+module _ (f sk : List ℕ) {xs : List ℕ} {d m n : ℕ} {p : Pair} (s : Searching f xs (entriesIn f sk) d) (c : Carries (getD sk (d - 1) 0) p)
     (mark : m ≡ markOf f xs p) (count : n ≡ slotsOf f (p .low) (p .high)) where
   -- One of them is left.
-  pub following : m - 1 < n → Following f xs (held f sk) d p (m - 1)
+  pub following : m - 1 < n → Following f xs (entriesIn f sk) d p (m - 1)
   following l =
       let on = top-cell f sk (s .numbers) c in
       record {
@@ -31,7 +31,7 @@ module _ (f sk : List ℕ) {xs : List ℕ} {d m n : ℕ} {p : Pair} (s : Searchi
       }
 
   -- None is left.
-  pub popping : n ≤ m - 1 → Popping f xs (held f sk) d p
+  pub popping : n ≤ m - 1 → Popping f xs (entriesIn f sk) d p
   popping l =
       let on = top-cell f sk (s .numbers) c in
       record {

@@ -11,7 +11,7 @@ use Rattle.pair_places.specs.Nodes.{slots-few, cell-inside, cell-outside, cells
 use Rattle.pair_places.specs.Steps.{pairCell, Arrives}
 use Rattle.code.specs.Laws.Cells.{total-le}
 use Rattle.pair_storage.specs.Fields.{pairRoom}
-use Rattle.pair_storage.specs.Entries.{held, entryOf, node-entry, above-entry, length-held}
+use Rattle.pair_storage.specs.Entries.{entriesIn, entryOf, node-entry, above-entry, length-entries-in}
 use Rattle.pair_storage.specs.Marks.{marks}
 use Rattle.pair_storage.specs.Stores.{Marked, markOf, Stored}
 use Rattle.pair_heights.specs.declared.Progress.the-variants.{Depth, Cycle}
@@ -69,16 +69,16 @@ module _ {f xs sk : List ℕ} {d j n : ℕ} {p next : Pair} (s : Following f xs 
       fresh q = has-room (s .searching .state) (pairCell f next) (edge .edge .node) (omega arith)
 
 -- A pair not met before is pushed: the link carries the two places of the pair whose mark is set.
-module _ (f w : List ℕ) {d j m n : ℕ} {p next : Pair} (s : Following f (marks f w) (held f w) d p j) (a : Arrives f (arcFrom f (p .low) (p .high) j) next)
+module _ (f w : List ℕ) {d j m n : ℕ} {p next : Pair} (s : Following f (marks f w) (entriesIn f w) d p j) (a : Arrives f (arcFrom f (p .low) (p .high) j) next)
     (count : n ≡ placeCount f) (h : next .low < n) (mark : m ≡ markOf f (marks f w) next) (q : m ≡ 0) where
   pub push-room : d < length w
-  push-room = omega (arith, fresh s a count h mark q, length-held f w)
+  push-room = omega (arith, fresh s a count h mark q, length-entries-in f w)
 
   pub push-small : d + 1 < 2 ^ 64
   push-small =
       omega (arith, s .searching .state .stack .room, total-le (stacked (pairGraph f)) (marks f w) (stacked-le (pairGraph f)), s .pair .size, cells-most (s .pair .laid))
 
-  pub follow-push : (w′ : List ℕ) → Stored f w d 0 next 1 w′ → Advanced f (marks f w) (marks f w′) (held f w′) (Depth (d + 1))
+  pub follow-push : (w′ : List ℕ) → Stored f w d 0 next 1 w′ → Advanced f (marks f w) (marks f w′) (entriesIn f w′) (Depth (d + 1))
   follow-push w′ t =
       let e = edge s a count h in
       let v : ℕ = pairCell f next in

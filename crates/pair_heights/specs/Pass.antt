@@ -8,7 +8,7 @@ use Rattle.pair_places.specs.declared.Pair.{Pair}
 use Rattle.pair_places.specs.Flat.{Laid, pairGraph}
 use Rattle.pair_places.specs.Nodes.{cells-most}
 use Rattle.pair_storage.specs.Fields.{pairRoom, Carries}
-use Rattle.pair_storage.specs.Entries.{held, entryOf, node-entry, above-entry, aboveAt, links}
+use Rattle.pair_storage.specs.Entries.{entriesIn, entryOf, node-entry, above-entry, aboveAt, links}
 use Rattle.pair_storage.specs.Marks.{marks}
 use Rattle.pair_storage.specs.Stores.{markOf, Stored}
 use Rattle.pair_heights.specs.Stack.{Next}
@@ -22,8 +22,8 @@ pub record Passed (xs sk : List ℕ) (d k : ℕ) (xs′ sk′ : List ℕ) : Type
   pub stack : sk′ ≡ set sk (d - 1) (entryOf (max (aboveAt sk (d - 1)) k) (top sk d))
 
 -- What is stored: the pair on top keeps its two places, and its mark rises.
-pub pass-stores : (f w w′ : List ℕ) {d a k h m : ℕ} {p : Pair} → Top f (marks f w) (held f w) d → Carries (getD w (d - 1) 0) p → a ≡ aboveAt (links w) (d - 1)
-    → h ≡ max a k → m ≡ markOf f (marks f w) p → Stored f w (d - 1) h p (m + 1) w′ → Passed (marks f w) (held f w) d k (marks f w′) (held f w′)
+pub pass-stores : (f w w′ : List ℕ) {d a k h m : ℕ} {p : Pair} → Top f (marks f w) (entriesIn f w) d → Carries (getD w (d - 1) 0) p → a ≡ aboveAt (links w) (d - 1)
+    → h ≡ max a k → m ≡ markOf f (marks f w) p → Stored f w (d - 1) h p (m + 1) w′ → Passed (marks f w) (entriesIn f w) d k (marks f w′) (entriesIn f w′)
 pass-stores f w w′ t c before height mark s =
     let e = top-cell f w t c in
     record { marks = s .marks ∙ rw (mark, e); stack = s .entries ∙ rw (height, top-above f w t before, e) }

@@ -12,7 +12,7 @@ use Rattle.pair_places.specs.Steps.{pairCell}
 use Rattle.code.specs.Laws.Cells.{total-le}
 use Rattle.graph.specs.Graph.{Endless}
 use Rattle.pair_storage.specs.Fields.{markRoom, Carries}
-use Rattle.pair_storage.specs.Entries.{held, aboveAt, links, length-held, above-held}
+use Rattle.pair_storage.specs.Entries.{entriesIn, aboveAt, links, length-entries-in, above-entries-in}
 use Rattle.pair_storage.specs.Stores.{Marked, markOf}
 use Rattle.pair_heights.specs.declared.Progress.{Progress}
 use Rattle.pair_heights.specs.declared.Progress.the-variants.{Depth, Cycle}
@@ -37,22 +37,22 @@ pub record Top (f xs sk : List ℕ) (d : ℕ) : Type 0 where
   pub small : aboveAt sk (d - 1) ≤ cellCount f
 
 -- The link on top: it carries the pair on top, whose mark is read and set, and the height so far above it.
-module _ (f sk : List ℕ) {xs : List ℕ} {d : ℕ} (t : Top f xs (held f sk) d) where
+module _ (f sk : List ℕ) {xs : List ℕ} {d : ℕ} (t : Top f xs (entriesIn f sk) d) where
   pub top-within : d - 1 < length sk
-  top-within = omega (arith, t .some, t .deep, length-held f sk)
+  top-within = omega (arith, t .some, t .deep, length-entries-in f sk)
 
-  pub top-above : {a : ℕ} → a ≡ aboveAt (links sk) (d - 1) → a ≡ aboveAt (held f sk) (d - 1)
-  top-above e = e ∙ sym (above-held f sk (t .laid) (d - 1))
+  pub top-above : {a : ℕ} → a ≡ aboveAt (links sk) (d - 1) → a ≡ aboveAt (entriesIn f sk) (d - 1)
+  top-above e = e ∙ sym (above-entries-in f sk (t .laid) (d - 1))
 
   -- A height has room in a mark.
   pub top-finishes : {a : ℕ} → a ≡ aboveAt (links sk) (d - 1) → a + finishedFrom < markRoom
   top-finishes e = omega (arith, top-above e, t .small, cells-most (t .laid))
 
   module _ {p : Pair} (c : Carries (getD sk (d - 1) 0) p) where
-    on-top : CarriesNode f (top (held f sk) d) p
+    on-top : CarriesNode f (top (entriesIn f sk) d) p
     on-top = carries-node f sk (t .laid) (d - 1) (t .node) c
 
-    pub top-cell : pairCell f p ≡ top (held f sk) d
+    pub top-cell : pairCell f p ≡ top (entriesIn f sk) d
     top-cell = on-top .pair .node
 
     pub top-low : p .low < placeCount f

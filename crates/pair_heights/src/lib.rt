@@ -7,7 +7,7 @@ use pair_places::Pair;
 ghost use mathlib.Core.Path.{_≡_};
 ghost use Prim.Native.Nat.{_-_, _≤_, _<_, max};
 ghost use Rattle.pair_storage.specs.Fields.{aboveRoom, markRoom};
-ghost use Rattle.pair_storage.specs.Entries.{held};
+ghost use Rattle.pair_storage.specs.Entries.{entriesIn};
 ghost use Rattle.pair_storage.specs.Marks.{marks};
 ghost use Rattle.pair_storage.specs.Stores.{Marked, markOf};
 ghost use Rattle.pair_heights.specs.Search.{finishedFrom, Top, Searching, Advanced};
@@ -46,9 +46,9 @@ fn greater(a: usize, b: usize) -> usize
 
 // Passes the next slot of the pair on top, which leads to a finished pair. The height through that slot, one more than that pair's, is `through`.
 fn pass(places: &[u8], work: &mut [u64], depth: usize, through: usize)
-    requires { ⌜ Top (now places) (marks (now places) (now work)) (held (now places) (now work)) depth × (through < aboveRoom) ⌝ }
-    ensures { λ _. ⌜ Passed (marks (now (places .entry)) (now (work .entry))) (held (now (places .entry)) (now (work .entry))) depth through
-        (marks (now (places .entry)) (now (work .exit))) (held (now (places .entry)) (now (work .exit))) ⌝ }
+    requires { ⌜ Top (now places) (marks (now places) (now work)) (entriesIn (now places) (now work)) depth × (through < aboveRoom) ⌝ }
+    ensures { λ _. ⌜ Passed (marks (now (places .entry)) (now (work .entry))) (entriesIn (now (places .entry)) (now (work .entry))) depth through
+        (marks (now (places .entry)) (now (work .exit))) (entriesIn (now (places .entry)) (now (work .exit))) ⌝ }
 {
     let rest = depth - 1;
     let pair = pair_storage::pair_at(work, rest);
@@ -59,8 +59,8 @@ fn pass(places: &[u8], work: &mut [u64], depth: usize, through: usize)
 
 // Follows the next slot of the pair on top: it is passed, or leads to a pair that is pushed.
 fn follow(places: &[u8], work: &mut [u64], depth: usize, pair: Pair, slot: usize) -> Progress
-    requires { ⌜ Following (now places) (marks (now places) (now work)) (held (now places) (now work)) depth pair slot ⌝ }
-    ensures { λ r. ⌜ Advanced (now (places .entry)) (marks (now (places .entry)) (now (work .entry))) (marks (now (places .entry)) (now (work .exit))) (held (now (places .entry)) (now (work .exit))) r ⌝ }
+    requires { ⌜ Following (now places) (marks (now places) (now work)) (entriesIn (now places) (now work)) depth pair slot ⌝ }
+    ensures { λ r. ⌜ Advanced (now (places .entry)) (marks (now (places .entry)) (now (work .entry))) (marks (now (places .entry)) (now (work .exit))) (entriesIn (now (places .entry)) (now (work .exit))) r ⌝ }
 {
     let next = pair_places::successor(places, pair.low, pair.high, slot);
     if pair_places::place_count(places) <= next.low {
@@ -83,8 +83,8 @@ fn follow(places: &[u8], work: &mut [u64], depth: usize, pair: Pair, slot: usize
 
 // Finishes the pair on top, which has no slot left, and pops it; the pair below passes the slot that led to it.
 fn pop(places: &[u8], work: &mut [u64], depth: usize, pair: Pair) -> Progress
-    requires { ⌜ Popping (now places) (marks (now places) (now work)) (held (now places) (now work)) depth pair ⌝ }
-    ensures { λ r. ⌜ Advanced (now (places .entry)) (marks (now (places .entry)) (now (work .entry))) (marks (now (places .entry)) (now (work .exit))) (held (now (places .entry)) (now (work .exit))) r ⌝ }
+    requires { ⌜ Popping (now places) (marks (now places) (now work)) (entriesIn (now places) (now work)) depth pair ⌝ }
+    ensures { λ r. ⌜ Advanced (now (places .entry)) (marks (now (places .entry)) (now (work .entry))) (marks (now (places .entry)) (now (work .exit))) (entriesIn (now (places .entry)) (now (work .exit))) r ⌝ }
 {
     let rest = depth - 1;
     let height = pair_storage::above_at(work, rest);
@@ -98,8 +98,8 @@ fn pop(places: &[u8], work: &mut [u64], depth: usize, pair: Pair) -> Progress
 
 // One transition: the next slot of the pair on top is followed, or with no slot left the pair is popped.
 pub fn advance(places: &[u8], work: &mut [u64], depth: usize) -> Progress
-    requires { ⌜ Searching (now places) (marks (now places) (now work)) (held (now places) (now work)) depth ⌝ }
-    ensures { λ r. ⌜ Advanced (now (places .entry)) (marks (now (places .entry)) (now (work .entry))) (marks (now (places .entry)) (now (work .exit))) (held (now (places .entry)) (now (work .exit))) r ⌝ }
+    requires { ⌜ Searching (now places) (marks (now places) (now work)) (entriesIn (now places) (now work)) depth ⌝ }
+    ensures { λ r. ⌜ Advanced (now (places .entry)) (marks (now (places .entry)) (now (work .entry))) (marks (now (places .entry)) (now (work .exit))) (entriesIn (now (places .entry)) (now (work .exit))) r ⌝ }
 {
     let pair = pair_storage::pair_at(work, depth - 1);
     let slot = pair_storage::mark(places, work, pair) - 1;

@@ -16,7 +16,7 @@ use Rattle.pair_longest.specs.declared.Extent.the-variants.{Finite, Unbo
 use Rattle.pair_heights.specs.declared.Progress.{Progress}
 use Rattle.pair_heights.specs.declared.Progress.the-variants.{Depth, Cycle}
 use Rattle.pair_storage.specs.Fields.{pairRoom}
-use Rattle.pair_storage.specs.Entries.{held, entryOf, node-entry, above-entry, length-held}
+use Rattle.pair_storage.specs.Entries.{entriesIn, entryOf, node-entry, above-entry, length-entries-in}
 use Rattle.pair_storage.specs.Marks.{marks}
 use Rattle.pair_storage.specs.Stores.{Marked, markOf, Stored}
 use Rattle.pair_longest.specs.Answer.{Answer, finite, unbounded}
@@ -55,7 +55,7 @@ pub root-room : {f xs sk : List ℕ} {p : Pair} → AtRoot f xs sk p → 0 < len
 root-room {p = p} r = omega (arith, marked-node p (r .pair), r .wide)
 
 pub running : (w w′ : List ℕ) {f : List ℕ} {p : Pair} {m : ℕ} → AtRoot f (marks f w) w p → m ≡ markOf f (marks f w) p → m ≡ 0 → Stored f w 0 0 p 1 w′
-    → Running f (marks f w′) (held f w′) p 1
+    → Running f (marks f w′) (entriesIn f w′) p 1
 running w w′ {f} {p = p} r mark new s =
     let v : ℕ = pairCell f p in
     let n : v < cellCount f = marked-node p (r .pair) in
@@ -63,7 +63,7 @@ running w w′ {f} {p = p} r mark new s =
     rw (s .marks, s .entries)
     record {
       pair = record { laid = r .pair .laid; size = simp length-set (r .pair .size); low = r .pair .low; high = r .pair .high };
-      state = begun (r .idle) (held f w) v (entryOf 0 v) (node-entry 0 v l) (above-entry 0 v l) (omega (arith, r .wide, length-held f w)) n (r .root) (omega arith);
+      state = begun (r .idle) (entriesIn f w) v (entryOf 0 v) (node-entry 0 v l) (above-entry 0 v l) (omega (arith, r .wide, length-entries-in f w)) n (r .root) (omega arith);
       met = rw (getD-set-same (marks f w) v 1 0 (omega (arith, r .pair .size))) (omega arith);
     }
 

@@ -10,7 +10,7 @@ ghost use lib.ListN.{length};
 ghost use Rattle.code.specs.Definitions.Sheets.{limits};
 ghost use Rattle.pair_places.specs.Steps.{pairCell};
 ghost use Rattle.pair_places.specs.Flat.{cellCount};
-ghost use Rattle.pair_storage.specs.Entries.{held};
+ghost use Rattle.pair_storage.specs.Entries.{entriesIn};
 ghost use Rattle.pair_storage.specs.Marks.{marks};
 ghost use Rattle.pair_storage.specs.Stores.{Marked, Stored};
 ghost use Rattle.pair_longest.specs.Explore.{AtRoot, Running, Explored};
@@ -34,7 +34,7 @@ fn start(places: &[u8], work: &mut [u64], root: Pair)
 
 // Searches from a root, which alone is on the stack: how many symbols the longest walk from it reads.
 fn run(places: &[u8], work: &mut [u64], root: Pair) -> Extent
-    requires { ⌜ Running (now places) (marks (now places) (now work)) (held (now places) (now work)) root 1 ⌝ }
+    requires { ⌜ Running (now places) (marks (now places) (now work)) (entriesIn (now places) (now work)) root 1 ⌝ }
     ensures { λ r. ⌜ Answer (now (places .entry)) (Explored (now (places .entry)) (pairCell (now (places .entry)) root) (marks (now (places .entry)) (now (work .exit)))) r ⌝ }
 {
     let mut depth: usize = 1;

@@ -4,7 +4,7 @@ use Prim.Native.Nat.{ℕ, zero, suc, _+_, _-_, _≤_, _<_}
 use native.Mathlib.Decide.{decLt}
 use native.Mathlib.Numerals.{add-one}
 use native.Mathlib.Omega.{arith}
-use Rattle.code.specs.Definitions.Lists.{table, sum}
+use Rattle.code.specs.Definitions.Lists.{tabulate, sum}
 use Rattle.code.specs.Definitions.Tables.{Table}
 use Rattle.code.specs.Laws.Lists.{sum-more}
 use Rattle.pair_places.specs.Lays.{lengthOf, base}
@@ -19,7 +19,7 @@ pub record Located (t : Table) (n p : ℕ) : Type 0 where
 
 module _ (t : Table) where
   pub base-none : base t 0 ≡ 0
-  unfolding base table sum
+  unfolding base tabulate sum
   base-none = refl
 
   pub base-more : (n : ℕ) → base t (n + 1) ≡ base t n + lengthOf t n

@@ -7,10 +7,10 @@ use native.Mathlib.Omega.{arith}
 use lib.ListN.{getD, set, replicate, length-replicate, List·getD-eq-default}
 use lib.Seq.{getD-take, paste, getD-set-same}
 use Rattle.code.specs.declared.Code.{Code}
-use Rattle.code.specs.Definitions.Lists.{table, sum}
+use Rattle.code.specs.Definitions.Lists.{tabulate, sum}
 use Rattle.code.specs.Definitions.Sheets.{limits}
 use Rattle.code.specs.Definitions.Tables.{size, word, noWord, noRow, tableOf}
-use Rattle.code.specs.Laws.Lists.{table-same, sum-past}
+use Rattle.code.specs.Laws.Lists.{tabulate-same, sum-past}
 use Rattle.code.specs.Laws.WellFormed.{lenOf, WellFormed}
 use Rattle.code.specs.Laws.Words.{size-count, word-symbols, word-length}
 use Rattle.pair_places.specs.Bases.{base-more, base-before}
@@ -31,9 +31,9 @@ module _ (c : Code) (well : WellFormed limits c) where
         follow = λ y l. refl;
       }
 
-  pub base-sum : (x : ℕ) → x ≤ c .count → base (tableOf c) x ≡ sum (table (lenOf c) x)
+  pub base-sum : (x : ℕ) → x ≤ c .count → base (tableOf c) x ≡ sum (tabulate (lenOf c) x)
   unfolding base
-  base-sum x h = ap sum (table-same (lengthOf (tableOf c)) (lenOf c) x (λ k l. word-length well k (omega arith)))
+  base-sum x h = ap sum (tabulate-same (lengthOf (tableOf c)) (lenOf c) x (λ k l. word-length well k (omega arith)))
 
   total : base (tableOf c) (c .count) ≤ limits .total
   total = omega (arith, base-sum (c .count) (omega arith), sum-past (lenOf c) (c .count) (limits .words) (well .most) (λ k h b. well .word k b .unused h), well .total)

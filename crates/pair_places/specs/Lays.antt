@@ -4,7 +4,7 @@ use mathlib.Core.List.{List}
 use Prim.Native.Nat.{ℕ, suc, _+_, _<_}
 use lib.Dec.{eqb}
 use lib.ListN.{length, getD}
-use Rattle.code.specs.Definitions.Lists.{table, sum}
+use Rattle.code.specs.Definitions.Lists.{tabulate, sum}
 use Rattle.code.specs.Definitions.Tables.{Table, size, word}
 use Rattle.pair_places.specs.Flat.{symbolAt, ownerAt, endAt, firstAt, mayFollow, wordCount, placeCount, beginsAt}
 
@@ -13,7 +13,7 @@ lengthOf t x = length (word t x)
 
 -- the number of word x's first place: the symbols of the words before it
 unfoldable pub base : Table → ℕ → ℕ
-base t x = sum (table (lengthOf t) x)
+base t x = sum (tabulate (lengthOf t) x)
 
 -- The entries of word x, whose places start at number `at`.
 pub record LaysWord (t : Table) (f : List ℕ) (x at : ℕ) : Type 0 where

@@ -6,7 +6,7 @@ use native.Mathlib.Omega.{arith}
 use lib.ListN.{length}
 use Rattle.graph.specs.Graph.{Graph}
 use Rattle.pair_places.specs.Flat.{Laid}
-use Rattle.pair_storage.specs.Entries.{aboveAt, links, held, above-held}
+use Rattle.pair_storage.specs.Entries.{aboveAt, links, entriesIn, above-entries-in}
 use Rattle.pair_groups.specs.Labels.{Label, source, grown}
 
 -- `from` leads from index k to the source in n steps.
@@ -20,9 +20,9 @@ label-depth (source z) = none z
 label-depth (grown l e s x) = more l e (label-depth x)
 
 -- `from` leads along the links as along the entries.
-pub depth-held : {f : List ℕ} (q : List ℕ) → Laid f → {k n : ℕ} → Depth (held f q) k n → Depth (links q) k n
+pub depth-held : {f : List ℕ} (q : List ℕ) → Laid f → {k n : ℕ} → Depth (entriesIn f q) k n → Depth (links q) k n
 depth-held q laid (none z) = none z
-depth-held {f} q laid (more {k = k} l e x) = more l (sym (above-held f q laid k) ∙ e) (depth-held q laid x)
+depth-held {f} q laid (more {k = k} l e x) = more l (sym (above-entries-in f q laid k) ∙ e) (depth-held q laid x)
 
 module _ {q : List ℕ} where
   same-more : (k : ℕ) {f h n m : ℕ} → aboveAt q k ≡ f + 1 → aboveAt q k ≡ h + 1 → Depth q f n → (Depth q h n → n ≡ m) → suc n ≡ suc m

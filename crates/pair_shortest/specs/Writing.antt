@@ -15,7 +15,7 @@ use Rattle.pair_places.specs.Nodes.{cells-most}
 use Rattle.pair_places.specs.Opens.{openGraph}
 use Rattle.pair_places.specs.Roots.{Numbered}
 use Rattle.pair_places.specs.Steps.{Arrives}
-use Rattle.pair_storage.specs.Entries.{entryOf, nodeIn, aboveAt, links, node-entry, above-entry, held, length-held, above-held}
+use Rattle.pair_storage.specs.Entries.{entryOf, nodeIn, aboveAt, links, node-entry, above-entry, entriesIn, length-entries-in, above-entries-in}
 use Rattle.pair_storage.specs.Fields.{pairRoom, aboveIn, Carries}
 use Rattle.pair_storage.specs.Marks.{marks}
 use Rattle.pair_storage.specs.Stores.{withLink, EntryStored, entry-stored}
@@ -39,14 +39,14 @@ fill-within t l e = let h = fill-some t l in let k = t .within in let n = t .roo
 
 -- The higher place that a link carries is one of the list.
 pub fill-place : {f : List ℕ} (q : List ℕ) {o p : List ℕ} {start count index at : ℕ} {d : Pair} → Laid f
-    → Filled (openGraph f) (held f q) start count o index at p → Known f (held f q) (start + 1) → Carries (getD q index 0) d → d .high < length f
+    → Filled (openGraph f) (entriesIn f q) start count o index at p → Known f (entriesIn f q) (start + 1) → Carries (getD q index 0) d → d .high < length f
 fill-place q laid t k c = omega (arith, known-high q laid k (let h = t .low in omega arith) c, laid .places, laid .long)
 
 -- `from` is read off the links.
-module _ {f : List ℕ} (q : List ℕ) {o p : List ℕ} {start count index at r : ℕ} (laid : Laid f) (t : Filled (openGraph f) (held f q) start count o index at p)
+module _ {f : List ℕ} (q : List ℕ) {o p : List ℕ} {start count index at r : ℕ} (laid : Laid f) (t : Filled (openGraph f) (entriesIn f q) start count o index at p)
     (l : 0 < index) (e : r ≡ aboveAt (links q) index) where
-  from-held : r ≡ aboveAt (held f q) index
-  from-held = e ∙ sym (above-held f q laid index)
+  from-held : r ≡ aboveAt (entriesIn f q) index
+  from-held = e ∙ sym (above-entries-in f q laid index)
 
   pub link-from : 1 ≤ r
   link-from = fill-from t from-held l
@@ -55,19 +55,19 @@ module _ {f : List ℕ} (q : List ℕ) {o p : List ℕ} {start count index at r 
   link-falls = fill-falls t from-held l
 
   -- The symbol is that of the higher place carried.
-  pub fill-store : {d : Pair} → Known f (held f q) (start + 1) → Carries (getD q index 0) d
-      → Filled (openGraph f) (held f q) start count o (r - 1) (at - 1) (set p (at - 1) (getD f (d .high) 0))
+  pub fill-store : {d : Pair} → Known f (entriesIn f q) (start + 1) → Carries (getD q index 0) d
+      → Filled (openGraph f) (entriesIn f q) start count o (r - 1) (at - 1) (set p (at - 1) (getD f (d .high) 0))
   fill-store k c = fill-next t from-held l (places-symbol f (known-pair q laid k (let h = t .low in omega arith) c))
 
 -- What `write` rests on: the label of the group where a goal comes next, and its length.
-module _ {f : List ℕ} (q : List ℕ) {a t : ℕ} (laid : Laid f) (m : GoalNext f (held f q) a t) where
+module _ {f : List ℕ} (q : List ℕ) {a t : ℕ} (laid : Laid f) (m : GoalNext f (entriesIn f q) a t) where
   label-steps : Depth (links q) a (length (m .labelled .message))
   label-steps = depth-held q laid (label-depth (m .labelled .label))
 
   pub met-depth : HasDepth (links q) a
   met-depth = record { count = length (m .labelled .message); depth = label-steps }
 
-  pub met-spelled : {n : ℕ} → Depth (links q) a n → Spelled (openGraph f) (held f q) a n
+  pub met-spelled : {n : ℕ} → Depth (links q) a n → Spelled (openGraph f) (entriesIn f q) a n
   met-spelled d = record { message = m .labelled .message; label = m .labelled .label; long = depth-unique label-steps d }
 
 module _ {f q : List ℕ} {a t : ℕ} (m : GoalNext f q a t) where
@@ -92,11 +92,11 @@ module _ {f : List ℕ} (q : List ℕ) {q′ : List ℕ} {p : Pair} (laid : Laid
   source-stored : EntryStored f q 0 0 p q′
   source-stored = entry-stored p laid (d .low) (d .high) e
 
-  pub seeded : 0 < length q → Seeded f (held f q′)
+  pub seeded : 0 < length q → Seeded f (entriesIn f q′)
   seeded l =
       let v = cellCount f in
-      let s : held f q′ ≡ set (held f q) 0 (entryOf 0 v) = source-stored .entries ∙ ap (λ (w : ℕ). set (held f q) 0 (entryOf 0 w)) (d .node) in
-      let z : getD (set (held f q) 0 (entryOf 0 v)) 0 0 ≡ entryOf 0 v = getD-set-same (held f q) 0 (entryOf 0 v) 0 (omega (arith, length-held f q)) in
+      let s : entriesIn f q′ ≡ set (entriesIn f q) 0 (entryOf 0 v) = source-stored .entries ∙ ap (λ (w : ℕ). set (entriesIn f q) 0 (entryOf 0 w)) (d .node) in
+      let z : getD (set (entriesIn f q) 0 (entryOf 0 v)) 0 0 ≡ entryOf 0 v = getD-set-same (entriesIn f q) 0 (entryOf 0 v) 0 (omega (arith, length-entries-in f q)) in
       let k : v < pairRoom = omega (arith, cells-most laid) in
       rw s (record { node = ap nodeIn z ∙ node-entry 0 v k; from = ap aboveIn z ∙ above-entry 0 v k })
 

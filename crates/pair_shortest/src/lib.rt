@@ -19,7 +19,7 @@ ghost use lib.ListN.{length};
 ghost use Rattle.pair_places.specs.Flat.{Laid, pairCount};
 ghost use Rattle.pair_places.specs.Opens.{openGraph};
 ghost use Rattle.pair_places.specs.Roots.{Numbered};
-ghost use Rattle.pair_storage.specs.Entries.{held};
+ghost use Rattle.pair_storage.specs.Entries.{entriesIn};
 ghost use Rattle.pair_storage.specs.Marks.{marks};
 ghost use Rattle.pair_groups.specs.Queue.{Between};
 ghost use Rattle.pair_shortest.specs.Contracts.{Expanded, Explored, Seeded, Clear, Answers};
@@ -49,8 +49,8 @@ fn advance(places: &[u8], work: &mut [u64], start: usize, tail: usize) -> Expans
         × (pairCount (now places) + 2 ≤ length (now work))
         × (start < tail)
         × (tail ≤ pairCount (now places) + 1)
-        × Between (openGraph (now places)) (marks (now places) (now work)) (held (now places) (now work)) tail start ⌝ }
-    ensures { λ r. ⌜ Expanded (now (places .entry)) (marks (now (places .entry)) (now (work .exit))) (held (now (places .entry)) (now (work .exit))) start r ⌝ }
+        × Between (openGraph (now places)) (marks (now places) (now work)) (entriesIn (now places) (now work)) tail start ⌝ }
+    ensures { λ r. ⌜ Expanded (now (places .entry)) (marks (now (places .entry)) (now (work .exit))) (entriesIn (now (places .entry)) (now (work .exit))) start r ⌝ }
 {
     let end = group_end(places, work, start, tail);
     let group = Group {
@@ -68,8 +68,8 @@ fn explore(places: &[u8], work: &mut [u64]) -> Exploration
     requires { ⌜ Laid (now places)
         × Numbered (now places)
         × (pairCount (now places) + 2 ≤ length (now work))
-        × Between (openGraph (now places)) (marks (now places) (now work)) (held (now places) (now work)) 1 0 ⌝ }
-    ensures { λ r. ⌜ Explored (now (places .entry)) (held (now (places .entry)) (now (work .exit))) r ⌝ }
+        × Between (openGraph (now places)) (marks (now places) (now work)) (entriesIn (now places) (now work)) 1 0 ⌝ }
+    ensures { λ r. ⌜ Explored (now (places .entry)) (entriesIn (now (places .entry)) (now (work .exit))) r ⌝ }
 {
     let mut start: usize = 0;
     let mut tail: usize = 1;
@@ -88,7 +88,7 @@ fn explore(places: &[u8], work: &mut [u64]) -> Exploration
 // Puts the source at the front of the queue. No mark changes.
 fn seed(places: &[u8], work: &mut [u64])
     requires { ⌜ Laid (now places) × (0 < length (now work)) ⌝ }
-    ensures { λ _. ⌜ Seeded (now (places .entry)) (held (now (places .entry)) (now (work .exit)))
+    ensures { λ _. ⌜ Seeded (now (places .entry)) (entriesIn (now (places .entry)) (now (work .exit)))
         × (marks (now (places .entry)) (now (work .exit)) ≡ marks (now (places .entry)) (now (work .entry))) ⌝ }
 {
     pair_storage::set_entry(work, 0, 0, pair_places::no_pair(places));

@@ -6,7 +6,7 @@ ghost use Prim.Native.Nat.{_+_, _≤_, _<_};
 ghost use lib.ListN.{length};
 ghost use Rattle.pair_places.specs.Flat.{Laid, pairCount};
 ghost use Rattle.pair_places.specs.Opens.{openGraph};
-ghost use Rattle.pair_storage.specs.Entries.{held, links};
+ghost use Rattle.pair_storage.specs.Entries.{entriesIn, links};
 ghost use Rattle.pair_groups.specs.Contracts.{Known, GoalNext};
 ghost use Rattle.pair_shortest.specs.Contracts.{Message};
 ghost use Rattle.pair_shortest.specs.Spelling.{Spelled, Stored};
@@ -29,11 +29,11 @@ fn depth(work: &[u64], start: usize) -> usize
 // Writes the label of an entry, of `count` symbols, to the front of the message, the last symbol first.
 fn fill(places: &[u8], work: &[u64], message: &mut [u8], start: usize, count: usize)
     requires { ⌜ Laid (now places)
-        × Spelled (openGraph (now places)) (held (now places) (now work)) start count
-        × Known (now places) (held (now places) (now work)) (start + 1)
+        × Spelled (openGraph (now places)) (entriesIn (now places) (now work)) start count
+        × Known (now places) (entriesIn (now places) (now work)) (start + 1)
         × (start < length (now work))
         × (count ≤ length (now message)) ⌝ }
-    ensures { λ _. ⌜ Stored (openGraph (now (places .entry))) (held (now (places .entry)) (now (work .entry)))
+    ensures { λ _. ⌜ Stored (openGraph (now (places .entry))) (entriesIn (now (places .entry)) (now (work .entry)))
         start count (now (message .entry)) (now (message .exit)) ⌝ }
 {
     let mut index = start;
@@ -50,7 +50,7 @@ fn fill(places: &[u8], work: &[u64], message: &mut [u8], start: usize, count: us
 // Writes the label of a group and one symbol more.
 pub fn write(places: &[u8], work: &[u64], message: &mut [u8], start: usize, symbol: usize) -> usize
     requires { ⌜ Laid (now places)
-        × GoalNext (now places) (held (now places) (now work)) start symbol
+        × GoalNext (now places) (entriesIn (now places) (now work)) start symbol
         × (pairCount (now places) + 2 ≤ length (now work))
         × (pairCount (now places) ≤ length (now message)) ⌝ }
     ensures { λ r. ⌜ Message (now (places .entry)) (now (message .entry)) (now (message .exit)) r ⌝ }

@@ -8,7 +8,7 @@ use Rattle.pair_places.specs.declared.Pair.{Pair}
 use Rattle.pair_places.specs.Flat.{Laid, placeCount, cellCount, cell}
 use Rattle.pair_places.specs.Nodes.{low-inside, pairs-limited}
 use Rattle.pair_places.specs.Opens.{openGraph}
-use Rattle.pair_storage.specs.Entries.{held}
+use Rattle.pair_storage.specs.Entries.{entriesIn}
 use Rattle.pair_storage.specs.Fields.{aboveRoom}
 use Rattle.pair_storage.specs.Marks.{marks}
 use Rattle.pair_storage.specs.Stores.{Stored}
@@ -48,7 +48,7 @@ fresh-low {f} p y e = low-inside f (p .low) (p .high) (was-fresh y e .node)
 
 -- and the mark that is set and the entry that is stored are those of one pair.
 pub meets-fresh : {f q q′ : List ℕ} {a t tail : ℕ} {x : Arrival} (p : Pair) → Seen f (marks f q) (cell f (p .low) (p .high)) t x → x ≡ Fresh
-    → Stored f q tail (a + 1) p 1 q′ → Arrived f (marks f q) (held f q) (marks f q′) (held f q′) a t tail (cell f (p .low) (p .high)) (Tail (tail + 1))
+    → Stored f q tail (a + 1) p 1 q′ → Arrived f (marks f q) (entriesIn f q) (marks f q′) (entriesIn f q′) a t tail (cell f (p .low) (p .high)) (Tail (tail + 1))
 meets-fresh p y e s = queued (was-fresh y e) (s .marks) (s .entries)
 
 -- The number above an entry fits its field.

@@ -11,7 +11,7 @@ use Rattle.pair_places.specs.declared.Pair.{Pair}
 use Rattle.pair_places.specs.Flat.{Laid, symbolAt, ownerAt, endAt, opensAt, atStart, slotsOf, placeCount, cellCount, cell, higher}
 use Rattle.pair_places.specs.Nodes.{cell-inside, cell-outside, lower-cell, higher-cell}
 use Rattle.pair_places.specs.Opens.{straightOn, turning, openGraph, apartEnds, turning-source, turning-end, turning-inside, turning-apart, turning-closed}
-use Rattle.pair_storage.specs.Entries.{PairOf, nodeAt, aboveAt, links, held, above-held, carried}
+use Rattle.pair_storage.specs.Entries.{PairOf, nodeAt, aboveAt, links, entriesIn, above-entries-in, carried}
 use Rattle.pair_storage.specs.Fields.{Carries}
 use Rattle.pair_storage.specs.Stores.{markOf}
 use Rattle.pair_slots.specs.declared.Arrival.the-variants.{Passed, Fresh, Goal}
@@ -24,12 +24,12 @@ module _ (f : List ℕ) where
   places-symbol {v} {p} r = ap (symbolAt f) (sym (higher-cell f (p .low) (p .high) (r .inside)) ∙ ap (higher f) (r .node))
 
 -- What `key` returns: the symbol is that of the entry's number.
-module _ {f : List ℕ} (q : List ℕ) (laid : Laid f) (i : ℕ) {p : Pair} (n : nodeAt (held f q) i ≤ cellCount f) (c : Carries (getD q i 0) p) where
+module _ {f : List ℕ} (q : List ℕ) (laid : Laid f) (i : ℕ) {p : Pair} (n : nodeAt (entriesIn f q) i ≤ cellCount f) (c : Carries (getD q i 0) p) where
   pub high-carried : p .high < placeCount f
   high-carried = carried f q laid i n c .inside
 
-  pub is-key : {a s : ℕ} → a ≡ aboveAt (links q) i → s ≡ symbolAt f (p .high) → a * 16 + s ≡ keyOf f (getD (held f q) i 0)
-  is-key d e = omega (arith, above-held f q laid i, places-symbol f (carried f q laid i n c))
+  pub is-key : {a s : ℕ} → a ≡ aboveAt (links q) i → s ≡ symbolAt f (p .high) → a * 16 + s ≡ keyOf f (getD (entriesIn f q) i 0)
+  is-key d e = omega (arith, above-entries-in f q laid i, places-symbol f (carried f q laid i n c))
 
 module _ {f : List ℕ} (laid : Laid f) where
   -- What `turning` returns. The number n of places is read from the list.

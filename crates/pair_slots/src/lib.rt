@@ -11,7 +11,7 @@ ghost use lib.ListN.{length, getD};
 ghost use Rattle.pair_places.specs.Flat.{Laid, placeCount, cellCount};
 ghost use Rattle.pair_places.specs.Opens.{straightOn, turning, openGraph};
 ghost use Rattle.pair_places.specs.Steps.{pairCell};
-ghost use Rattle.pair_storage.specs.Entries.{nodeAt, held};
+ghost use Rattle.pair_storage.specs.Entries.{nodeAt, entriesIn};
 ghost use Rattle.pair_storage.specs.Marks.{marks};
 ghost use Rattle.pair_slots.specs.Contracts.{keyOf, Straight, Seen};
 ghost use Rattle.pair_slots.specs.Widths.{innerOf, width};
@@ -119,8 +119,8 @@ pub fn look(places: &[u8], work: &[u64], pair: Pair, symbol: usize) -> Arrival
 // The group of entry `i` of the queue, as a number: where the group of its predecessor begins, and its symbol. An entry has a pair, or the source, and above it
 // one more than where the group of its predecessor begins; 0 for the source.
 pub fn key(places: &[u8], work: &[u64], i: usize) -> usize
-    requires { ⌜ Laid (now places) × (i < length (now work)) × (nodeAt (held (now places) (now work)) i ≤ cellCount (now places)) ⌝ }
-    ensures { λ r. ⌜ r ≡ keyOf (now (places .entry)) (getD (held (now (places .entry)) (now (work .entry))) i 0) ⌝ }
+    requires { ⌜ Laid (now places) × (i < length (now work)) × (nodeAt (entriesIn (now places) (now work)) i ≤ cellCount (now places)) ⌝ }
+    ensures { λ r. ⌜ r ≡ keyOf (now (places .entry)) (getD (entriesIn (now (places .entry)) (now (work .entry))) i 0) ⌝ }
 {
     let pair = pair_storage::pair_at(work, i);
     (pair_storage::above_at(work, i) << 4) + pair_places::symbol(places, pair.high)

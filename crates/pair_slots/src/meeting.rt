@@ -13,7 +13,7 @@ ghost use Rattle.code.specs.Definitions.Sheets.{limits};
 ghost use Rattle.pair_places.specs.Flat.{Laid, mayCome, wordCount, placeCount};
 ghost use Rattle.pair_places.specs.Opens.{inOrder, pairBehind};
 ghost use Rattle.pair_places.specs.Steps.{pairCell};
-ghost use Rattle.pair_storage.specs.Entries.{held};
+ghost use Rattle.pair_storage.specs.Entries.{entriesIn};
 ghost use Rattle.pair_storage.specs.Marks.{marks};
 ghost use Rattle.pair_slots.specs.Contracts.{Space, Arrived};
 ghost use Rattle.pair_slots.specs.Words.{leadsBehind, leastBehind};
@@ -31,8 +31,8 @@ pub fn meet(
         × Space (now places) (marks (now places) (now work)) (now work) tail start
         × (pair .low ≤ placeCount (now places))
         × (pair .high < placeCount (now places)) ⌝ }
-    ensures { λ r. ⌜ Arrived (now (places .entry)) (marks (now (places .entry)) (now (work .entry))) (held (now (places .entry)) (now (work .entry)))
-        (marks (now (places .entry)) (now (work .exit))) (held (now (places .entry)) (now (work .exit)))
+    ensures { λ r. ⌜ Arrived (now (places .entry)) (marks (now (places .entry)) (now (work .entry))) (entriesIn (now (places .entry)) (now (work .entry)))
+        (marks (now (places .entry)) (now (work .exit))) (entriesIn (now (places .entry)) (now (work .exit)))
         start symbol tail (pairCell (now (places .entry)) pair) r ⌝ }
 {
     match look(places, work, pair, symbol) {
@@ -58,8 +58,8 @@ pub fn meet_words(
 ) -> Progress
     requires { ⌜ Laid (now places) × Space (now places) (marks (now places) (now work)) (now work) tail start × (y ≤ limits .words) × (mayCome (now places) x y ≡ true)
         × (inOrder (now places) x z ≡ true) × (z < wordCount (now places)) ⌝ }
-    ensures { λ r. ⌜ Arrived (now (places .entry)) (marks (now (places .entry)) (now (work .entry))) (held (now (places .entry)) (now (work .entry)))
-        (marks (now (places .entry)) (now (work .exit))) (held (now (places .entry)) (now (work .exit)))
+    ensures { λ r. ⌜ Arrived (now (places .entry)) (marks (now (places .entry)) (now (work .entry))) (entriesIn (now (places .entry)) (now (work .entry)))
+        (marks (now (places .entry)) (now (work .exit))) (entriesIn (now (places .entry)) (now (work .exit)))
         start symbol tail (pairBehind (now (places .entry)) y (x * limits .words + z)) r ⌝ }
 {
     if pair_places::may_come(places, z, y) {

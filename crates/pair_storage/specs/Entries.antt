@@ -144,12 +144,12 @@ pub record PairOf (f : List ℕ) (v : ℕ) (r : Pair) : Type 0 where
   pub inside : r .high < placeCount f
 
 -- The entries of the list q, by the number of places of the flat list f.
-abbrev pub held : List ℕ → List ℕ → List ℕ
-held f q = entriesOf (placeCount f) q
+abbrev pub entriesIn : List ℕ → List ℕ → List ℕ
+entriesIn f q = entriesOf (placeCount f) q
 
 module _ (f q : List ℕ) where
-  pub length-held : length (held f q) ≡ length q
-  length-held = length-entries (placeCount f) q
+  pub length-entries-in : length (entriesIn f q) ≡ length q
+  length-entries-in = length-entries (placeCount f) q
 
   module _ (laid : Laid f) where
     -- A number of places fits the field of a place.
@@ -157,29 +157,29 @@ module _ (f q : List ℕ) where
     places-fit = omega (arith, laid .places)
 
     -- A link that is stored, beside any mark, is seen as the cell of its two places, and the number above.
-    pub held-set : (i m above low high : ℕ) → m < markRoom → low ≤ placeCount f → high < placeCount f
-        → held f (set q i (bothOf m (linkOf above low high))) ≡ set (held f q) i (entryOf above (cell f low high))
-    held-set i m above low high b l h =
+    pub entries-in-set : (i m above low high : ℕ) → m < markRoom → low ≤ placeCount f → high < placeCount f
+        → entriesIn f (set q i (bothOf m (linkOf above low high))) ≡ set (entriesIn f q) i (entryOf above (cell f low high))
+    entries-in-set i m above low high b l h =
         entries-set (placeCount f) q i (bothOf m (linkOf above low high))
-        ∙ ap (set (held f q) i) (ap (entryIn (placeCount f)) (link-both m (linkOf above low high) b) ∙ entry-link (placeCount f) places-fit above low high l h)
+        ∙ ap (set (entriesIn f q) i) (ap (entryIn (placeCount f)) (link-both m (linkOf above low high) b) ∙ entry-link (placeCount f) places-fit above low high l h)
 
     -- What is stored beside a link is not seen.
-    pub held-same : (i e : ℕ) → linkIn e ≡ linkIn (getD q i 0) → held f (set q i e) ≡ held f q
-    held-same i e same =
+    pub entries-in-same : (i e : ℕ) → linkIn e ≡ linkIn (getD q i 0) → entriesIn f (set q i e) ≡ entriesIn f q
+    entries-in-same i e same =
         entries-set (placeCount f) q i e
-        ∙ ap (set (held f q) i) (ap (entryIn (placeCount f)) same ∙ sym (entry-at (placeCount f) places-fit (laid .some) q i))
-        ∙ set-getD (held f q) i 0
+        ∙ ap (set (entriesIn f q) i) (ap (entryIn (placeCount f)) same ∙ sym (entry-at (placeCount f) places-fit (laid .some) q i))
+        ∙ set-getD (entriesIn f q) i 0
 
-    pub above-held : (i : ℕ) → aboveAt (held f q) i ≡ aboveAt (links q) i
-    above-held i =
+    pub above-entries-in : (i : ℕ) → aboveAt (entriesIn f q) i ≡ aboveAt (links q) i
+    above-entries-in i =
         ap aboveIn (entry-at (placeCount f) places-fit (laid .some) q i) ∙ above-in-entry (placeCount f) places-fit (linkIn (getD q i 0)) ∙ ap aboveIn (sym (link-at q i))
 
     -- 02, request 6: "the two places carried are at every step those whose mark is read or set". Where a search has a cell, or the source, in entry i, the link
     -- there carries that cell's two places.
-    pub carried : (i : ℕ) {r : Pair} → nodeAt (held f q) i ≤ cellCount f → Carries (getD q i 0) r → PairOf f (nodeAt (held f q) i) r
+    pub carried : (i : ℕ) {r : Pair} → nodeAt (entriesIn f q) i ≤ cellCount f → Carries (getD q i 0) r → PairOf f (nodeAt (entriesIn f q) i) r
     unfolding cellCount
     carried i {r} h c =
         let k = linkIn (getD q i 0) in
-        let e : nodeAt (held f q) i ≡ nodeOf (placeCount f) (lowIn k) (highIn k) = ap nodeIn (entry-at (placeCount f) places-fit (laid .some) q i) ∙ node-in-entry (placeCount f) places-fit k in
+        let e : nodeAt (entriesIn f q) i ≡ nodeOf (placeCount f) (lowIn k) (highIn k) = ap nodeIn (entry-at (placeCount f) places-fit (laid .some) q i) ∙ node-in-entry (placeCount f) places-fit k in
         let p = standing (placeCount f) (lowIn k) (highIn k) (rw e at h) in
         record { node = rw (c .first, c .second, e) (p .node); most = rw (c .first) (p .most); inside = rw (c .second) (p .inside) }

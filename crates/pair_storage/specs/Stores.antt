@@ -9,7 +9,7 @@ use Rattle.pair_places.specs.declared.Pair.{Pair}
 use Rattle.pair_places.specs.Flat.{Laid, placeCount, cellCount}
 use Rattle.pair_places.specs.Nodes.{cell-inside}
 use Rattle.pair_places.specs.Steps.{pairCell}
-use Rattle.pair_storage.specs.Entries.{entryOf, held, held-set, held-same}
+use Rattle.pair_storage.specs.Entries.{entryOf, entriesIn, entries-in-set, entries-in-same}
 use Rattle.pair_storage.specs.Fields.{markRoom, linkOf, bothOf, linkIn, markIn, mark-both, link-both, mark-fits}
 use Rattle.pair_storage.specs.Marks.{marks, marks-within, mark-at, marks-set, marks-same}
 
@@ -50,17 +50,17 @@ module _ (w : List ℕ) (i : ℕ) {k e : ℕ} where
 -- The mark of p is m. No other mark changes, and no entry.
 pub record MarkStored (f w : List ℕ) (p : Pair) (m : ℕ) (w′ : List ℕ) : Type 0 where
   pub marks : marks f w′ ≡ set (marks f w) (pairCell f p) m
-  pub entries : held f w′ ≡ held f w
+  pub entries : entriesIn f w′ ≡ entriesIn f w
 
 -- Entry i is the pair p, or the source, with a number above it. No other entry changes, and no mark.
 pub record EntryStored (f w : List ℕ) (i above : ℕ) (p : Pair) (w′ : List ℕ) : Type 0 where
   pub marks : marks f w′ ≡ marks f w
-  pub entries : held f w′ ≡ set (held f w) i (entryOf above (pairCell f p))
+  pub entries : entriesIn f w′ ≡ set (entriesIn f w) i (entryOf above (pairCell f p))
 
 -- Both: entry i is the pair p with a number above it, and the mark of p is m.
 pub record Stored (f w : List ℕ) (i above : ℕ) (p : Pair) (m : ℕ) (w′ : List ℕ) : Type 0 where
   pub marks : marks f w′ ≡ set (marks f w) (pairCell f p) m
-  pub entries : held f w′ ≡ set (held f w) i (entryOf above (pairCell f p))
+  pub entries : entriesIn f w′ ≡ set (entriesIn f w) i (entryOf above (pairCell f p))
 
 module _ {f w w′ : List ℕ} (p : Pair) where
   pub mark-stored : {m : ℕ} → Marked f (marks f w) p → m < markRoom → w′ ≡ withMark w (pairCell f p) m → MarkStored f w p m w′
@@ -70,7 +70,7 @@ module _ {f w w′ : List ℕ} (p : Pair) where
       rw e
       record {
         marks = marks-set f w v (bothOf m k) (cell-inside f (p .low) (p .high) (h .high) (h .low)) ∙ ap (set (marks f w) v) (mark-both m k l);
-        entries = held-same f w (h .laid) v (bothOf m k) (link-both m k l);
+        entries = entries-in-same f w (h .laid) v (bothOf m k) (link-both m k l);
       }
 
   pub entry-stored : {i above : ℕ} → Laid f → p .low ≤ placeCount f → p .high < placeCount f → w′ ≡ withLink w i above p → EntryStored f w i above p w′
@@ -80,7 +80,7 @@ module _ {f w w′ : List ℕ} (p : Pair) where
       rw e
       record {
         marks = marks-same f w i (bothOf m k) (mark-both m k (mark-fits (getD w i 0)));
-        entries = held-set f w laid i m above (p .low) (p .high) (mark-fits (getD w i 0)) l h;
+        entries = entries-in-set f w laid i m above (p .low) (p .high) (mark-fits (getD w i 0)) l h;
       }
 
 -- What `store` does, by its two stores.
@@ -93,5 +93,5 @@ module _ {f w : List ℕ} {i above : ℕ} {p : Pair} {m : ℕ} {w′ : List ℕ}
   pub marks-kept : (v : ℕ) → (v ≡ pairCell f p → ⊥) → getD (marks f w′) v 0 ≡ getD (marks f w) v 0
   marks-kept v other = rw (s .marks) (getD-set-other (marks f w) (pairCell f p) v m 0 other)
 
-  pub entries-kept : (j : ℕ) → (j ≡ i → ⊥) → getD (held f w′) j 0 ≡ getD (held f w) j 0
-  entries-kept j other = rw (s .entries) (getD-set-other (held f w) i j (entryOf above (pairCell f p)) 0 other)
+  pub entries-kept : (j : ℕ) → (j ≡ i → ⊥) → getD (entriesIn f w′) j 0 ≡ getD (entriesIn f w) j 0
+  entries-kept j other = rw (s .entries) (getD-set-other (entriesIn f w) i j (entryOf above (pairCell f p)) 0 other)

@@ -16,7 +16,7 @@ use Rattle.code.specs.Definitions.Readings.{Reads, OnlyReading, FirstTwo}
 use Rattle.code.specs.Definitions.Renumbering.{oldNumber, reordered, renumberedCode}
 use Rattle.code.specs.Definitions.Tables.{size, tableOf}
 use Rattle.code.specs.Laws.Finite.{Within}
-use Rattle.code.specs.Laws.Lists.{getD-table}
+use Rattle.code.specs.Laws.Lists.{getD-tabulate}
 use Rattle.ban_theory.specs.Covers.{Cover}
 use Rattle.ban_theory.specs.CoversSame.{cover-same}
 use Rattle.ban_theory.specs.Matches.{named-none, named-only, named-first-two}
@@ -104,7 +104,7 @@ module _ {l : Limits} {e : Enlarged} (w : WellEnlarged l e) where
       name-is : (x : ℕ) → x < size (tableOf (renumberedCode l old (e .code))) → getD (e .origins) (getD old x 0) 0 ≡ getD names x 0
       name-is x h =
           let known : x < e .code .count = omega (arith, ordered-size) in
-          let at = getD-table (λ i. getD (e .origins) (oldNumber old (e .code .count) i) 0) (l .words) x 0 (omega (arith, w .numbers .room)) in
+          let at = getD-tabulate (λ i. getD (e .origins) (oldNumber old (e .code .count) i) 0) (l .words) x 0 (omega (arith, w .numbers .room)) in
           rw named (sym (at ∙ ap (λ (y : ℕ). getD (e .origins) y 0) (number-in (e .code .count) (λ k. getD old k 0) x known)))
 
       names-are : {m s : List ℕ} → Reads (tableOf (renumberedCode l old (e .code))) m s → map (λ (x : ℕ). getD (e .origins) (getD old x 0) 0) s ≡ map (λ (x : ℕ). getD names x 0) s

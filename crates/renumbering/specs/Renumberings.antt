@@ -11,10 +11,10 @@ use Rattle.code.specs.declared.Word.{Word}
 use Rattle.code.specs.declared.Row.{Row}
 use Rattle.code.specs.declared.Code.{Code}
 use Rattle.code.specs.declared.Limits.{Limits}
-use Rattle.code.specs.Definitions.Lists.{table}
+use Rattle.code.specs.Definitions.Lists.{tabulate}
 use Rattle.code.specs.Definitions.Tables.{size, word, symbolsOf, noWord, noRow, entryOf, tableOf}
 use Rattle.code.specs.Definitions.Renumbering.{numberAt, oldNumber, reordered, reorderedRow, renumberedCode}
-use Rattle.code.specs.Laws.Lists.{length-table, getD-table, getD-table-past}
+use Rattle.code.specs.Laws.Lists.{length-tabulate, getD-tabulate, getD-tabulate-past}
 use Rattle.ban_theory.specs.CoversSame.{Agrees}
 use Rattle.ban_theory.specs.Renumbered.{Order, renumbered}
 use Rattle.code.specs.Laws.WellFormed.{CellsFit, lenOf, WordFits, RowFits, WellFormed}
@@ -57,31 +57,31 @@ formerly old c i = oldNumber old (c .count) i
 module _ (l : Limits) (old : List ℕ) (c : Code) where
   word-there : (i : ℕ) → i < l .words → getD (renumberedCode l old c .words) i noWord ≡ getD (c .words) (formerly old c i) noWord
   unfolding renumberedCode
-  word-there i h = getD-table (λ k. getD (c .words) (formerly old c k) noWord) (l .words) i noWord h
+  word-there i h = getD-tabulate (λ k. getD (c .words) (formerly old c k) noWord) (l .words) i noWord h
 
   row-there : (i : ℕ) → i < l .words → getD (renumberedCode l old c .rows) i noRow ≡ reorderedRow l old (c .count) (getD (c .rows) (formerly old c i) noRow)
   unfolding renumberedCode
-  row-there i h = getD-table (λ k. reorderedRow l old (c .count) (getD (c .rows) (formerly old c k) noRow)) (l .words) i noRow h
+  row-there i h = getD-tabulate (λ k. reorderedRow l old (c .count) (getD (c .rows) (formerly old c k) noRow)) (l .words) i noRow h
 
   entry-there : (i j : ℕ) → i < l .words → j < l .words → entryOf (renumberedCode l old c) i j ≡ entryOf c (formerly old c i) (formerly old c j)
-  entry-there i j h k = ap (λ (r : Row). getD (r .entries) j 0) (row-there i h) ∙ getD-table (λ m. entryOf c (formerly old c i) (formerly old c m)) (l .words) j 0 k
+  entry-there i j h k = ap (λ (r : Row). getD (r .entries) j 0) (row-there i h) ∙ getD-tabulate (λ m. entryOf c (formerly old c i) (formerly old c m)) (l .words) j 0 k
 
   mark-there : (i : ℕ) → i < l .words → getD (renumberedCode l old c .begins) i 0 ≡ getD (c .begins) (formerly old c i) 0
   unfolding renumberedCode
-  mark-there i h = getD-table (λ k. getD (c .begins) (formerly old c k) 0) (l .words) i 0 h
+  mark-there i h = getD-tabulate (λ k. getD (c .begins) (formerly old c k) 0) (l .words) i 0 h
 
 -- The list of f 0 to f (n - 1), each below the bound, and zero past those in use.
 module _ (bound used : ℕ) (f : ℕ → ℕ) (n : ℕ) where
-  below-at : ((k : ℕ) → f k < bound) → (k : ℕ) → Dec (k < n) → getD (table f n) k 0 < bound
-  below-at below k (yes h) = rw (getD-table f n k 0 h) (below k)
-  below-at below k (no h) = rw (getD-table-past f n k 0 (omega arith)) (omega (arith, below k))
+  below-at : ((k : ℕ) → f k < bound) → (k : ℕ) → Dec (k < n) → getD (tabulate f n) k 0 < bound
+  below-at below k (yes h) = rw (getD-tabulate f n k 0 h) (below k)
+  below-at below k (no h) = rw (getD-tabulate-past f n k 0 (omega arith)) (omega (arith, below k))
 
-  zero-at : ((k : ℕ) → used ≤ k → f k ≡ 0) → (k : ℕ) → used ≤ k → Dec (k < n) → getD (table f n) k 0 ≡ 0
-  zero-at none k h (yes d) = getD-table f n k 0 d ∙ none k h
-  zero-at none k h (no d) = getD-table-past f n k 0 (omega arith)
+  zero-at : ((k : ℕ) → used ≤ k → f k ≡ 0) → (k : ℕ) → used ≤ k → Dec (k < n) → getD (tabulate f n) k 0 ≡ 0
+  zero-at none k h (yes d) = getD-tabulate f n k 0 d ∙ none k h
+  zero-at none k h (no d) = getD-tabulate-past f n k 0 (omega arith)
 
-  cells-table : ((k : ℕ) → f k < bound) → ((k : ℕ) → used ≤ k → f k ≡ 0) → CellsFit bound used (table f n)
-  cells-table below none = record { below = λ k. below-at below k (decLt k n); zero = λ k h. zero-at none k h (decLt k n) }
+  cells-tabulate : ((k : ℕ) → f k < bound) → ((k : ℕ) → used ≤ k → f k ≡ 0) → CellsFit bound used (tabulate f n)
+  cells-tabulate below none = record { below = λ k. below-at below k (decLt k n); zero = λ k h. zero-at none k h (decLt k n) }
 
 module _ {l : Limits} (old : List ℕ) {c : Code} (well : WellFormed l c) {new : ℕ → ℕ} (o : Order (c .count) (λ i. getD old i 0) new) where
   all-numbers : Order (l .words) (formerly old c) (numberAt (c .count) new)
@@ -98,7 +98,7 @@ module _ {l : Limits} (old : List ℕ) {c : Code} (well : WellFormed l c) {new :
 
   cells-kept : (bound : ℕ) (a : List ℕ) → CellsFit bound (c .count) a → CellsFit bound (c .count) (reordered l old (c .count) 0 a)
   cells-kept bound a fits =
-      cells-table bound (c .count) (λ i. getD a (formerly old c i) 0) (l .words) (λ k. fits .below (formerly old c k)) (λ k h. fits .zero (formerly old c k) (rw (past k h) h))
+      cells-tabulate bound (c .count) (λ i. getD a (formerly old c i) 0) (l .words) (λ k. fits .below (formerly old c k)) (λ k h. fits .zero (formerly old c k) (rw (past k h) h))
 
   word-fits : (k : ℕ) → k < l .words → WordFits l (c .count) k (getD (renumberedCode l old c .words) k noWord)
   word-fits k h =
@@ -112,7 +112,7 @@ module _ {l : Limits} (old : List ℕ) {c : Code} (well : WellFormed l c) {new :
       let f : ℕ → ℕ = λ j. entryOf c (formerly old c x) (formerly old c j) in
       rw (row-there l old c x h)
       record {
-        array = length-table f (l .words);
+        array = length-tabulate f (l .words);
         entries = cells-kept 2 (getD (c .rows) (formerly old c x) noRow .entries) (r .entries);
         unused = λ g y. zero-at 2 0 f (l .words) (λ k i. r .unused (rw (past x g) g) (formerly old c k)) y (omega arith) (decLt y (l .words));
       }
@@ -128,9 +128,9 @@ module _ {l : Limits} (old : List ℕ) {c : Code} (well : WellFormed l c) {new :
   renumbered-fits = record {
     one = well .one;
     most = well .most;
-    words = length-table (λ i. getD (c .words) (formerly old c i) noWord) (l .words);
-    rows = length-table (λ i. reorderedRow l old (c .count) (getD (c .rows) (formerly old c i) noRow)) (l .words);
-    begins = length-table (λ i. getD (c .begins) (formerly old c i) 0) (l .words);
+    words = length-tabulate (λ i. getD (c .words) (formerly old c i) noWord) (l .words);
+    rows = length-tabulate (λ i. reorderedRow l old (c .count) (getD (c .rows) (formerly old c i) noRow)) (l .words);
+    begins = length-tabulate (λ i. getD (c .begins) (formerly old c i) 0) (l .words);
     marks = cells-kept 2 (c .begins) (well .marks);
     word = word-fits;
     row = row-fits;
@@ -143,7 +143,7 @@ module _ {l : Limits} (old : List ℕ) {c : Code} (well : WellFormed l c) {new :
 
   same-size : size (renumbered (tableOf c) (λ i. getD old i 0)) ≡ c .count
   unfolding renumbered
-  same-size = length-table (λ i. word (tableOf c) (getD old i 0)) (size (tableOf c)) ∙ size-count well
+  same-size = length-tabulate (λ i. word (tableOf c) (getD old i 0)) (size (tableOf c)) ∙ size-count well
 
   known : (x : ℕ) → x < size (renumbered (tableOf c) (λ i. getD old i 0)) → x < c .count
   known x h = omega (arith, same-size)
@@ -159,7 +159,7 @@ module _ {l : Limits} (old : List ℕ) {c : Code} (well : WellFormed l c) {new :
         word-symbols renumbered-fits x (omega (arith, same-count))
         ∙ ap symbolsOf (word-there l old c x (omega (arith, well .most)) ∙ ap (λ (i : ℕ). getD (c .words) i noWord) (number-is x k))
         ∙ sym (word-symbols well (getD old x 0) (o .old-known x k))
-        ∙ sym (getD-table (λ i. word (tableOf c) (getD old i 0)) (size (tableOf c)) x _ (omega (arith, size-count well)));
+        ∙ sym (getD-tabulate (λ i. word (tableOf c) (getD old i 0)) (size (tableOf c)) x _ (omega (arith, size-count well)));
     begins = λ x h.
         let k = known x h in
         ap (λ (v : ℕ). eqb v 1) (mark-there l old c x (omega (arith, well .most)) ∙ ap (λ (i : ℕ). getD (c .begins) i 0) (number-is x k));

@@ -8,10 +8,10 @@ use Rattle.code.specs.declared.Word.{Word}
 use Rattle.code.specs.declared.Row.{Row}
 use Rattle.code.specs.declared.Code.{Code}
 use Rattle.code.specs.declared.Limits.{Limits}
-use Rattle.code.specs.Definitions.Lists.{table}
+use Rattle.code.specs.Definitions.Lists.{tabulate}
 use Rattle.code.specs.Definitions.Tables.{noWord, noRow}
 use Rattle.code.specs.Definitions.Renumbering.{oldNumber, reordered, reorderedRow, renumberedCode}
-use Rattle.code.specs.Laws.Lists.{table-list}
+use Rattle.code.specs.Laws.Lists.{tabulate-list}
 use Rattle.code.specs.Laws.Filling.{fill-next, fill-rest}
 use Rattle.code.specs.Laws.WellFormed.{RowFits}
 use Rattle.renumbering.specs.Renumberings.{number-in, number-past}
@@ -25,11 +25,11 @@ pub record Known (l : Limits) (old : List ℕ) (n : ℕ) : Type 0 where
 pub record Filled {A : Type 0} (f : ℕ → A) (n : ℕ) (was now : List A) (i : ℕ) : Type 0 where
   pub upto : i ≤ n
   pub array : length now ≡ length was
-  pub is : now ≡ table f i ++ drop i was
+  pub is : now ≡ tabulate f i ++ drop i was
 
 module _ {A : Type 0} (f : ℕ → A) (n : ℕ) (was : List A) where
   pub filled-none : Filled f n was was 0
-  unfolding table
+  unfolding tabulate
   filled-none = record { upto = omega arith; array = refl; is = refl }
 
   pub filled-more : {now : List A} {i : ℕ} → Filled f n was now i → i < n → n ≤ length was → (v : A) → v ≡ f i → Filled f n was (set now i v) (i + 1)
@@ -37,7 +37,7 @@ module _ {A : Type 0} (f : ℕ → A) (n : ℕ) (was : List A) where
       record { upto = omega arith; array = simp length-set (filled .array); is = rw (filled .is, e) (fill-next f was i (omega arith)) }
 
   pub filled-all : (m : ℕ) (none : A) {now : List A} {i : ℕ} → Filled f n was now i → n ≤ i → length was ≡ m → n ≤ m
-      → ((k : ℕ) → n ≤ k → k < m → f k ≡ getD was k none) → now ≡ table f m
+      → ((k : ℕ) → n ≤ k → k < m → f k ≡ getD was k none) → now ≡ tabulate f m
   filled-all m none {now} {i} filled h array most rest =
       filled .is ∙ fill-rest f was none i m array (λ k a b. rest k (omega arith) b) (omega (arith, filled .upto))
 
@@ -71,7 +71,7 @@ module _ (l : Limits) (old : List ℕ) (n : ℕ) (rows : List Row) (known : Know
       let r = getD rows k noRow in
       let fit = fits k b in
       let same : reordered l old n 0 (r .entries) ≡ r .entries =
-      table-list (entryFrom old n 0 (r .entries)) (l .words) (r .entries) 0 (fit .array) (λ j i. fit .unused h (oldNumber old n j) ∙ sym (fit .unused h j)) in
+      tabulate-list (entryFrom old n 0 (r .entries)) (l .words) (r .entries) 0 (fit .array) (λ j i. fit .unused h (oldNumber old n j) ∙ sym (fit .unused h j)) in
       ap (reorderedRow l old n) (entry-past old n noRow rows k h) ∙ rw same
 
   module _ {now : List Row} {i : ℕ} (filled : Filled (rowFrom l old n rows) n rows now i) where
@@ -79,12 +79,12 @@ module _ (l : Limits) (old : List ℕ) (n : ℕ) (rows : List Row) (known : Know
     rows-more h row e =
         filled-more (rowFrom l old n rows) n rows filled h (omega (arith, known .most)) row (e ∙ ap (reorderedRow l old n) (entry-from old n noRow rows i h))
 
-    pub rows-all : ((x : ℕ) → x < l .words → RowFits l n x (getD rows x noRow)) → n ≤ i → now ≡ table (rowFrom l old n rows) (l .words)
+    pub rows-all : ((x : ℕ) → x < l .words → RowFits l n x (getD rows x noRow)) → n ≤ i → now ≡ tabulate (rowFrom l old n rows) (l .words)
     rows-all fits h = filled-all (rowFrom l old n rows) n rows (l .words) noRow filled h array (known .most) (row-past fits)
 
 -- The table of words, rows and start marks that were put in order.
 pub renumbered-parts : (l : Limits) (old : List ℕ) (c : Code) {words : List Word} {rows : List Row} {begins : List ℕ} → words ≡ reordered l old (c .count) noWord (c .words)
-    → rows ≡ table (rowFrom l old (c .count) (c .rows)) (l .words) → begins ≡ reordered l old (c .count) 0 (c .begins)
+    → rows ≡ tabulate (rowFrom l old (c .count) (c .rows)) (l .words) → begins ≡ reordered l old (c .count) 0 (c .begins)
     → record { words = words; rows = rows; begins = begins; count = c .count } ≡ renumberedCode l old c
 unfolding renumberedCode
 renumbered-parts l old c p q r = rw (p, q, r)

@@ -6,36 +6,36 @@ use native.Mathlib.Decide.{ℕ-discrete}
 use native.Mathlib.Omega.{arith}
 use borrow.Author.Tests.{eq-eqb, ne-eqb}
 use lib.Dec.{eqb}
-use Rattle.code.specs.Definitions.Lists.{if_then_else_, table, sum}
-use Rattle.code.specs.Laws.Lists.{table-same, sum-append, sum-past}
+use Rattle.code.specs.Definitions.Lists.{if_then_else_, tabulate, sum}
+use Rattle.code.specs.Laws.Lists.{tabulate-same, sum-append, sum-past}
 use Rattle.ban_theory.specs.Renumbered.{Order}
 
 abbrev pub sumOf : (ℕ → ℕ) → ℕ → ℕ
-sumOf f n = sum (table f n)
+sumOf f n = sum (tabulate f n)
 
 sum-next : (f : ℕ → ℕ) (n : ℕ) → sumOf f (suc n) ≡ sumOf f n + f n
-unfolding table sum
-sum-next f n = omega (arith, sum-append (table f n) (f n ∷ []))
+unfolding tabulate sum
+sum-next f n = omega (arith, sum-append (tabulate f n) (f n ∷ []))
 
 pub sum-none : (n : ℕ) → sumOf (λ k. 0) n ≡ 0
-unfolding table sum
+unfolding tabulate sum
 sum-none n = sum-past (λ k. 0) 0 n (omega arith) (λ k h i. refl)
 
 pub sum-ones : (n : ℕ) → sumOf (λ k. 1) n ≡ n
-unfolding table sum
+unfolding tabulate sum
 sum-ones zero = refl
 sum-ones (suc n) = omega (arith, sum-next (λ k. 1) n, sum-ones n)
 
 pub sum-same : (f g : ℕ → ℕ) (n : ℕ) → ((k : ℕ) → k < n → f k ≡ g k) → sumOf f n ≡ sumOf g n
-sum-same f g n same = ap sum (table-same f g n same)
+sum-same f g n same = ap sum (tabulate-same f g n same)
 
 pub sum-add : (f g : ℕ → ℕ) (n : ℕ) → sumOf (λ k. f k + g k) n ≡ sumOf f n + sumOf g n
-unfolding table sum
+unfolding tabulate sum
 sum-add f g zero = refl
 sum-add f g (suc n) = omega (arith, sum-next (λ k. f k + g k) n, sum-next f n, sum-next g n, sum-add f g n)
 
 sum-swap : (g : ℕ → ℕ → ℕ) (n m : ℕ) → sumOf (λ i. sumOf (g i) m) n ≡ sumOf (λ j. sumOf (λ i. g i j) n) m
-unfolding table sum
+unfolding tabulate sum
 sum-swap g zero m = sym (sum-none m)
 sum-swap g (suc n) m =
     sum-next (λ i. sumOf (g i) m) n

@@ -8,7 +8,7 @@ use code::Word;
 ghost use mathlib.Core.Path.{_≡_};
 ghost use Prim.Native.Nat.{ℕ, _<_};
 ghost use lib.ListN.{getD};
-ghost use Rattle.code.specs.Definitions.Lists.{table};
+ghost use Rattle.code.specs.Definitions.Lists.{tabulate};
 ghost use Rattle.code.specs.Definitions.Tables.{noWord, noRow};
 ghost use Rattle.code.specs.Definitions.Sheets.{limits};
 ghost use Rattle.code.specs.Definitions.Renumbering.{reordered, reorderedRow, renumberedCode};
@@ -66,7 +66,7 @@ fn reorder_row(row: Row, old: [u8; Code::WORDS], n: usize) -> Row
 // The rows in the order of the list, and the columns of each.
 fn reorder_rows(rows: [Row; Code::WORDS], old: [u8; Code::WORDS], n: usize) -> [Row; Code::WORDS]
     requires { ⌜ Known limits old n × ((x : ℕ) → x < limits .words → RowFits limits n x (getD rows x noRow)) ⌝ }
-    ensures { λ r. ⌜ r ≡ table (rowFrom limits old n rows) (limits .words) ⌝ }
+    ensures { λ r. ⌜ r ≡ tabulate (rowFrom limits old n rows) (limits .words) ⌝ }
 {
     let mut next = rows;
     let mut i: usize = 0;

@@ -11,25 +11,23 @@ use lib.ListN.{length, drop, getD, length-drop}
 use lib.Seq.{drop-cons, drop-drop, getD-drop}
 use borrow.Author.Tests.{ltb-false, lt-ltb}
 use Rattle.code.specs.declared.Row.{Row}
-use Rattle.code.specs.Definitions.Lists.{if_then_else_, any, table}
+use Rattle.code.specs.Definitions.Lists.{if_then_else_, any, tabulate}
 use Rattle.code.specs.Definitions.Sheets.{limits, isDigit, valueOf, firstField, startField, wordLength, hasStarts, rowPlace, rowOf, beginsOf, badEntry, badRow, badWord}
-use Rattle.code.specs.Laws.Lists.{any-at, or-neither, table-same, getD-within}
+use Rattle.code.specs.Laws.Lists.{any-at, or-neither, tabulate-same, getD-within}
 use Rattle.code.specs.Laws.Clean.{Clean, recordFields, recordFields-some}
 use Rattle.code.specs.Laws.Fits.{Fits}
 use Rattle.code.specs.Laws.Records.{entry-byte, place-some, width, bits}
 use Rattle.csv.specs.Fields.{leading}
 use Rattle.csv.specs.Front.{field-last, field-comma, field-line}
+use Rattle.csv.specs.Symbols.{fieldSymbol}
 use Rattle.sheet_table.specs.Rows.{After, over, down, Entries, row-entries, entries-rest}
 
--- the symbol of digit k of a field, and of entry y of a row
-abbrev pub symbolOf : List ℕ → ℕ → ℕ
-symbolOf f k = valueOf (getD f k 48)
-
+-- entry y of a row
 abbrev pub entryOf : List (List ℕ) → ℕ → ℕ
-entryOf r y = symbolOf (getD r y []) 0
+entryOf r y = fieldSymbol (getD r y []) 0
 
 unfoldable pub rowFrom : List (List ℕ) → Row
-rowFrom r = record { entries = table (entryOf r) 32 }
+rowFrom r = record { entries = tabulate (entryOf r) 32 }
 
 -- where the row begins whose word ends at e
 abbrev pub rowStart : ℕ → Bool → ℕ
@@ -56,8 +54,8 @@ short-word r o = ltb-false 16 (wordLength r) (or-neither (eqb (wordLength r) 0) 
 row-from : (p q : List (List ℕ)) (j : ℕ) → ((y : ℕ) → getD p y [] ≡ getD q (y + j) []) → rowFrom p ≡ rowOf limits j q
 unfolding rowFrom
 row-from p q j same =
-    let e : table (entryOf p) 32 ≡ table (λ y. symbolOf (getD q (y + j) []) 0) 32 =
-    table-same (entryOf p) (λ y. symbolOf (getD q (y + j) []) 0) 32 (λ y h. ap (λ (f : List ℕ). symbolOf f 0) (same y)) in
+    let e : tabulate (entryOf p) 32 ≡ tabulate (λ y. fieldSymbol (getD q (y + j) []) 0) 32 =
+    tabulate-same (entryOf p) (λ y. fieldSymbol (getD q (y + j) []) 0) 32 (λ y h. ap (λ (f : List ℕ). fieldSymbol f 0) (same y)) in
     rw e
 
 -- the bytes of entries that stand from `at` on

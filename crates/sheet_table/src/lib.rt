@@ -13,7 +13,7 @@ ghost use mathlib.Core.Path.{_≡_};
 ghost use Prim.Native.Nat.{_+_, _≤_};
 ghost use lib.ListN.{length, drop};
 ghost use Rattle.code.specs.Definitions.Sheets.{limits, hasStarts, wordOf, codeOf};
-ghost use Rattle.code.specs.Definitions.Lists.{table};
+ghost use Rattle.code.specs.Definitions.Lists.{tabulate};
 ghost use Rattle.code.specs.Laws.Clean.{Clean, recordFields};
 ghost use Rattle.code.specs.Laws.Fits.{Fits};
 ghost use Rattle.csv.specs.Fields.{leading};
@@ -39,7 +39,7 @@ fn read_word(s: &[u8], at: usize, e: usize) -> Word
 // The row whose n entries stand from `at` on, with a comma between.
 fn read_row(s: &[u8], at: usize, n: usize) -> Row
     requires { ⌜ RowAt (now s) at n ⌝ }
-    ensures { λ r. ⌜ r ≡ record { entries = table (rowByte (now (s .entry)) at n) 32 } ⌝ }
+    ensures { λ r. ⌜ r ≡ record { entries = tabulate (rowByte (now (s .entry)) at n) 32 } ⌝ }
 {
     let mut row = blank_row();
     let mut y: usize = 0;

@@ -1,7 +1,7 @@
 pub mod Runs
 pub mod Unique
 pub mod Syllables
-pub mod Marks
+pub mod Signs
 pub mod Lengths
 pub mod Messages
 pub mod Named

@@ -1,21 +1,14 @@
--- The letters of an encoded message. Where the message has one reading, splitting them puts the breaks exactly between the words of the sequence.
+-- The letters of a sequence. Where they have one reading, splitting them puts the breaks exactly between the words of the sequence.
 use mathlib.Core.Path.{_≡_, sym}
 use mathlib.Core.Bool.{true, and-eq-true-iff}
 use mathlib.Core.List.{List, [], _∷_, _++_, map, append-nil}
 use Prim.Native.Nat.{ℕ, _≤_}
 use native.Mathlib.Omega.{arith}
-use lib.ListN.{length, take}
-use Rattle.code.specs.declared.Encoding.the-variants.{Encoded}
-use Rattle.code.specs.declared.Enlarged.{Enlarged}
-use Rattle.code.specs.declared.Limits.{Limits}
-use Rattle.code.specs.declared.SymbolCount.{SymbolCount}
-use Rattle.code.specs.Definitions.Enlarged.{originalTable}
+use lib.ListN.{length}
 use Rattle.code.specs.Definitions.Lists.{every, join}
-use Rattle.code.specs.Definitions.Operations.{Encodes}
 use Rattle.code.specs.Definitions.Readings.{Reads, OnlyReading}
 use Rattle.code.specs.Definitions.Tables.{Table, word}
 use Rattle.code.specs.Definitions.Texts.{isLetter, run, rest, symbolsIn, syllableBreak, syllables, lengthsOf, Shows, split, Splits, end, shown}
-use Rattle.encoding.specs.RoundTrip.{encoded-reads}
 use Rattle.text_theory.specs.Runs.{none, run-until}
 use Rattle.text_theory.specs.Syllables.{syllables-spell}
 
@@ -45,12 +38,3 @@ module _ {t : Table} (classes : List ℕ) where
       let same = o .only s d in
       let only : OnlyReading t (symbolsIn classes (a ∷ w)) s = rw same o in
       record { splits = word-splits a w _ l (split only); spell = syllables-spell t classes s (a ∷ w) (sym (d .joined)) }
-
--- What encoding made of a sequence, in letters, where it has one reading.
-pub encoded-splits : {l : Limits} {e : Enlarged} (classes : List ℕ) {s b b′ r : List ℕ} {n : SymbolCount} (w : List ℕ) → Encodes l e s b b′ (Encoded n) → 1 ≤ length w
-    → every (isLetter classes) w ≡ true → symbolsIn classes w ≡ take (n .0) b′ → OnlyReading (originalTable e) (take (n .0) b′) r
-    → Between (originalTable e) classes w s
-encoded-splits {e = e} classes {s} {r = r} w x h l m o =
-    let reads : Reads (originalTable e) (symbolsIn classes w) s = rw m (encoded-reads x) in
-    let only : OnlyReading (originalTable e) (symbolsIn classes w) r = rw m o in
-    reading-splits classes w h l reads only

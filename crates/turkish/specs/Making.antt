@@ -7,7 +7,7 @@ use lib.ListN.{length, getD, set, replicate, length-map, length-replicate, getD-
 use Rattle.code.specs.declared.Word.{Word}
 use Rattle.code.specs.declared.Row.{Row}
 use Rattle.code.specs.declared.Code.{Code}
-use Rattle.code.specs.Definitions.Lists.{every, table}
+use Rattle.code.specs.Definitions.Lists.{every, tabulate}
 use Rattle.code.specs.Definitions.Tables.{noWord}
 use Rattle.code.specs.Definitions.Sheets.{limits, codeOf, blankCode}
 use Rattle.code.specs.Laws.Lists.{map-at}
@@ -22,7 +22,7 @@ pub record Made (ts : List (List ℕ)) (code : Code) (x : ℕ) : Type 0 where
   pub begins : Padding 0 (replicate (length ts) 1) (limits .words) x (code .begins)
 
 pub made-none : {ts : List (List ℕ)} {code : Code} → code ≡ blankCode limits → Made ts code 0
-unfolding every table padded codeOf blankCode
+unfolding every tabulate padded codeOf blankCode
 made-none e = rw e record { words = padding-none refl; rows = padding-none refl; begins = padding-none refl }
 
 -- Word and row x of the constants ws and rs

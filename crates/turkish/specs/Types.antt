@@ -8,7 +8,7 @@ use Rattle.code.specs.declared.Word.{Word}
 use Rattle.code.specs.declared.Row.{Row}
 use Rattle.code.specs.declared.Code.{Code}
 use Rattle.code.specs.declared.Limits.{Limits}
-use Rattle.code.specs.Definitions.Lists.{if_then_else_, table}
+use Rattle.code.specs.Definitions.Lists.{if_then_else_, tabulate}
 use Rattle.turkish.specs.declared.TypeRow.{TypeRow}
 
 -- Source 000, table 1: "0 denotes vowel, 1 denotes consonant"
@@ -77,7 +77,7 @@ rowOfTypes r = record { 0 = r }
 
 -- An array of n entries: those of a list, and then the entry d.
 unfoldable pub padded : {A : Type 0} → A → List A → ℕ → List A
-padded d l n = table (λ k. getD l k d) n
+padded d l n = tabulate (λ k. getD l k d) n
 
 module _ (l : Limits) where
   abbrev pub wordFor : List ℕ → Word

@@ -11,7 +11,7 @@ use Rattle.code.specs.declared.Row.{Row}
 use Rattle.code.specs.Definitions.Lists.{if_then_else_}
 use Rattle.code.specs.Definitions.Sheets.{limits}
 use Rattle.code.specs.Definitions.Tables.{noRow, entryOf, tableOf}
-use Rattle.code.specs.Laws.Lists.{getD-table, map-at}
+use Rattle.code.specs.Laws.Lists.{getD-tabulate, map-at}
 use Rattle.turkish.specs.Types.{forbids, entryFor, matrix, padded, rowFor, codeOfTypes}
 
 zero-iff : (b : Bool) → (_≡_ {A = ℕ} (if b then 0 else 1) 0) ↔ (b ≡ true)
@@ -28,11 +28,11 @@ module _ (ts : List (List ℕ)) (few : length ts ≤ limits .words) (x y : ℕ) 
   entry-rules =
       let rows = length-map ts (λ t. map (entryFor t) ts) in
       let row : getD (codeOfTypes limits ts .rows) x noRow ≡ rowFor limits (map (entryFor (getD ts x [])) ts) =
-      getD-table (λ k. getD (map (rowFor limits) (matrix ts)) k (rowFor limits [])) (limits .words) x noRow (omega arith)
+      getD-tabulate (λ k. getD (map (rowFor limits) (matrix ts)) k (rowFor limits [])) (limits .words) x noRow (omega arith)
       ∙ map-at (rowFor limits) (matrix ts) x (rowFor limits []) [] (omega (arith, rows))
       ∙ ap (rowFor limits) (map-at (λ t. map (entryFor t) ts) ts x [] [] h) in
       ap (λ (r : Row). getD (r .entries) y 0) row
-      ∙ getD-table (λ k. getD (map (entryFor (getD ts x [])) ts) k 0) (limits .words) y 0 (omega arith)
+      ∙ getD-tabulate (λ k. getD (map (entryFor (getD ts x [])) ts) k 0) (limits .words) y 0 (omega arith)
       ∙ map-at (entryFor (getD ts x [])) ts y 0 [] l
 
   -- 02, request 3: "proved to hold 0 exactly where one of them forbids"

@@ -3,8 +3,8 @@ use mathlib.Core.Path.{_≡_, refl}
 use mathlib.Core.List.{List, [], _∷_, _++_}
 use Prim.Native.Nat.{ℕ}
 use Rattle.code.specs.declared.SheetAnswer.the-variants.{Accepted}
-use Rattle.code.specs.Definitions.ClassSheets.{rangesOf, malformed, takesMark, refused18, refused19, allBytes, takers, refused20, classBy, classesOf, takenClasses, FromClassSheet}
-use Rattle.code.specs.Definitions.Lists.{any, every, table}
+use Rattle.code.specs.Definitions.ClassSheets.{rangesOf, malformed, takesSign, refused18, refused19, allBytes, takers, refused20, classBy, classesOf, takenClasses, FromClassSheet}
+use Rattle.code.specs.Definitions.Lists.{any, every, tabulate}
 use Rattle.code.specs.Definitions.Sheets.{limits, body, records, fields, grid, badBytes}
 use Rattle.turkish_letters.specs.Letters.{turkishClasses}
 
@@ -48,7 +48,7 @@ turkishClassSheet =
 
 -- 02, request 5: "The Turkish sheet must give CR 4's results": it gives the same table.
 pub turkish-given : takenClasses limits turkishClassSheet ≡ record { answer = Accepted; classes = record { entries = turkishClasses } }
-unfolding takenClasses rangesOf malformed takesMark refused18 refused19 allBytes takers refused20 classBy classesOf any every table body records fields grid badBytes turkishClasses
+unfolding takenClasses rangesOf malformed takesSign refused18 refused19 allBytes takers refused20 classBy classesOf any every tabulate body records fields grid badBytes turkishClasses
 turkish-given = refl
 
 pub turkish-from-sheet : FromClassSheet limits (record { entries = turkishClasses })

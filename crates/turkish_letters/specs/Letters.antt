@@ -3,7 +3,7 @@ use mathlib.Core.Bool.{Bool}
 use mathlib.Core.List.{List, [], _∷_, _++_, map}
 use Prim.Native.Nat.{ℕ, _-_}
 use lib.Dec.{eqb}
-use Rattle.code.specs.Definitions.Lists.{if_then_else_, any, table}
+use Rattle.code.specs.Definitions.Lists.{if_then_else_, any, tabulate}
 use Rattle.code.specs.Definitions.Texts.{other}
 
 -- 02, request 4: "The vowels are a, e, ı, i, o, ö, u, ü"
@@ -28,4 +28,4 @@ abbrev pub turkishClass : ℕ → ℕ
 turkishClass b = if isOf vowels b then 0 else if isOf consonants b then 1 else other
 
 unfoldable pub turkishClasses : List ℕ
-turkishClasses = table turkishClass 256
+turkishClasses = tabulate turkishClass 256

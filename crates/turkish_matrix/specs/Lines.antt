@@ -6,8 +6,8 @@ use Prim.Native.Nat.{ℕ, _+_, _≤_, _<_}
 use native.Mathlib.Omega.{arith}
 use lib.Dec.{eqb}
 use lib.ListN.{length, getD, length-append}
-use Rattle.code.specs.Definitions.Lists.{if_then_else_, table, join}
-use Rattle.code.specs.Laws.Lists.{length-table, getD-table}
+use Rattle.code.specs.Definitions.Lists.{if_then_else_, tabulate, join}
+use Rattle.code.specs.Laws.Lists.{length-tabulate, getD-tabulate}
 use Rattle.printing.specs.Printed.{places}
 use Rattle.writing.specs.Puts.{Puts, Starts, starts}
 use Rattle.writing.specs.Fields.{following, fieldsTo, field-fits, field-put, all-put}
@@ -16,7 +16,7 @@ use Rattle.turkish_matrix.specs.Printed.{lineOf, lineAt, lines, opening,
 use Rattle.turkish_matrix.specs.Printing.{second-fits, third-fits, three-put}
 
 abbrev pub allLines : List (List ℕ)
-allLines = table lineAt (length types)
+allLines = tabulate lineAt (length types)
 
 -- Nothing parts the lines.
 unparted : (i : ℕ) (f : List ℕ) → following [] i f ≡ f
@@ -28,19 +28,19 @@ unparted i f = either (eqb i 0)
 
 module _ (x : ℕ) (h : x < length types) {row : List ℕ} (is : row ≡ getD (matrix types) x []) where
   line-at : following [] x (getD allLines x []) ≡ lineOf x row
-  line-at = unparted x (getD allLines x []) ∙ getD-table lineAt (length types) x [] h ∙ rw is
+  line-at = unparted x (getD allLines x []) ∙ getD-tabulate lineAt (length types) x [] h ∙ rw is
 
   module _ {o p : List ℕ} {at next : ℕ} (before : Puts at (fieldsTo [] allLines x) o p next) where
     pub line-fits : at + length lines ≤ length o → next + length (lineOf x row) ≤ length p
     unfolding lines
-    line-fits room = rw line-at at (field-fits [] allLines x before (omega (arith, length-table lineAt (length types))) room)
+    line-fits room = rw line-at at (field-fits [] allLines x before (omega (arith, length-tabulate lineAt (length types))) room)
 
     pub line-more : {q : List ℕ} {r : ℕ} → Puts next (lineOf x row) p q r → Puts at (fieldsTo [] allLines (x + 1)) o q r
-    line-more put = field-put [] allLines x before (omega (arith, length-table lineAt (length types))) (rw line-at put)
+    line-more put = field-put [] allLines x before (omega (arith, length-tabulate lineAt (length types))) (rw line-at put)
 
 pub lines-all : (x : ℕ) → length types ≤ x → {o p : List ℕ} {at next : ℕ} → Puts at (fieldsTo [] allLines x) o p next → Puts at lines o p next
 unfolding lines
-lines-all x h before = all-put [] allLines x before (omega (arith, length-table lineAt (length types)))
+lines-all x h before = all-put [] allLines x before (omega (arith, length-tabulate lineAt (length types)))
 
 -- The whole table: what opens it, its lines, what closes it
 module _ (o : List ℕ) (room : length printed ≤ length o) where
@@ -65,5 +65,5 @@ module _ (o : List ℕ) (room : length printed ≤ length o) where
 
 -- It has so many bytes.
 pub printed-long : length printed ≡ 719
-unfolding printed lines table join places
+unfolding printed lines tabulate join places
 printed-long = refl

@@ -2,7 +2,7 @@
 use mathlib.Core.List.{List, [], _∷_, _++_, map}
 use Prim.Native.Nat.{ℕ, _+_}
 use lib.ListN.{length, getD}
-use Rattle.code.specs.Definitions.Lists.{table, join}
+use Rattle.code.specs.Definitions.Lists.{tabulate, join}
 use Rattle.printing.specs.Printed.{decimal}
 use Rattle.turkish.specs.Types.{types, matrix}
 
@@ -20,7 +20,7 @@ lineAt x = lineOf x (getD (matrix types) x [])
 
 -- all lines
 unfoldable pub lines : List ℕ
-lines = join [] (table lineAt (length types))
+lines = join [] (tabulate lineAt (length types))
 
 -- `pub const ROWS: [TypeRow; Types::COUNT] = [` and a line end
 abbrev pub opening : List ℕ

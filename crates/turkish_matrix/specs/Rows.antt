@@ -9,10 +9,10 @@ use lib.ListN.{length, take, getD, length-map}
 use lib.Seq.{length-take-le, getD-take, ext-getD}
 use borrow.Author.Tests.{leb-true}
 use Rattle.code.specs.declared.Word.{Word}
-use Rattle.code.specs.Definitions.Lists.{every, table}
+use Rattle.code.specs.Definitions.Lists.{every, tabulate}
 use Rattle.code.specs.Definitions.Sheets.{limits}
 use Rattle.code.specs.Definitions.Tables.{noWord, symbolsOf}
-use Rattle.code.specs.Laws.Lists.{length-table, getD-table, table-list, map-at, every-at}
+use Rattle.code.specs.Laws.Lists.{length-tabulate, getD-tabulate, tabulate-list, map-at, every-at}
 use Rattle.turkish.specs.Types.{types, entryFor, matrix, padded, wordFor}
 use Rattle.turkish.specs.Padding.{Padding, padding-all}
 use Rattle.turkish_matrix.specs.Rules.{Spelt}
@@ -35,18 +35,18 @@ module _ (x : ℕ) (h : x < length types) where
 
     pub word-spelt : Spelt (getD ws x noWord)
     unfolding padded
-    word-spelt = rw word-is (record { some = type-fits .0; fits = type-fits .1; array = length-table (λ k. getD (getD types x []) k 0) (limits .symbols) })
+    word-spelt = rw word-is (record { some = type-fits .0; fits = type-fits .1; array = length-tabulate (λ k. getD (getD types x []) k 0) (limits .symbols) })
 
     -- the symbols of the word are the type
     pub word-type : symbolsOf (getD ws x noWord) ≡ getD types x []
     unfolding padded
     word-type =
         let t = getD types x [] in
-        let a = table (λ k. getD t k 0) (limits .symbols) in
-        let long : length (take (length t) a) ≡ length t = length-take-le (length t) a (omega (arith, type-fits, length-table (λ k. getD t k 0) (limits .symbols))) in
+        let a = tabulate (λ k. getD t k 0) (limits .symbols) in
+        let long : length (take (length t) a) ≡ length t = length-take-le (length t) a (omega (arith, type-fits, length-tabulate (λ k. getD t k 0) (limits .symbols))) in
         ap symbolsOf word-is
         ∙ ext-getD 0 (take (length t) a) t long
-        (λ k l. getD-take (length t) a k 0 (omega (arith, long)) ∙ getD-table (λ j. getD t j 0) (limits .symbols) k 0 (omega (arith, long, type-fits)))
+        (λ k l. getD-take (length t) a k 0 (omega (arith, long)) ∙ getD-tabulate (λ j. getD t j 0) (limits .symbols) k 0 (omega (arith, long, type-fits)))
 
 -- the entries of row x
 abbrev pub entriesOf : ℕ → List ℕ
@@ -64,4 +64,4 @@ pub row-filled : (x : ℕ) → x < length types → {y : ℕ} {row : List ℕ} �
 unfolding padded
 row-filled x h few most p =
     let long = length-map types (entryFor (getD types x [])) in
-    padding-all (omega (arith, long)) most p ∙ table-list (λ k. getD (entriesOf x) k 0) (length types) (entriesOf x) 0 long (λ k l. refl) ∙ row-is x h
+    padding-all (omega (arith, long)) most p ∙ tabulate-list (λ k. getD (entriesOf x) k 0) (length types) (entriesOf x) 0 long (λ k l. refl) ∙ row-is x h

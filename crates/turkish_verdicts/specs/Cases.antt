@@ -6,7 +6,7 @@ use Prim.Native.Nat.{ℕ}
 use lib.ListN.{take}
 use Rattle.code.specs.declared.Code.{Code}
 use Rattle.code.specs.Definitions.Delays.{Delay}
-use Rattle.code.specs.Definitions.Lists.{table}
+use Rattle.code.specs.Definitions.Lists.{tabulate}
 use Rattle.code.specs.Definitions.Readings.{Ambiguous, Decipherable}
 use Rattle.code.specs.Definitions.Sheets.{limits}
 use Rattle.code.specs.Definitions.Tables.{tableOf}
@@ -38,7 +38,7 @@ abbrev pub expectedSix : Expected
 expectedSix = delay 5
 
 both-checked : (checkTable (tableOf twelve) expectedTwelve && checkTable (tableOf six) expectedSix) ≡ true
-unfolding checkTable table padded codeOfTypes
+unfolding checkTable tabulate padded codeOfTypes
 both-checked = refl
 
 each-checked : (checkTable (tableOf twelve) expectedTwelve ≡ true) × (checkTable (tableOf six) expectedSix ≡ true)

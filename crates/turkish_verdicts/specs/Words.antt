@@ -3,7 +3,7 @@ use mathlib.Core.Path.{_≡_, refl}
 use mathlib.Core.Bool.{true}
 use mathlib.Core.List.{List, [], _∷_, _++_}
 use Prim.Native.Nat.{ℕ}
-use Rattle.code.specs.Definitions.Lists.{any, every, table, join}
+use Rattle.code.specs.Definitions.Lists.{any, every, tabulate, join}
 use Rattle.code.specs.Definitions.Tables.{Table, tableOf}
 use Rattle.code.specs.Definitions.Texts.{symbolsIn, syllableBreak, syllables, lengthsOf, Shows, split, none, several, Splits}
 use Rattle.code.specs.Laws.Readings.{first-two-readings}
@@ -29,22 +29,22 @@ module _ {t : Table} (plain : Plain t) (classes w : List ℕ) where
   two-shows r u e = several (first-two-readings (first-two-means plain (symbolsIn classes w) r u e))
 
 plain-twelve : Plain (tableOf twelve)
-unfolding isNonEmpty table padded codeOfTypes
+unfolding isNonEmpty tabulate padded codeOfTypes
 plain-twelve = record { some = non-empty (tableOf twelve) refl; free = λ x y z. refl }
 
 -- saat: sa·at
 pub saat-split : Splits (tableOf twelve) turkishClasses (115 ∷ 97 ∷ 97 ∷ 116 ∷ []) (115 ∷ 97 ∷ 183 ∷ 97 ∷ 116 ∷ [])
-unfolding readings onlyOf table padded codeOfTypes turkishClasses any every join syllables
+unfolding readings onlyOf tabulate padded codeOfTypes turkishClasses any every join syllables
 saat-split = word-splits turkishClasses 115 (97 ∷ 97 ∷ 116 ∷ []) _ refl (one-shows plain-twelve turkishClasses (115 ∷ 97 ∷ 97 ∷ 116 ∷ []) (1 ∷ 2 ∷ []) refl)
 
 -- kongre: kon·gre and kong·re
 pub kongre-split : Splits (tableOf twelve) turkishClasses (107 ∷ 111 ∷ 110 ∷ 103 ∷ 114 ∷ 101 ∷ []) (91 ∷ 107 ∷ 111 ∷ 110 ∷ 103 ∷ 114 ∷ 101 ∷ 93 ∷ [])
-unfolding readings firstTwoOf table padded codeOfTypes turkishClasses any every
+unfolding readings firstTwoOf tabulate padded codeOfTypes turkishClasses any every
 kongre-split =
     word-splits turkishClasses 107 (111 ∷ 110 ∷ 103 ∷ 114 ∷ 101 ∷ []) _ refl
     (two-shows plain-twelve turkishClasses (107 ∷ 111 ∷ 110 ∷ 103 ∷ 114 ∷ 101 ∷ []) (3 ∷ 6 ∷ []) (5 ∷ 1 ∷ []) refl)
 
 -- bb has no vowel.
 pub bb-split : Splits (tableOf twelve) turkishClasses (98 ∷ 98 ∷ []) (40 ∷ 98 ∷ 98 ∷ 41 ∷ [])
-unfolding readings empty table padded codeOfTypes turkishClasses any every
+unfolding readings empty tabulate padded codeOfTypes turkishClasses any every
 bb-split = word-splits turkishClasses 98 (98 ∷ []) _ refl (none-shows plain-twelve turkishClasses (98 ∷ 98 ∷ []) refl)

@@ -14,7 +14,7 @@ use Rattle.code.specs.declared.Taken.{Taken}
 use Rattle.code.specs.declared.Verdict.the-variants.{Ambiguous as Two-ways, Finite}
 use Rattle.code.specs.declared.Judgement.{Judgement}
 use Rattle.code.specs.declared.Judgement.the-variants.{Judged}
-use Rattle.code.specs.Definitions.Lists.{any, every, table, sum, join}
+use Rattle.code.specs.Definitions.Lists.{any, every, tabulate, sum, join}
 use Rattle.code.specs.Definitions.Bans.{Ban, hasCopy, copiesFrom}
 use Rattle.code.specs.Definitions.BanLists.{decimal, numberOf, isNumber, badBan, banRecords, refused16, bansOf}
 use Rattle.code.specs.Definitions.Enlarged.{plainOf, enlargedCode, refused17}
@@ -61,7 +61,7 @@ codeT = record {
 }
 
 taken-t : taken limits sheetT ≡ record { answer = Accepted; code = codeT }
-unfolding taken takenGrid grid body records fields badBytes codeOf any every table sum
+unfolding taken takenGrid grid body records fields badBytes codeOf any every tabulate sum
 taken-t = refl
 
 from-sheet-t : FromSheet limits codeT
@@ -129,7 +129,7 @@ codeB = record {
 }
 
 taken-b : taken limits sheetB ≡ record { answer = Accepted; code = codeB }
-unfolding taken takenGrid grid body records fields badBytes codeOf any every table sum
+unfolding taken takenGrid grid body records fields badBytes codeOf any every tabulate sum
 taken-b = refl
 
 abbrev bansB : List Ban
@@ -172,7 +172,7 @@ judgementB = Judged (Finite (record { 0 = 3 }))
 -- Without the ban 011 has two readings; with it the code has the delay 3.
 pub right-b : RightFor sheetB listB [] [] [] judgementB
 right-b =
-    let lists : FromLists limits valueB = record { table = codeB; given = record { sheet = sheetB; gives = taken-b }; list = listB; gives = enlarges-b } in
+    let lists : FromLists limits valueB = record { tabulate = codeB; given = record { sheet = sheetB; gives = taken-b }; list = listB; gives = enlarges-b } in
     record {
       given = record { answer = Accepted; enlarged = valueB };
       gives = sheet-accepted (ap (λ (t : Taken). t .answer) taken-b) (rw taken-b enlarges-b);

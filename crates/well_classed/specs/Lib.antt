@@ -1,5 +1,5 @@
 pub mod WellClassed
-pub mod Marks
+pub mod Signs
 pub mod Accepts
 pub mod Formed
 pub mod Given

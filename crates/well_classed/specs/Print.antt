@@ -2,7 +2,7 @@
 use mathlib.Core.List.{List, [], _∷_}
 use Prim.Native.Nat.{ℕ, _/_, _%_}
 use lib.ListN.{length, getD}
-use Rattle.code.specs.Definitions.Lists.{table}
+use Rattle.code.specs.Definitions.Lists.{tabulate}
 use Rattle.code.specs.Definitions.Texts.{classOf}
 use Rattle.csv.specs.Digits.{digitOf}
 use Rattle.csv.specs.Sheets.{sheetOf}
@@ -21,7 +21,7 @@ module _ (c : List ℕ) where
     fieldsAt k = fieldsOf (getD l k 0)
 
     abbrev pub gridOf : List (List (List ℕ))
-    gridOf = table fieldsAt (length l)
+    gridOf = tabulate fieldsAt (length l)
 
     unfoldable pub print : List ℕ
     print = sheetOf gridOf

@@ -11,12 +11,12 @@ use borrow.Author.Tests.{ltb-true, le-ltb, ne-eqb}
 use Rattle.code.specs.declared.Classes.{Classes}
 use Rattle.code.specs.Definitions.Lists.{any}
 use Rattle.code.specs.Definitions.Sheets.{limits}
-use Rattle.code.specs.Definitions.ClassSheets.{takesMark, refused18, upsideDown, refused19, differentBytes, allBytes, takers, refused20, classBy, classesOf, FromClassSheet}
+use Rattle.code.specs.Definitions.ClassSheets.{takesSign, refused18, upsideDown, refused19, differentBytes, allBytes, takers, refused20, classBy, classesOf, FromClassSheet}
 use Rattle.code.specs.Definitions.Texts.{other, classOf, isLetter}
-use Rattle.code.specs.Laws.Lists.{table-list, table-map, any-table}
-use Rattle.text_theory.specs.Marks.{isMark}
+use Rattle.code.specs.Laws.Lists.{tabulate-list, tabulate-map, any-tabulate}
+use Rattle.text_theory.specs.Signs.{isSign}
 use Rattle.well_classed.specs.WellClassed.{WellClassed}
-use Rattle.well_classed.specs.Marks.{marks-no-letters}
+use Rattle.well_classed.specs.Signs.{signs-no-letters}
 use Rattle.well_classed.specs.Accepts.{Accepts, accepted}
 use Rattle.well_classed.specs.Given.{given-well}
 use Rattle.well_classed.specs.Letters.{Letters, listed, letters-few, letter-at}
@@ -25,16 +25,16 @@ use Rattle.well_classed.specs.Print.{print}
 use Rattle.well_classed.specs.Written.{written-some, written-bytes, written-formed, written-grid, written-ranges, written-short}
 
 module _ (c : List ℕ) (w : WellClassed c) where
-  letter-no-mark : (b : ℕ) → isLetter c b ≡ true → isMark b ≡ false
-  letter-no-mark b e = by-mark (isMark b) refl
+  letter-no-sign : (b : ℕ) → isLetter c b ≡ true → isSign b ≡ false
+  letter-no-sign b e = by-sign (isSign b) refl
     where
-      by-mark : (t : Bool) → isMark b ≡ t → t ≡ false
-      by-mark true m = absurd (true≢false (sym e ∙ marks-no-letters w b m))
-      by-mark false m = refl
+      by-sign : (t : Bool) → isSign b ≡ t → t ≡ false
+      by-sign true m = absurd (true≢false (sym e ∙ signs-no-letters w b m))
+      by-sign false m = refl
 
-  takes-no-mark : (b : ℕ) → isLetter c b ≡ true → takesMark (single c b) ≡ false
-  unfolding takesMark
-  takes-no-mark b e = simp (takes-single c b) (letter-no-mark b e)
+  takes-no-sign : (b : ℕ) → isLetter c b ≡ true → takesSign (single c b) ≡ false
+  unfolding takesSign
+  takes-no-sign b e = simp (takes-single c b) (letter-no-sign b e)
 
   -- No letter, no range: then every byte would be `other`.
   some-range : (l : List ℕ) (b : ℕ) → classBy (map (single c) l) b ≡ classOf c b → classOf c b < other → 1 ≤ length l
@@ -51,24 +51,24 @@ module _ (c : List ℕ) (w : WellClassed c) where
 
     -- Refusals 18 to 20 do not hold of the ranges.
 
-    no-marks : any takesMark (map (single c) l) ≡ false
-    no-marks =
-        rw (← table-map (single c) l 0)
-        (any-table takesMark (λ k. single c (getD l k 0)) (length l) (λ k h. takes-no-mark (getD l k 0) (letter-at c letters k h .1)))
+    no-signs : any takesSign (map (single c) l) ≡ false
+    no-signs =
+        rw (← tabulate-map (single c) l 0)
+        (any-tabulate takesSign (λ k. single c (getD l k 0)) (length l) (λ k h. takes-no-sign (getD l k 0) (letter-at c letters k h .1)))
 
     all-upright : refused19 (map (single c) l) ≡ false
     unfolding refused19
     all-upright =
-        rw (← table-map (single c) l 0) (any-table upsideDown (λ k. single c (getD l k 0)) (length l) (λ k h. le-ltb (getD l k 0) (getD l k 0) (omega arith)))
+        rw (← tabulate-map (single c) l 0) (any-tabulate upsideDown (λ k. single c (getD l k 0)) (length l) (λ k h. le-ltb (getD l k 0) (getD l k 0) (omega arith)))
 
     all-once : refused20 (map (single c) l) ≡ false
     unfolding refused20 allBytes
-    all-once = any-table _ (λ b. b) differentBytes (λ b h. le-ltb 1 (takers b (map (single c) l)) (takes b h .most))
+    all-once = any-tabulate _ (λ b. b) differentBytes (λ b h. le-ltb 1 (takers b (map (single c) l)) (takes b h .most))
 
     -- Their classes are the entries.
     same-classes : classesOf (map (single c) l) ≡ record { entries = c }
     unfolding classesOf
-    same-classes = rw (table-list (classBy (map (single c) l)) differentBytes c 0 (w .whole) (λ b h. takes b h .class))
+    same-classes = rw (tabulate-list (classBy (map (single c) l)) differentBytes c 0 (w .whole) (λ b h. takes b h .class))
 
     print-accepted : Accepts limits (print c l) (record { entries = c })
     unfolding refused18
@@ -77,7 +77,7 @@ module _ (c : List ℕ) (w : WellClassed c) where
         let ranges = written-ranges c letters some in
         record {
           size = rw (ne-eqb n 0 (λ e. omega (arith, written-some c l)), le-ltb (limits .classes) n (omega (arith, written-short c letters some, letters-few c letters)));
-          records = rw (written-bytes c letters, written-grid c letters some, written-formed c letters, ranges) no-marks;
+          records = rw (written-bytes c letters, written-grid c letters some, written-formed c letters, ranges) no-signs;
           upright = rw ranges all-upright;
           once = rw ranges all-once;
           gives = rw ranges same-classes;

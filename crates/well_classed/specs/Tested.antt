@@ -1,4 +1,4 @@
--- The tests of the entries and of the marks, joined as the code joins them, say exactly whether the entries are well-classed.
+-- The tests of the entries and of the signs, joined as the code joins them, say exactly whether the entries are well-classed.
 use mathlib.Core.Path.{_≡_, sym, _∙_}
 use mathlib.Core.Bool.{Bool, false, not, _&&_, _||_, true≢false, false≢true}
 use mathlib.Core.List.{List}
@@ -8,7 +8,7 @@ use lib.ListN.{length}
 use borrow.Author.Tests.{not-true, not-false}
 use Rattle.code.specs.Definitions.Lists.{any}
 use Rattle.code.specs.Definitions.ClassSheets.{differentBytes}
-use Rattle.code.specs.Definitions.Texts.{other, classOf, isLetter, marks}
+use Rattle.code.specs.Definitions.Texts.{other, classOf, isLetter, signs}
 use Rattle.code.specs.Laws.Below.{someBelow, Some, some-out, some-in}
 use Rattle.code.specs.Laws.Exactly.{Exactly, exactly-iff, exactly-and}
 use Rattle.well_classed.specs.WellClassed.{WellClassed}
@@ -29,7 +29,7 @@ module _ (c : List ℕ) where
   SmallAt b = classOf c b ≤ other
 
   pub classes-tested : length c ≡ differentBytes → {t : Bool} → Exactly t (((b : ℕ) → b < differentBytes → SmallAt b) × Some (isLetter c) differentBytes)
-      → Exactly (t && not (any (isLetter c) marks)) (WellClassed c)
+      → Exactly (t && not (any (isLetter c) signs)) (WellClassed c)
   classes-tested whole entries =
       exactly-iff ((λ p. record { whole = whole; small = p .0 .0; apart = p .1; letter = p .0 .1 }), (λ w. ((w .small, w .letter), w .apart)))
-      (exactly-and entries (exactly-no (any (isLetter c) marks)))
+      (exactly-and entries (exactly-no (any (isLetter c) signs)))

@@ -6,7 +6,7 @@ use Prim.Native.Nat.{ℕ, _≤_, _<_}
 use lib.ListN.{length}
 use Rattle.code.specs.Definitions.Lists.{any}
 use Rattle.code.specs.Definitions.ClassSheets.{differentBytes}
-use Rattle.code.specs.Definitions.Texts.{other, classOf, isLetter, marks}
+use Rattle.code.specs.Definitions.Texts.{other, classOf, isLetter, signs}
 use Rattle.code.specs.Laws.Below.{Some}
 
 pub record WellClassed (c : List ℕ) : Type 0 where
@@ -14,7 +14,7 @@ pub record WellClassed (c : List ℕ) : Type 0 where
   pub whole : length c ≡ differentBytes
   -- An entry is a symbol, or `other`.
   pub small : (b : ℕ) → b < differentBytes → classOf c b ≤ other
-  -- No mark is a letter.
-  pub apart : any (isLetter c) marks ≡ false
+  -- No sign is a letter.
+  pub apart : any (isLetter c) signs ≡ false
   -- Some byte is a letter.
   pub letter : Some (isLetter c) differentBytes

@@ -7,13 +7,13 @@ use Prim.Native.Nat.{ℕ, _+_, _*_, _/_, _%_, _≤_, _<_}
 use native.Mathlib.Omega.{arith}
 use lib.ListN.{length, getD}
 use borrow.Author.Tests.{ltb-true}
-use Rattle.code.specs.Definitions.Lists.{any, every, table, sum, join}
+use Rattle.code.specs.Definitions.Lists.{any, every, tabulate, sum, join}
 use Rattle.code.specs.Definitions.Sheets.{isDigit, fields, grid, badBytes}
 use Rattle.code.specs.Definitions.ClassSheets.{rangeOf, rangesOf, malformed, differentBytes}
 use Rattle.code.specs.Definitions.Texts.{other, classOf, isLetter}
-use Rattle.code.specs.Laws.Lists.{length-table, table-same, table-map, map-table, any-table, sum-past, sum-bound}
+use Rattle.code.specs.Laws.Lists.{length-tabulate, tabulate-same, tabulate-map, map-tabulate, any-tabulate, sum-past, sum-bound}
 use Rattle.csv.specs.Digits.{digitOf, value-digit, digit-digit}
-use Rattle.csv.specs.Sheets.{recordOf, sheetOf, Digital, digital-table, sheet-bytes, sheet-grid, sheet-some, sheet-length}
+use Rattle.csv.specs.Sheets.{recordOf, sheetOf, Digital, digital-tabulate, sheet-bytes, sheet-grid, sheet-some, sheet-length}
 use Rattle.well_classed.specs.Letters.{Letters, letter-at}
 use Rattle.well_classed.specs.Singles.{single}
 use Rattle.well_classed.specs.Print.{fieldsOf, fieldsAt, gridOf, print}
@@ -50,24 +50,24 @@ module _ (c : List ℕ) where
     at-each P all k h = let at = letter-at c letters k h in all (getD l k 0) (at .0) (at .1)
 
     digital : Digital (gridOf c l)
-    digital = digital-table (fieldsAt c l) (length l) (λ k h. (omega arith, at-each (λ b. every (every isDigit) (fieldsOf c b) ≡ true) fields-digits k h))
+    digital = digital-tabulate (fieldsAt c l) (length l) (λ k h. (omega arith, at-each (λ b. every (every isDigit) (fieldsOf c b) ≡ true) fields-digits k h))
 
     pub written-bytes : badBytes false (print c l) ≡ false
     unfolding print
     written-bytes = sheet-bytes digital
 
     pub written-formed : any malformed (gridOf c l) ≡ false
-    written-formed = any-table malformed (fieldsAt c l) (length l) (at-each (λ b. malformed (fieldsOf c b) ≡ false) fields-formed)
+    written-formed = any-tabulate malformed (fieldsAt c l) (length l) (at-each (λ b. malformed (fieldsOf c b) ≡ false) fields-formed)
 
     ranges-back : map rangeOf (gridOf c l) ≡ map (single c) l
     ranges-back =
-        map-table rangeOf (fieldsAt c l) (length l)
-        ∙ table-same (λ k. rangeOf (fieldsAt c l k)) (λ k. single c (getD l k 0)) (length l) (at-each (λ b. rangeOf (fieldsOf c b) ≡ single c b) fields-range)
-        ∙ table-map (single c) l 0
+        map-tabulate rangeOf (fieldsAt c l) (length l)
+        ∙ tabulate-same (λ k. rangeOf (fieldsAt c l k)) (λ k. single c (getD l k 0)) (length l) (at-each (λ b. rangeOf (fieldsOf c b) ≡ single c b) fields-range)
+        ∙ tabulate-map (single c) l 0
 
     module _ (some : 1 ≤ length l) where
       records-some : 1 ≤ length (gridOf c l)
-      records-some = rw (length-table (fieldsAt c l) (length l)) some
+      records-some = rw (length-tabulate (fieldsAt c l) (length l)) some
 
       pub written-grid : grid (print c l) ≡ gridOf c l
       unfolding print
@@ -79,9 +79,9 @@ module _ (c : List ℕ) where
 
       -- seven bytes for a letter, and a CR LF
       pub written-short : length (print c l) ≤ 9 * length l
-      unfolding print join sum table
+      unfolding print join sum tabulate
       written-short =
           let none : ℕ → ℕ = λ k. 0 in
-          let joined : length (sheetOf (gridOf c l)) ≤ sum (table (λ k. length (recordOf (fieldsAt c l k)) + 2) (length l)) =
-          rw (map-table recordOf (fieldsAt c l) (length l), map-table (λ (r : List ℕ). length r + 2) (λ k. recordOf (fieldsAt c l k)) (length l)) at (sheet-length (gridOf c l) records-some) in
+          let joined : length (sheetOf (gridOf c l)) ≤ sum (tabulate (λ k. length (recordOf (fieldsAt c l k)) + 2) (length l)) =
+          rw (map-tabulate recordOf (fieldsAt c l) (length l), map-tabulate (λ (r : List ℕ). length r + 2) (λ k. recordOf (fieldsAt c l k)) (length l)) at (sheet-length (gridOf c l) records-some) in
           omega (arith, joined, sum-bound (λ k. 9) none 9 (length l) (λ k h. omega arith), sum-past none 0 (length l) (omega arith) (λ k i j. refl))

@@ -9,7 +9,7 @@ ghost use Prim.Native.Nat.{ℕ, _≤_, _<_};
 ghost use Rattle.code.specs.Definitions.Lists.{any};
 ghost use Rattle.code.specs.Definitions.ClassSheets.{differentBytes, FromClassSheet};
 ghost use Rattle.code.specs.Definitions.Sheets.{limits};
-ghost use Rattle.code.specs.Definitions.Texts.{other, classOf, isLetter, marks};
+ghost use Rattle.code.specs.Definitions.Texts.{other, classOf, isLetter, signs};
 ghost use Rattle.code.specs.Laws.Below.{Some};
 ghost use Rattle.code.specs.Laws.Exactly.{Exactly};
 
@@ -30,8 +30,8 @@ fn entries_fit(classes: &[u8; Classes::BYTES]) -> bool
 }
 
 // Whether B7 or a bracket is a letter.
-fn some_mark_letter(classes: &[u8; Classes::BYTES]) -> bool
-    ensures { λ r. ⌜ r ≡ any (isLetter (now (classes .entry))) marks ⌝ }
+fn some_sign_letter(classes: &[u8; Classes::BYTES]) -> bool
+    ensures { λ r. ⌜ r ≡ any (isLetter (now (classes .entry))) signs ⌝ }
 {
     let round = or(is_letter(classes, b'('), is_letter(classes, b')'));
     let square = or(is_letter(classes, b'['), is_letter(classes, b']'));
@@ -42,5 +42,5 @@ pub fn well_classed(classes: Classes) -> bool
     ensures { λ r. ⌜ Exactly r (FromClassSheet limits classes) ⌝ }
 {
     let entries = classes.entries;
-    and(entries_fit(&entries), !some_mark_letter(&entries))
+    and(entries_fit(&entries), !some_sign_letter(&entries))
 }

@@ -13,11 +13,11 @@ use Rattle.code.specs.declared.Word.{Word}
 use Rattle.code.specs.declared.Code.{Code}
 use Rattle.code.specs.declared.Enlarged.{Enlarged}
 use Rattle.code.specs.declared.Limits.{Limits}
-use Rattle.code.specs.Definitions.Lists.{if_then_else_, table, sum}
+use Rattle.code.specs.Definitions.Lists.{if_then_else_, tabulate, sum}
 use Rattle.code.specs.Definitions.Tables.{Table, size, noWord, noRow, entryOf, tableOf}
 use Rattle.code.specs.Definitions.Bans.{Ban, Copy, bannedBy, hasCopy, copyIndex, copiesOf, copyAt, origin, nextWord, unbanned, mayCome, enlarged, bansIn}
 use Rattle.code.specs.Definitions.Enlarged.{enlargedCount, enlargedWord, enlargedEntry, behindOf, enlargedCode, refused17, copiesIn, originalTable}
-use Rattle.code.specs.Laws.Lists.{table-list, table-same, sum-past}
+use Rattle.code.specs.Laws.Lists.{tabulate-list, tabulate-same, sum-past}
 use Rattle.ban_theory.specs.CopyLists.{CopyAt, Once, found, has-copy, origin-word, origin-known}
 use Rattle.ban_theory.specs.Copies.{Serves, comes, may-come, unbanned-word, unbanned-copy}
 use Rattle.ban_theory.specs.BanLists.{Known, known-all, copies-serve}
@@ -188,7 +188,7 @@ module _ {l : Limits} {e : Enlarged} (w : WellEnlarged l e) where
       let none = fits .unused (omega arith) in
       rw (all-numbers (w .numbers), le-ltb x (e .code .count) (omega arith))
       (base-blank w x (omega (arith, w .numbers .most)) h
-      ∙ word-is word (blankWord l .symbols) 0 (table-list (λ p. 0) (l .symbols) (word .symbols) 0 (fits .array) (λ p k. sym (fits .symbols .zero p (omega arith)))) (sym none))
+      ∙ word-is word (blankWord l .symbols) 0 (tabulate-list (λ p. 0) (l .symbols) (word .symbols) 0 (fits .array) (λ p k. sym (fits .symbols .zero p (omega arith)))) (sym none))
 
   word-back : (x : ℕ) → x < l .words → enlargedWord l (baseOf l e) (bansOf e) x ≡ getD (e .code .words) x noWord
   word-back x h = rw copies-back (word-case x h (decLt x (e .code .count)))
@@ -203,13 +203,13 @@ module _ {l : Limits} {e : Enlarged} (w : WellEnlarged l e) where
   same-back =
       let base = baseOf l e in
       let bans = bansOf e in
-      let words = table-list (enlargedWord l base bans) (l .words) (e .code .words) noWord (w .code .words) word-back in
-      let rows = table-list (λ x. record { entries = table (enlargedEntry l base bans x) (l .words) }) (l .words) (e .code .rows) noRow (w .code .rows) (λ x h.
-      row-is (getD (e .code .rows) x noRow) (table (enlargedEntry l base bans x) (l .words))
-      (table-list (enlargedEntry l base bans x) (l .words) (getD (e .code .rows) x noRow .entries) 0 (w .code .row x h .array) (λ y k. entry-back x y h))) in
+      let words = tabulate-list (enlargedWord l base bans) (l .words) (e .code .words) noWord (w .code .words) word-back in
+      let rows = tabulate-list (λ x. record { entries = tabulate (enlargedEntry l base bans x) (l .words) }) (l .words) (e .code .rows) noRow (w .code .rows) (λ x h.
+      row-is (getD (e .code .rows) x noRow) (tabulate (enlargedEntry l base bans x) (l .words))
+      (tabulate-list (enlargedEntry l base bans x) (l .words) (getD (e .code .rows) x noRow .entries) 0 (w .code .row x h .array) (λ y k. entry-back x y h))) in
       let count : enlargedCount l base bans ≡ e .code .count = rw copies-back (all-numbers (w .numbers)) in
-      let origins = table-list (origin (e .originals) (copiesOf bans)) (l .words) (e .origins) 0 (w .numbers .origins) (λ x h. rw copies-back (origin-number (w .numbers) x)) in
-      let behind = table-list (behindOf l base bans) (l .words) (e .behind) 0 (w .numbers .behind) (λ x h. rw copies-back (behind-case x (decLt x (e .originals)))) in
+      let origins = tabulate-list (origin (e .originals) (copiesOf bans)) (l .words) (e .origins) 0 (w .numbers .origins) (λ x h. rw copies-back (origin-number (w .numbers) x)) in
+      let behind = tabulate-list (behindOf l base bans) (l .words) (e .behind) 0 (w .numbers .behind) (λ x h. rw copies-back (behind-case x (decLt x (e .originals)))) in
       value-is e _ _ _ _ (code-is (e .code) _ _ _ _ words rows refl count) refl origins behind
 
   -- The limits
@@ -217,11 +217,11 @@ module _ {l : Limits} {e : Enlarged} (w : WellEnlarged l e) where
   serves-back : Serves (e .originals) (copiesOf (bansOf e)) (bannedBy (bansOf e))
   serves-back = copies-serve (bansOf e) known-back
 
-  lengths-back : map length (enlarged (tableOf (baseOf l e)) (copiesOf (bansOf e)) (bannedBy (bansOf e)) .words) ≡ table (lenOf (e .code)) (e .code .count)
+  lengths-back : map length (enlarged (tableOf (baseOf l e)) (copiesOf (bansOf e)) (bannedBy (bansOf e)) .words) ≡ tabulate (lenOf (e .code)) (e .code .count)
   lengths-back =
       enlarged-lengths (base-given w) serves-back
       ∙ rw (copies-back, all-numbers (w .numbers))
-      (table-same (λ x. lenOf (baseOf l e) (origin (e .originals) (copiesIn e) x)) (lenOf (e .code)) (e .code .count) (λ x h. ap (λ (v : Word). v .len) (origin-same x h)))
+      (tabulate-same (λ x. lenOf (baseOf l e) (origin (e .originals) (copiesIn e) x)) (lenOf (e .code)) (e .code .count) (λ x h. ap (λ (v : Word). v .len) (origin-same x h)))
 
   room-back : refused17 l (baseOf l e) (bansOf e) ≡ false
   room-back =

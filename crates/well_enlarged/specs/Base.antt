@@ -12,18 +12,18 @@ use Rattle.code.specs.declared.Row.{Row}
 use Rattle.code.specs.declared.Code.{Code}
 use Rattle.code.specs.declared.Enlarged.{Enlarged}
 use Rattle.code.specs.declared.Limits.{Limits}
-use Rattle.code.specs.Definitions.Lists.{if_then_else_, table}
+use Rattle.code.specs.Definitions.Lists.{if_then_else_, tabulate}
 use Rattle.code.specs.Definitions.Tables.{noWord, noRow, entryOf, tableOf}
 use Rattle.code.specs.Definitions.Bans.{nextWord}
 use Rattle.code.specs.Definitions.Enlarged.{copiesIn}
-use Rattle.code.specs.Laws.Lists.{length-table, getD-table, sum-bound}
+use Rattle.code.specs.Laws.Lists.{length-tabulate, getD-tabulate, sum-bound}
 use Rattle.code.specs.Laws.WellFormed.{lenOf, WordFits, RowFits, WellFormed}
 use Rattle.well_enlarged.specs.WellEnlarged.{WellEnlarged}
 use Rattle.well_enlarged.specs.Numbers.{next-within}
-use Rattle.well_enlarged.specs.Made.{table-cell}
+use Rattle.well_enlarged.specs.Made.{tabulate-cell}
 
 abbrev pub blankWord : Limits → Word
-blankWord l = record { symbols = table (λ p. 0) (l .symbols); len = 0 }
+blankWord l = record { symbols = tabulate (λ p. 0) (l .symbols); len = 0 }
 
 abbrev pub baseWord : Limits → Enlarged → ℕ → Word
 baseWord l e x = if ltb x (e .originals) then getD (e .code .words) x noWord else blankWord l
@@ -34,8 +34,8 @@ baseEntry e x y = if ltb x (e .originals) && ltb y (e .originals) then entryOf (
 
 abbrev pub baseOf : Limits → Enlarged → Code
 baseOf l e = record {
-  words = table (baseWord l e) (l .words);
-  rows = table (λ x. record { entries = table (baseEntry e x) (l .words) }) (l .words);
+  words = tabulate (baseWord l e) (l .words);
+  rows = tabulate (λ x. record { entries = tabulate (baseEntry e x) (l .words) }) (l .words);
   begins = e .code .begins;
   count = e .originals;
 }
@@ -50,21 +50,21 @@ module _ {l : Limits} {e : Enlarged} (w : WellEnlarged l e) where
 
   -- The words of the table are those of the value.
   pub base-word : (k : ℕ) → k < e .originals → getD (baseOf l e .words) k noWord ≡ getD (e .code .words) k noWord
-  base-word k h = getD-table (baseWord l e) (l .words) k noWord (omega (arith, w .numbers .most, w .numbers .room)) ∙ word-used k h
+  base-word k h = getD-tabulate (baseWord l e) (l .words) k noWord (omega (arith, w .numbers .most, w .numbers .room)) ∙ word-used k h
 
   -- Behind them it is blank.
   pub base-blank : (k : ℕ) → e .originals ≤ k → k < l .words → getD (baseOf l e .words) k noWord ≡ blankWord l
-  base-blank k h i = getD-table (baseWord l e) (l .words) k noWord i ∙ rw (le-ltb k (e .originals) h)
+  base-blank k h i = getD-tabulate (baseWord l e) (l .words) k noWord i ∙ rw (le-ltb k (e .originals) h)
 
   blank-fits : (k : ℕ) → e .originals ≤ k → WordFits l (e .originals) k (blankWord l)
   blank-fits k h = record {
-    array = length-table (λ p. 0) (l .symbols);
+    array = length-tabulate (λ p. 0) (l .symbols);
     some = λ i. absurd (omega arith);
     short = omega arith;
     unused = λ i. refl;
     symbols = record {
-      below = λ p. table-cell (λ v. v < 16) (λ p. 0) (l .symbols) p (λ i. omega arith) (omega arith);
-      zero = λ p i. table-cell (λ v. v ≡ 0) (λ p. 0) (l .symbols) p (λ j. refl) refl;
+      below = λ p. tabulate-cell (λ v. v < 16) (λ p. 0) (l .symbols) p (λ i. omega arith) (omega arith);
+      zero = λ p i. tabulate-cell (λ v. v ≡ 0) (λ p. 0) (l .symbols) p (λ j. refl) refl;
     };
   }
 
@@ -75,14 +75,14 @@ module _ {l : Limits} {e : Enlarged} (w : WellEnlarged l e) where
       record { array = f .array; some = λ j. f .some (omega (arith, w .numbers .most)); short = f .short; unused = λ j. absurd (omega arith); symbols = f .symbols }
   word-fits k h (no i) = rw (base-blank k (omega arith) h) (blank-fits k (omega arith))
 
-  row-fits : (x : ℕ) → RowFits l (e .originals) x (record { entries = table (baseEntry e x) (l .words) })
+  row-fits : (x : ℕ) → RowFits l (e .originals) x (record { entries = tabulate (baseEntry e x) (l .words) })
   row-fits x = record {
-    array = length-table (baseEntry e x) (l .words);
+    array = length-tabulate (baseEntry e x) (l .words);
     entries = record {
-      below = λ y. table-cell (λ v. v < 2) (baseEntry e x) (l .words) y (λ h. entry-case y (decLt x (e .originals))) (omega arith);
-      zero = λ y i. table-cell (λ v. v ≡ 0) (baseEntry e x) (l .words) y (λ h. rw (le-ltb y (e .originals) i, and-false)) refl;
+      below = λ y. tabulate-cell (λ v. v < 2) (baseEntry e x) (l .words) y (λ h. entry-case y (decLt x (e .originals))) (omega arith);
+      zero = λ y i. tabulate-cell (λ v. v ≡ 0) (baseEntry e x) (l .words) y (λ h. rw (le-ltb y (e .originals) i, and-false)) refl;
     };
-    unused = λ i y. table-cell (λ v. v ≡ 0) (baseEntry e x) (l .words) y (λ h. rw (le-ltb x (e .originals) i)) refl;
+    unused = λ i y. tabulate-cell (λ v. v ≡ 0) (baseEntry e x) (l .words) y (λ h. rw (le-ltb x (e .originals) i)) refl;
   }
     where
       entry-case : (y : ℕ) → Dec (x < e .originals) → baseEntry e x y < 2
@@ -91,8 +91,8 @@ module _ {l : Limits} {e : Enlarged} (w : WellEnlarged l e) where
           (w .code .row (nextWord (e .originals) (copiesIn e) y x) (omega (arith, next-within (w .numbers) y x h, w .numbers .room)) .entries .below y)
       entry-case y (no h) = rw (le-ltb x (e .originals) (omega arith)) (omega arith)
 
-  row-base : (x : ℕ) → x < l .words → getD (baseOf l e .rows) x noRow ≡ record { entries = table (baseEntry e x) (l .words) }
-  row-base x h = getD-table (λ x. record { entries = table (baseEntry e x) (l .words) }) (l .words) x noRow h
+  row-base : (x : ℕ) → x < l .words → getD (baseOf l e .rows) x noRow ≡ record { entries = tabulate (baseEntry e x) (l .words) }
+  row-base x h = getD-tabulate (λ x. record { entries = tabulate (baseEntry e x) (l .words) }) (l .words) x noRow h
 
   len-case : (k : ℕ) → k < l .words → Dec (k < e .originals) → lenOf (baseOf l e) k ≤ lenOf (e .code) k + 0
   len-case k h (yes i) = omega (arith, ap (λ (v : Word). v .len) (base-word k i))
@@ -107,8 +107,8 @@ module _ {l : Limits} {e : Enlarged} (w : WellEnlarged l e) where
   base-given = record {
     one = w .numbers .one;
     most = omega (arith, w .numbers .most, w .numbers .room);
-    words = length-table (baseWord l e) (l .words);
-    rows = length-table (λ x. record { entries = table (baseEntry e x) (l .words) }) (l .words);
+    words = length-tabulate (baseWord l e) (l .words);
+    rows = length-tabulate (λ x. record { entries = tabulate (baseEntry e x) (l .words) }) (l .words);
     begins = w .code .begins;
     marks = record { below = w .code .marks .below; zero = λ p h. mark-past p h (decLt p (e .code .count)) };
     word = λ k h. word-fits k h (decLt k (e .originals));
@@ -122,5 +122,5 @@ module _ {l : Limits} {e : Enlarged} (w : WellEnlarged l e) where
   base-follow x y h k =
       let low : e .originals ≤ l .words = omega (arith, w .numbers .most, w .numbers .room) in
       let entry : entryOf (baseOf l e) x y ≡ baseEntry e x y =
-      ap (λ (r : Row). getD (r .entries) y 0) (row-base x (omega arith)) ∙ getD-table (baseEntry e x) (l .words) y 0 (omega arith) in
+      ap (λ (r : Row). getD (r .entries) y 0) (row-base x (omega arith)) ∙ getD-tabulate (baseEntry e x) (l .words) y 0 (omega arith) in
       ap (λ (v : ℕ). eqb v 1) entry ∙ rw (lt-ltb x (e .originals) h, lt-ltb y (e .originals) k)

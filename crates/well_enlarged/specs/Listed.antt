@@ -15,12 +15,12 @@ use Rattle.code.specs.declared.Refusal.{Refusal}
 use Rattle.code.specs.declared.SheetAnswer.the-variants.{Accepted, Refused}
 use Rattle.code.specs.declared.Limits.{Limits}
 use Rattle.code.specs.declared.Code.{Code}
-use Rattle.code.specs.Definitions.Lists.{any, table}
+use Rattle.code.specs.Definitions.Lists.{any, tabulate}
 use Rattle.code.specs.Definitions.Sheets.{limits}
 use Rattle.code.specs.Definitions.BanLists.{refused16, bansOf}
 use Rattle.code.specs.Definitions.Enlarged.{plainOf, refused17}
 use Rattle.code.specs.Definitions.Operations.{Enlarges, refused, enlarged, FromLists}
-use Rattle.code.specs.Laws.Lists.{length-table, getD-table, any-at}
+use Rattle.code.specs.Laws.Lists.{length-tabulate, getD-tabulate, any-at}
 use Rattle.ban_writing.specs.Lists.{print, print-accepted, print-short, bans-back}
 use Rattle.ban_writing.specs.Named.{listed-known, listed-apart}
 use Rattle.code.specs.Laws.Exactly.{Exactly, exactly-iff}
@@ -90,7 +90,7 @@ module _ {l : Limits} {e : Enlarged} where
     to-lists =
         let back = bans-back (bans .base .count) few (bans .bans) (bans .known) in
         record {
-          table = bans .base;
+          tabulate = bans .base;
           given = from-sheet sheets (bans .given);
           list = print (bans .bans);
           gives =
@@ -112,8 +112,8 @@ well-enlarged sheets lists = (to-lists sheets lists, from-lists)
 over : ℕ → Bool
 over k = ltb (limits .bytes) (10 * ((limits .words - k) * k))
 
-none-over : any over (table (λ k. k) (limits .words + 1)) ≡ false
-unfolding over any table
+none-over : any over (tabulate (λ k. k) (limits .words + 1)) ≡ false
+unfolding over any tabulate
 none-over = refl
 
 pub limits-lists : RoomyLists limits
@@ -121,7 +121,7 @@ unfolding over
 limits-lists = record {
   digits = omega arith;
   bytes = λ k h.
-      let below : over k ≡ false = rw (getD-table (λ i. i) (limits .words + 1) k 0 (omega arith)) at (any-at over (table (λ i. i) (limits .words + 1)) 0 none-over k (rw (length-table (λ (i : ℕ). i) (limits .words + 1)) (omega arith))) in
+      let below : over k ≡ false = rw (getD-tabulate (λ i. i) (limits .words + 1) k 0 (omega arith)) at (any-at over (tabulate (λ i. i) (limits .words + 1)) 0 none-over k (rw (length-tabulate (λ (i : ℕ). i) (limits .words + 1)) (omega arith))) in
       ltb-false (limits .bytes) (10 * ((limits .words - k) * k)) below;
 }
 

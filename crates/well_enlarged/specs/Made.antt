@@ -13,12 +13,12 @@ use Rattle.code.specs.declared.Row.{Row}
 use Rattle.code.specs.declared.Code.{Code}
 use Rattle.code.specs.declared.Enlarged.{Enlarged}
 use Rattle.code.specs.declared.Limits.{Limits}
-use Rattle.code.specs.Definitions.Lists.{if_then_else_, table, sum}
+use Rattle.code.specs.Definitions.Lists.{if_then_else_, tabulate, sum}
 use Rattle.code.specs.Definitions.Tables.{noWord, noRow, entryOf, tableOf}
 use Rattle.code.specs.Definitions.Bans.{Ban, Copy, noCopy, bannedBy, copiesOf, copyAt, origin, nextWord, mayCome, enlarged}
 use Rattle.code.specs.Definitions.Enlarged.{enlargedCount, enlargedWord, enlargedEntry, behindOf, enlargedCode, refused17, copiesIn}
 use Rattle.code.specs.Laws.Below.{Some}
-use Rattle.code.specs.Laws.Lists.{or-neither, length-table, getD-table, getD-table-past, table-list, table-same, sum-past}
+use Rattle.code.specs.Laws.Lists.{or-neither, length-tabulate, getD-tabulate, getD-tabulate-past, tabulate-list, tabulate-same, sum-past}
 use Rattle.ban_theory.specs.CopyLists.{origin-word, origin-copy, origin-known, next-of, next-known}
 use Rattle.ban_theory.specs.Copies.{Serves, comes, unbanned-copy}
 use Rattle.ban_theory.specs.BanLists.{Known, banned-known, all-copies, copies-serve}
@@ -31,12 +31,12 @@ use Rattle.well_enlarged.specs.FromBans.{FromBans}
 use Rattle.well_enlarged.specs.Totals.{table-serves, enlarged-lengths}
 
 -- What holds of the numbers of a table, and of 0, holds of whatever is read from it.
-pub table-cell : (P : ℕ → Type 0) (f : ℕ → ℕ) (n p : ℕ) → (p < n → P (f p)) → P 0 → P (getD (table f n) p 0)
-table-cell P f n p here past = go (decLt p n)
+pub tabulate-cell : (P : ℕ → Type 0) (f : ℕ → ℕ) (n p : ℕ) → (p < n → P (f p)) → P 0 → P (getD (tabulate f n) p 0)
+tabulate-cell P f n p here past = go (decLt p n)
   where
-    go : Dec (p < n) → P (getD (table f n) p 0)
-    go (yes h) = subst P (sym (getD-table f n p 0 h)) (here h)
-    go (no h) = subst P (sym (getD-table-past f n p 0 (omega arith))) past
+    go : Dec (p < n) → P (getD (tabulate f n) p 0)
+    go (yes h) = subst P (sym (getD-tabulate f n p 0 h)) (here h)
+    go (no h) = subst P (sym (getD-tabulate-past f n p 0 (omega arith))) past
 
 bit : (m : Bool) → (if m then 1 else 0) < 2
 bit true = omega arith
@@ -61,29 +61,29 @@ module _ {l : Limits} {c : Code} {bs : List Ban} (given : WellFormed l c) (known
 
   word-made : (x : ℕ) → x < l .words → getD (enlargedCode l c bs .code .words) x noWord ≡ enlargedWord l c bs x
   unfolding enlargedCode
-  word-made x h = getD-table (enlargedWord l c bs) (l .words) x noWord h
+  word-made x h = getD-tabulate (enlargedWord l c bs) (l .words) x noWord h
 
   pub word-of : (x : ℕ) → x < enlargedCount l c bs → getD (enlargedCode l c bs .code .words) x noWord ≡ getD (c .words) (origin (c .count) (copiesOf bs) x) noWord
   word-of x h = word-made x (omega (arith, fits)) ∙ rw (lt-ltb x (enlargedCount l c bs) h)
 
-  row-made : (x : ℕ) → x < l .words → getD (enlargedCode l c bs .code .rows) x noRow ≡ record { entries = table (enlargedEntry l c bs x) (l .words) }
+  row-made : (x : ℕ) → x < l .words → getD (enlargedCode l c bs .code .rows) x noRow ≡ record { entries = tabulate (enlargedEntry l c bs x) (l .words) }
   unfolding enlargedCode
-  row-made x h = getD-table (λ x. record { entries = table (enlargedEntry l c bs x) (l .words) }) (l .words) x noRow h
+  row-made x h = getD-tabulate (λ x. record { entries = tabulate (enlargedEntry l c bs x) (l .words) }) (l .words) x noRow h
 
   pub origin-made : (x : ℕ) → x < l .words → getD (enlargedCode l c bs .origins) x 0 ≡ origin (c .count) (copiesOf bs) x
   unfolding enlargedCode
-  origin-made x h = getD-table (origin (c .count) (copiesOf bs)) (l .words) x 0 h
+  origin-made x h = getD-tabulate (origin (c .count) (copiesOf bs)) (l .words) x 0 h
 
   behind-made : (x : ℕ) → x < l .words → getD (enlargedCode l c bs .behind) x 0 ≡ behindOf l c bs x
   unfolding enlargedCode
-  behind-made x h = getD-table (behindOf l c bs) (l .words) x 0 h
+  behind-made x h = getD-tabulate (behindOf l c bs) (l .words) x 0 h
 
   -- A 1 stands where the enlarged code has one.
   pub follow-made : (x y : ℕ) → x < enlargedCount l c bs → y < enlargedCount l c bs
       → tableOf (enlargedCode l c bs .code) .follow x y ≡ mayCome (tableOf c) (copiesOf bs) (bannedBy bs) x y
   follow-made x y h k =
       let entry : entryOf (enlargedCode l c bs .code) x y ≡ enlargedEntry l c bs x y =
-      ap (λ (r : Row). getD (r .entries) y 0) (row-made x (omega (arith, fits))) ∙ getD-table (enlargedEntry l c bs x) (l .words) y 0 (omega (arith, fits)) in
+      ap (λ (r : Row). getD (r .entries) y 0) (row-made x (omega (arith, fits))) ∙ getD-tabulate (enlargedEntry l c bs x) (l .words) y 0 (omega (arith, fits)) in
       ap (λ (v : ℕ). eqb v 1) entry
       ∙ rw (lt-ltb x (enlargedCount l c bs) h, lt-ltb y (enlargedCount l c bs) k) (bit-test (mayCome (tableOf c) (copiesOf bs) (bannedBy bs) x y))
 
@@ -100,7 +100,7 @@ module _ {l : Limits} {c : Code} {bs : List Ban} (given : WellFormed l c) (known
   pub copies-made : copiesIn (enlargedCode l c bs) ≡ copiesOf bs
   unfolding enlargedCode
   copies-made =
-      table-list (copyIn (enlargedCode l c bs)) (enlargedCount l c bs - c .count) (copiesOf bs) noCopy (omega arith) (λ i h. copy-made i (omega arith))
+      tabulate-list (copyIn (enlargedCode l c bs)) (enlargedCount l c bs - c .count) (copiesOf bs) noCopy (omega arith) (λ i h. copy-made i (omega arith))
 
   -- The plain code
 
@@ -114,26 +114,26 @@ module _ {l : Limits} {c : Code} {bs : List Ban} (given : WellFormed l c) (known
       rw (le-ltb k (enlargedCount l c bs) (omega arith))
       record { array = f .array; some = λ j. absurd (omega arith); short = f .short; unused = λ j. f .unused (omega arith); symbols = f .symbols }
 
-  row-fits : (x : ℕ) → RowFits l (enlargedCount l c bs) x (record { entries = table (enlargedEntry l c bs x) (l .words) })
+  row-fits : (x : ℕ) → RowFits l (enlargedCount l c bs) x (record { entries = tabulate (enlargedEntry l c bs x) (l .words) })
   row-fits x = record {
-    array = length-table (enlargedEntry l c bs x) (l .words);
+    array = length-tabulate (enlargedEntry l c bs x) (l .words);
     entries = record {
-      below = λ p. table-cell (λ v. v < 2) (enlargedEntry l c bs x) (l .words) p
+      below = λ p. tabulate-cell (λ v. v < 2) (enlargedEntry l c bs x) (l .words) p
           (λ h. bit (ltb x (enlargedCount l c bs) && (ltb p (enlargedCount l c bs) && mayCome (tableOf c) (copiesOf bs) (bannedBy bs) x p))) (omega arith);
-      zero = λ p i. table-cell (λ v. v ≡ 0) (enlargedEntry l c bs x) (l .words) p (λ h. rw (le-ltb p (enlargedCount l c bs) i, and-false)) refl;
+      zero = λ p i. tabulate-cell (λ v. v ≡ 0) (enlargedEntry l c bs x) (l .words) p (λ h. rw (le-ltb p (enlargedCount l c bs) i, and-false)) refl;
     };
-    unused = λ i p. table-cell (λ v. v ≡ 0) (enlargedEntry l c bs x) (l .words) p (λ h. rw (le-ltb x (enlargedCount l c bs) i)) refl;
+    unused = λ i p. tabulate-cell (λ v. v ≡ 0) (enlargedEntry l c bs x) (l .words) p (λ h. rw (le-ltb x (enlargedCount l c bs) i)) refl;
   }
 
   len-past : (k : ℕ) → enlargedCount l c bs ≤ k → k < l .words → lenOf (enlargedCode l c bs .code) k ≡ 0
   len-past k h i = ap (λ (w : Word). w .len) (word-made k i) ∙ word-fits k i (decLt k (enlargedCount l c bs)) .unused h
 
-  total-fits : sum (table (lenOf (enlargedCode l c bs .code)) (l .words)) ≤ l .total
+  total-fits : sum (tabulate (lenOf (enlargedCode l c bs .code)) (l .words)) ≤ l .total
   total-fits =
       let symbols = sum (map length (enlarged (tableOf c) (copiesOf bs) (bannedBy bs) .words)) in
       let short = ltb-false (l .total) symbols (or-neither (ltb (l .words) (enlargedCount l c bs)) (ltb (l .total) symbols) room .1) in
       let used = sum-past (lenOf (enlargedCode l c bs .code)) (enlargedCount l c bs) (l .words) fits len-past in
-      let same = table-same (lenOf (enlargedCode l c bs .code)) (λ x. lenOf c (origin (c .count) (copiesOf bs) x)) (enlargedCount l c bs) (λ x h. ap (λ (w : Word). w .len) (word-of x h)) in
+      let same = tabulate-same (lenOf (enlargedCode l c bs .code)) (λ x. lenOf c (origin (c .count) (copiesOf bs) x)) (enlargedCount l c bs) (λ x h. ap (λ (w : Word). w .len) (word-of x h)) in
       omega (arith, ap sum same, ap sum (enlarged-lengths given bans-serve))
 
   pub code-made : WellFormed l (enlargedCode l c bs .code)
@@ -141,8 +141,8 @@ module _ {l : Limits} {c : Code} {bs : List Ban} (given : WellFormed l c) (known
   code-made = record {
     one = omega (arith, given .one);
     most = fits;
-    words = length-table (enlargedWord l c bs) (l .words);
-    rows = length-table (λ x. record { entries = table (enlargedEntry l c bs x) (l .words) }) (l .words);
+    words = length-tabulate (enlargedWord l c bs) (l .words);
+    rows = length-tabulate (λ x. record { entries = tabulate (enlargedEntry l c bs x) (l .words) }) (l .words);
     begins = given .begins;
     marks = record { below = given .marks .below; zero = λ p h. given .marks .zero p (omega arith) };
     word = λ k h. rw (word-made k h) (word-fits k h (decLt k (enlargedCount l c bs)));
@@ -218,8 +218,8 @@ module _ {l : Limits} {c : Code} {bs : List Ban} (given : WellFormed l c) (known
       one = given .one;
       most = omega arith;
       room = fits;
-      origins = length-table (origin (c .count) (copiesOf bs)) (l .words);
-      behind = length-table (behindOf l c bs) (l .words);
+      origins = length-tabulate (origin (c .count) (copiesOf bs)) (l .words);
+      behind = length-tabulate (behindOf l c bs) (l .words);
       number = λ x h. rw (origin-made x h, behind-made x h) (number-fits x);
     }
 

@@ -8,7 +8,7 @@ use Rattle.code.specs.declared.Enlarged.{Enlarged}
 use Rattle.code.specs.declared.Limits.{Limits}
 use Rattle.code.specs.Definitions.Bans.{Copy, noCopy, copyAt, origin, nextWord}
 use Rattle.code.specs.Definitions.Enlarged.{copiesIn}
-use Rattle.code.specs.Laws.Lists.{length-table, getD-table, getD-table-past}
+use Rattle.code.specs.Laws.Lists.{length-tabulate, getD-tabulate, getD-tabulate-past}
 use Rattle.ban_theory.specs.CopyLists.{CopyAt, Once, origin-word, origin-copy, next-known}
 use Rattle.well_enlarged.specs.WellEnlarged.{NumberFits, Numbered}
 
@@ -17,10 +17,10 @@ abbrev pub copyIn : Enlarged → ℕ → Copy
 copyIn e i = record { behind = getD (e .behind) (e .originals + i) 0; of = getD (e .origins) (e .originals + i) 0 }
 
 pub count-copies : (e : Enlarged) → length (copiesIn e) ≡ e .code .count - e .originals
-count-copies e = length-table (copyIn e) (e .code .count - e .originals)
+count-copies e = length-tabulate (copyIn e) (e .code .count - e .originals)
 
 pub copy-in : (e : Enlarged) (i : ℕ) → i < length (copiesIn e) → getD (copiesIn e) i noCopy ≡ copyIn e i
-copy-in e i h = getD-table (copyIn e) (e .code .count - e .originals) i noCopy (omega (arith, count-copies e))
+copy-in e i h = getD-tabulate (copyIn e) (e .code .count - e .originals) i noCopy (omega (arith, count-copies e))
 
 module _ {l : Limits} {e : Enlarged} (v : Numbered l e) where
   -- The words and the copies are all there are.
@@ -52,7 +52,7 @@ module _ {l : Limits} {e : Enlarged} (v : Numbered l e) where
       let at : e .originals + (x - e .originals) ≡ x = omega arith in
       copy-in e (x - e .originals) (omega (arith, all-numbers)) ∙ rw at
   copy-case x h (no k) =
-      getD-table-past (copyIn e) (e .code .count - e .originals) (x - e .originals) noCopy (omega arith)
+      getD-tabulate-past (copyIn e) (e .code .count - e .originals) (x - e .originals) noCopy (omega arith)
       ∙ rw (number-at x .of-past (omega arith), number-at x .behind-past (omega arith))
 
   -- The copy that a number past the words is.

@@ -8,12 +8,12 @@ use lib.ListN.{length, drop, set, replicate, length-set, length-replicate}
 use Rattle.code.specs.declared.Code.{Code}
 use Rattle.code.specs.declared.Enlarged.{Enlarged}
 use Rattle.code.specs.declared.Limits.{Limits}
-use Rattle.code.specs.Definitions.Lists.{any, table}
+use Rattle.code.specs.Definitions.Lists.{any, tabulate}
 use Rattle.code.specs.Definitions.Tables.{tableOf}
 use Rattle.code.specs.Definitions.Bans.{hasCopy, origin, standsAfter}
 use Rattle.code.specs.Definitions.Enlarged.{plainOf, copiesIn}
 use Rattle.code.specs.Laws.Filling.{fill-next, fill-rest}
-use Rattle.code.specs.Laws.Lists.{length-table, getD-table}
+use Rattle.code.specs.Laws.Lists.{length-tabulate, getD-tabulate}
 use Rattle.ban_theory.specs.CopyLists.{origin-word, origin-copy, next-stands, next-itself}
 use Rattle.ban_theory.specs.Enlargements.{Fair}
 use Rattle.code.specs.Laws.WellFormed.{WellFormed}
@@ -32,7 +32,7 @@ none-fair n c = record {
 }
 
 pub no-copies : (e : Enlarged) → e .originals ≡ e .code .count → copiesIn e ≡ []
-unfolding table
+unfolding tabulate
 no-copies e h = let none : e .code .count - e .originals ≡ 0 = omega arith in rw none
 
 pub plain-fair : (e : Enlarged) → e .originals ≡ e .code .count → Fair (e .originals) (copiesIn e) (tableOf (e .code) .follow)
@@ -56,9 +56,9 @@ module _ {l : Limits} {c : Code} (given : WellFormed l c) where
     one = given .one;
     most = omega arith;
     room = given .most;
-    origins = length-table (origin (c .count) []) (l .words);
-    behind = length-table (λ x. 0) (l .words);
-    number = λ x h. rw (getD-table (origin (c .count) []) (l .words) x 0 h, getD-table {A = ℕ} (λ x. 0) (l .words) x 0 h) (number-fits x);
+    origins = length-tabulate (origin (c .count) []) (l .words);
+    behind = length-tabulate (λ x. 0) (l .words);
+    number = λ x h. rw (getD-tabulate (origin (c .count) []) (l .words) x 0 h, getD-tabulate {A = ℕ} (λ x. 0) (l .words) x 0 h) (number-fits x);
   }
 
   pub plain-well : WellEnlarged l (plainOf l c)
@@ -66,7 +66,7 @@ module _ {l : Limits} {c : Code} (given : WellFormed l c) where
   plain-well = record {
     code = given;
     numbers = numbers;
-    once = λ y z i j a b. absurd (omega (arith, a .below, length-table (copyIn (plainOf l c)) (c .count - c .count)));
+    once = λ y z i j a b. absurd (omega (arith, a .below, length-tabulate (copyIn (plainOf l c)) (c .count - c .count)));
     copy = λ x h k. absurd (omega arith);
     fair = plain-fair (plainOf l c) refl;
   }
@@ -74,10 +74,10 @@ module _ {l : Limits} {c : Code} (given : WellFormed l c) where
 -- Filling in the origins of a table without copies: the first x of them stand there.
 module _ (l : Limits) (n : ℕ) where
   abbrev pub OwnTo : List ℕ → ℕ → Type 0
-  OwnTo now x = (x ≤ l .words) × (length now ≡ l .words) × (now ≡ table (origin n []) x ++ drop x (replicate (l .words) 0))
+  OwnTo now x = (x ≤ l .words) × (length now ≡ l .words) × (now ≡ tabulate (origin n []) x ++ drop x (replicate (l .words) 0))
 
   pub own-none : OwnTo (replicate (l .words) 0) 0
-  unfolding table
+  unfolding tabulate
   own-none = (omega arith, length-replicate {A = ℕ} (l .words) 0, refl)
 
   pub own-more : {now : List ℕ} {x : ℕ} → OwnTo now x → x < l .words → (v : ℕ) → v ≡ origin n [] x → OwnTo (set now x v) (x + 1)
@@ -85,6 +85,6 @@ module _ (l : Limits) (n : ℕ) where
       let zeros = length-replicate {A = ℕ} (l .words) 0 in
       (omega arith, length-set now x v ∙ own .1, rw (own .2, e) (fill-next (origin n []) (replicate (l .words) 0) x (omega arith)))
 
-  pub own-all : {now : List ℕ} {x : ℕ} → OwnTo now x → l .words ≤ x → now ≡ table (origin n []) (l .words)
+  pub own-all : {now : List ℕ} {x : ℕ} → OwnTo now x → l .words ≤ x → now ≡ tabulate (origin n []) (l .words)
   own-all {now} {x} own h =
       own .2 ∙ fill-rest (origin n []) (replicate (l .words) 0) 0 x (l .words) (length-replicate {A = ℕ} (l .words) 0) (λ k a b. absurd (omega arith)) (own .0)

@@ -16,7 +16,7 @@ use Rattle.code.specs.Definitions.Tables.{noWord, entryOf, tableOf}
 use Rattle.code.specs.Definitions.Bans.{Copy, noCopy, isCopy, hasCopy, copyIndex, copyAt, origin, nextWord}
 use Rattle.code.specs.Definitions.Enlarged.{copiesIn}
 use Rattle.code.specs.Laws.Below.{Some}
-use Rattle.code.specs.Laws.Lists.{length-table, getD-table, any-table}
+use Rattle.code.specs.Laws.Lists.{length-tabulate, getD-tabulate, any-tabulate}
 use Rattle.ban_theory.specs.CopyLists.{CopyAt, Once, has-copy, origin-known, next-copy, next-itself, next-stands, copy-index, stands-next}
 use Rattle.ban_theory.specs.Enlargements.{Fair}
 use Rattle.code.specs.Laws.Exactly.{Exactly, exactly-true, exactly-false, exactly-iff, exactly-and, exactly-not, exactly-same, exactly-lt, exactly-eq}
@@ -109,13 +109,13 @@ module _ (origins behind : List ℕ) (n count y x : ℕ) where
   copy-there : (i : ℕ) → n ≤ i → i < count → getD (copiesAt origins behind n count) (i - n) noCopy ≡ numberOf origins behind i
   copy-there i h k =
       let at : n + (i - n) ≡ i = omega arith in
-      getD-table (λ j. numberOf origins behind (n + j)) (count - n) (i - n) noCopy (omega arith) ∙ rw at
+      getD-tabulate (λ j. numberOf origins behind (n + j)) (count - n) (i - n) noCopy (omega arith) ∙ rw at
 
   pub next-found : (i : ℕ) → n ≤ i → i < count → isCopy y x (numberOf origins behind i) ≡ true → ((k : ℕ) → k < i → Other k)
       → i ≡ nextWord n (copiesAt origins behind n count) y x
   next-found i h k here before =
       let cs = copiesAt origins behind n count in
-      let long = length-table (λ j. numberOf origins behind (n + j)) (count - n) in
+      let long = length-tabulate (λ j. numberOf origins behind (n + j)) (count - n) in
       let at : isCopy y x (getD cs (i - n) noCopy) ≡ true = rw (copy-there i h k) here in
       let index = first-index y x cs (i - n) (omega arith) at (λ j l.
       let back : n + j - n ≡ j = omega arith in
@@ -133,7 +133,7 @@ module _ (origins behind : List ℕ) (n count y x : ℕ) where
   unfolding hasCopy
   next-none before =
       let cs = copiesAt origins behind n count in
-      sym (next-itself n cs y x (any-table (isCopy y x) (λ j. numberOf origins behind (n + j)) (count - n) (λ j l. before (n + j) (omega arith) (omega arith))))
+      sym (next-itself n cs y x (any-tabulate (isCopy y x) (λ j. numberOf origins behind (n + j)) (count - n) (λ j l. before (n + j) (omega arith) (omega arith))))
 
 -- A copy
 

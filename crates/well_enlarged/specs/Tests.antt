@@ -7,7 +7,7 @@ use Rattle.code.specs.declared.Row.{Row}
 use Rattle.code.specs.declared.Code.{Code}
 use Rattle.code.specs.declared.Enlarged.{Enlarged}
 use Rattle.code.specs.declared.Limits.{Limits}
-use Rattle.code.specs.Definitions.Lists.{table}
+use Rattle.code.specs.Definitions.Lists.{tabulate}
 use Rattle.code.specs.Definitions.Tables.{noRow}
 use Rattle.code.specs.Definitions.Bans.{Copy, nextWord}
 use Rattle.code.specs.Definitions.Enlarged.{copiesIn}
@@ -22,7 +22,7 @@ numberOf origins behind x = record { behind = getD behind x 0; of = getD origins
 
 -- the copies from n on, up to the count
 abbrev pub copiesAt : List ℕ → List ℕ → ℕ → ℕ → List Copy
-copiesAt origins behind n count = table (λ i. numberOf origins behind (n + i)) (count - n)
+copiesAt origins behind n count = tabulate (λ i. numberOf origins behind (n + i)) (count - n)
 
 abbrev pub NumbersFit : Limits → ℕ → ℕ → List ℕ → List ℕ → Type 0
 NumbersFit l n count origins behind = (x : ℕ) → x < l .words → NumberFits n count x (getD origins x 0) (getD behind x 0)

@@ -6,10 +6,10 @@ use Prim.Native.Nat.{ℕ, _+_, _<_}
 use lib.ListN.{length, getD, length-map, List·getD-map}
 use Rattle.code.specs.declared.Code.{Code}
 use Rattle.code.specs.declared.Limits.{Limits}
-use Rattle.code.specs.Definitions.Lists.{table}
+use Rattle.code.specs.Definitions.Lists.{tabulate}
 use Rattle.code.specs.Definitions.Tables.{tableOf}
 use Rattle.code.specs.Definitions.Bans.{Copy, origin, enlarged}
-use Rattle.code.specs.Laws.Lists.{table-list}
+use Rattle.code.specs.Laws.Lists.{tabulate-list}
 use Rattle.ban_theory.specs.CopyLists.{origin-known}
 use Rattle.ban_theory.specs.Copies.{Serves, enlarged-size, enlarged-covers}
 use Rattle.code.specs.Laws.WellFormed.{lenOf, WellFormed}
@@ -29,8 +29,8 @@ module _ {l : Limits} {c : Code} (given : WellFormed l c) {cs : List Copy} {b : 
       sym (ap length (enlarged-covers (tableOf c) cs b table-serves .words x (rw enlarged-count h))
       ∙ rw (size-count given) (word-length given (origin (c .count) cs x) (origin-known (c .count) cs (serves .copies) x h)))
 
-  pub enlarged-lengths : map length (enlarged (tableOf c) cs b .words) ≡ table (λ x. lenOf c (origin (c .count) cs x)) (c .count + length cs)
+  pub enlarged-lengths : map length (enlarged (tableOf c) cs b .words) ≡ tabulate (λ x. lenOf c (origin (c .count) cs x)) (c .count + length cs)
   enlarged-lengths =
       let words = enlarged (tableOf c) cs b .words in
-      sym (table-list (λ x. lenOf c (origin (c .count) cs x)) (c .count + length cs) (map length words) 0 (length-map words length ∙ enlarged-count)
+      sym (tabulate-list (λ x. lenOf c (origin (c .count) cs x)) (c .count + length cs) (map length words) 0 (length-map words length ∙ enlarged-count)
       (λ x h. number-length x h ∙ sym (List·getD-map length words x [])))

@@ -12,8 +12,8 @@ use lib.ListN.{length, drop, getD, set, replicate, length-replicate, length-set,
 use borrow.Author.Count.{below-none, below-more}
 use borrow.Author.Tests.{lt-ltb, le-ltb}
 use Rattle.code.specs.declared.Limits.{Limits}
-use Rattle.code.specs.Definitions.Lists.{if_then_else_, table}
-use Rattle.code.specs.Laws.Lists.{getD-table}
+use Rattle.code.specs.Definitions.Lists.{if_then_else_, tabulate}
+use Rattle.code.specs.Laws.Lists.{getD-tabulate}
 use Rattle.code.specs.Laws.Filling.{fill-next, fill-rest}
 use Rattle.code.specs.Laws.WellFormed.{CellsFit}
 
@@ -43,16 +43,16 @@ module _ (v n : ℕ) (d : List ℕ) where
   filledAt p = if ltb p n then v else getD d p 0
 
   abbrev pub filled : List ℕ
-  filled = table filledAt (length d)
+  filled = tabulate filledAt (length d)
 
   -- Filled up to p: from there on, and from n on, it is as before.
   pub record FilledTo (p : ℕ) (m : List ℕ) : Type 0 where
     pub within : p ≤ length d
     pub long : length m ≡ length d
-    pub cells : m ≡ table filledAt (min p n) ++ drop (min p n) d
+    pub cells : m ≡ tabulate filledAt (min p n) ++ drop (min p n) d
 
   pub filled-none : FilledTo 0 d
-  unfolding table
+  unfolding tabulate
   filled-none = record { within = omega arith; long = refl; cells = rw (zero-min n) }
 
   used : (p : ℕ) → p < n → filledAt p ≡ v
@@ -81,7 +81,7 @@ greatest v n size = filled v n (replicate size 0)
 
 module _ (v n size : ℕ) (a : List ℕ) (array : length a ≡ size) where
   cell : (p : ℕ) → p < length a → getD (greatest v n size) p 0 ≡ filledAt v n (replicate size 0) p
-  cell p h = getD-table (filledAt v n (replicate size 0)) (length (replicate size 0)) p 0 (omega (arith, length-replicate {A = ℕ} size 0))
+  cell p h = getD-tabulate (filledAt v n (replicate size 0)) (length (replicate size 0)) p 0 (omega (arith, length-replicate {A = ℕ} size 0))
 
   cell-used : (p : ℕ) → p < length a → p < n → getD (greatest v n size) p 0 ≡ v
   cell-used p h i = cell p h ∙ used v n (replicate size 0) p i

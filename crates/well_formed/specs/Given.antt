@@ -12,10 +12,10 @@ use borrow.Author.Tests.{lt-ltb, ltb-false, eqb-false}
 use Rattle.code.specs.declared.Word.{Word}
 use Rattle.code.specs.declared.Code.{Code}
 use Rattle.code.specs.declared.Limits.{Limits}
-use Rattle.code.specs.Definitions.Lists.{if_then_else_, table, sum}
+use Rattle.code.specs.Definitions.Lists.{if_then_else_, tabulate, sum}
 use Rattle.code.specs.Definitions.Tables.{noWord, noRow}
 use Rattle.code.specs.Definitions.Sheets.{isDigit, valueOf, body, grid, firstField, wordLength, hasStarts, rowPlace, badEntry, badRow, startField, badWord, wordOf, rowOf, beginsOf, codeOf, refused4, FromSheet}
-use Rattle.code.specs.Laws.Lists.{length-table, getD-table, getD-table-past, table-same, table-map, any-at, sum-past, or-neither}
+use Rattle.code.specs.Laws.Lists.{length-tabulate, getD-tabulate, getD-tabulate-past, tabulate-same, tabulate-map, any-at, sum-past, or-neither}
 use Rattle.code.specs.Laws.Clean.{clean-body, records-some}
 use Rattle.code.specs.Laws.Fits.{Fits}
 use Rattle.code.specs.Laws.Records.{entry-byte, place-some, wide-at, begins-past, width, bits}
@@ -24,15 +24,15 @@ use Rattle.well_formed.specs.Accepts.{accepts}
 use Rattle.csv.specs.Digits.{value-symbol, entryValue, first-digits}
 
 -- The cells of a table, from the function that it is made of.
-table-cell : (f : ℕ → ℕ) (m p : ℕ) (P : ℕ → Type 0) → P (f p) → P 0 → Dec (p < m) → P (getD (table f m) p 0)
-table-cell f m p P inside past (yes h) = rw (getD-table f m p 0 h) inside
-table-cell f m p P inside past (no h) = rw (getD-table-past f m p 0 (omega arith)) past
+tabulate-cell : (f : ℕ → ℕ) (m p : ℕ) (P : ℕ → Type 0) → P (f p) → P 0 → Dec (p < m) → P (getD (tabulate f m) p 0)
+tabulate-cell f m p P inside past (yes h) = rw (getD-tabulate f m p 0 h) inside
+tabulate-cell f m p P inside past (no h) = rw (getD-tabulate-past f m p 0 (omega arith)) past
 
 module _ (bound used m : ℕ) (f : ℕ → ℕ) (some : 0 < bound) (below : (p : ℕ) → f p < bound) (zero : (p : ℕ) → used ≤ p → f p ≡ 0) where
-  table-cells : CellsFit bound used (table f m)
-  table-cells = record {
-    below = λ p. table-cell f m p (λ v. v < bound) (below p) some (decLt p m);
-    zero = λ p h. table-cell f m p (λ v. v ≡ 0) (zero p h) refl (decLt p m);
+  tabulate-cells : CellsFit bound used (tabulate f m)
+  tabulate-cells = record {
+    below = λ p. tabulate-cell f m p (λ v. v < bound) (below p) some (decLt p m);
+    zero = λ p h. tabulate-cell f m p (λ v. v ≡ 0) (zero p h) refl (decLt p m);
   }
 
 module _ (l : Limits) (g : List (List (List ℕ))) where
@@ -75,9 +75,9 @@ module _ (l : Limits) (g : List (List (List ℕ))) where
       row-fits =
           let low : (y : ℕ) → entry x y < 2 = λ y. entry-low y (decLt x (length g)) (decLt y (length g)) in
           record {
-            array = length-table (entry x) (l .words);
-            entries = table-cells 2 (length g) (l .words) (entry x) (omega arith) low (λ y h. entry-after y h (decLt x (length g)));
-            unused = λ h y. table-cells 2 0 (l .words) (entry x) (omega arith) low (λ z i. entry-unused h z) .zero y (omega arith);
+            array = length-tabulate (entry x) (l .words);
+            entries = tabulate-cells 2 (length g) (l .words) (entry x) (omega arith) low (λ y h. entry-after y h (decLt x (length g)));
+            unused = λ h y. tabulate-cells 2 0 (l .words) (entry x) (omega arith) low (λ z i. entry-unused h z) .zero y (omega arith);
           }
 
     -- the start marks
@@ -89,8 +89,8 @@ module _ (l : Limits) (g : List (List (List ℕ))) where
         by-starts true e = field-bit x 0 h (omega (arith, wide-at g (length g + 2) x e h))
         by-starts false e = rw (lt-ltb x (length g) h) (omega arith)
 
-    marks-fit : CellsFit 2 (length g) (table (beginsOf l g) (l .words))
-    marks-fit = table-cells 2 (length g) (l .words) (beginsOf l g) (omega arith) (λ x. mark-low x (decLt x (length g))) (begins-past l g)
+    marks-fit : CellsFit 2 (length g) (tabulate (beginsOf l g) (l .words))
+    marks-fit = tabulate-cells 2 (length g) (l .words) (beginsOf l g) (omega arith) (λ x. mark-low x (decLt x (length g))) (begins-past l g)
 
   module _ (words : refused4 l g ≡ false) (digits : (k p : ℕ) → isDigit (getD (firstField (getD g k [])) p 48) ≡ true) (k : ℕ) where
     tests : k < length g → (eqb (wordLength (getD g k [])) 0 ≡ false) × (ltb (l .symbols) (wordLength (getD g k [])) ≡ false)
@@ -108,11 +108,11 @@ module _ (l : Limits) (g : List (List (List ℕ))) where
         let field = firstField (getD g k []) in
         let symbolAt : ℕ → ℕ = λ p. valueOf (getD field p 48) in
         record {
-          array = length-table symbolAt (l .symbols);
+          array = length-tabulate symbolAt (l .symbols);
           some = λ h. some-symbol h (eqb-false (length field) 0 (tests h .0));
           short = len-short (decLt k (length g));
           unused = len-unused;
-          symbols = table-cells 16 (length field) (l .symbols) symbolAt (omega arith) (λ p. value-symbol (getD field p 48) (digits k p))
+          symbols = tabulate-cells 16 (length field) (l .symbols) symbolAt (omega arith) (λ p. value-symbol (getD field p 48) (digits k p))
               (λ p h. ap valueOf (List·getD-eq-default field 48 h));
         }
       where
@@ -121,14 +121,14 @@ module _ (l : Limits) (g : List (List (List ℕ))) where
 
   len-at : (k : ℕ) → k < l .words → lenOf (codeOf l g) k ≡ wordLength (getD g k [])
   unfolding codeOf
-  len-at k h = ap (λ (w : Word). w .len) (getD-table (λ i. wordOf l (firstField (getD g i []))) (l .words) k noWord h)
+  len-at k h = ap (λ (w : Word). w .len) (getD-tabulate (λ i. wordOf l (firstField (getD g i []))) (l .words) k noWord h)
 
   -- The symbols of all words, over the array and over the records.
-  total-given : length g ≤ l .words → sum (table (lenOf (codeOf l g)) (l .words)) ≡ sum (map wordLength g)
+  total-given : length g ≤ l .words → sum (tabulate (lenOf (codeOf l g)) (l .words)) ≡ sum (map wordLength g)
   total-given most =
-      ap sum (table-same (lenOf (codeOf l g)) (λ k. wordLength (getD g k [])) (l .words) len-at)
+      ap sum (tabulate-same (lenOf (codeOf l g)) (λ k. wordLength (getD g k [])) (l .words) len-at)
       ∙ sum-past (λ k. wordLength (getD g k [])) (length g) (l .words) most (λ k h i. ap wordLength (nothing k h))
-      ∙ ap sum (table-map wordLength g [])
+      ∙ ap sum (tabulate-map wordLength g [])
 
   -- The table of records and fields that no refusal holds of.
   given : 1 ≤ length g → ((k p : ℕ) → isDigit (getD (firstField (getD g k [])) p 48) ≡ true) → Fits l g → WellFormed l (codeOf l g)
@@ -138,12 +138,12 @@ module _ (l : Limits) (g : List (List (List ℕ))) where
       record {
         one = some;
         most = most;
-        words = length-table (λ k. wordOf l (firstField (getD g k []))) (l .words);
-        rows = length-table (λ k. rowOf l (rowPlace g) (getD g k [])) (l .words);
-        begins = length-table (beginsOf l g) (l .words);
+        words = length-tabulate (λ k. wordOf l (firstField (getD g k []))) (l .words);
+        rows = length-tabulate (λ k. rowOf l (rowPlace g) (getD g k [])) (l .words);
+        begins = length-tabulate (beginsOf l g) (l .words);
         marks = marks-fit f;
-        word = λ k h. rw (getD-table (λ i. wordOf l (firstField (getD g i []))) (l .words) k noWord h) (word-fits (f .words) digits k);
-        row = λ x h. rw (getD-table (λ i. rowOf l (rowPlace g) (getD g i [])) (l .words) x noRow h) (row-fits f x);
+        word = λ k h. rw (getD-tabulate (λ i. wordOf l (firstField (getD g i []))) (l .words) k noWord h) (word-fits (f .words) digits k);
+        row = λ x h. rw (getD-tabulate (λ i. rowOf l (rowPlace g) (getD g i [])) (l .words) x noRow h) (row-fits f x);
         total = rw (total-given most) (ltb-false (l .total) (sum (map wordLength g)) (f .symbols));
       }
 

@@ -3,7 +3,7 @@ use mathlib.Core.List.{List, [], _∷_, map}
 use Prim.Native.Nat.{ℕ}
 use lib.ListN.{getD}
 use Rattle.code.specs.declared.Code.{Code}
-use Rattle.code.specs.Definitions.Lists.{table}
+use Rattle.code.specs.Definitions.Lists.{tabulate}
 use Rattle.code.specs.Definitions.Tables.{noWord, symbolsOf, entryOf}
 use Rattle.csv.specs.Digits.{digitOf}
 use Rattle.csv.specs.Sheets.{sheetOf}
@@ -20,10 +20,10 @@ module _ (c : Code) where
 
   -- the fields of record x, and of all records
   abbrev pub fieldsOf : ℕ → List (List ℕ)
-  fieldsOf x = wordField x ∷ markField x ∷ table (entryField x) (c .count)
+  fieldsOf x = wordField x ∷ markField x ∷ tabulate (entryField x) (c .count)
 
   abbrev pub gridOf : List (List (List ℕ))
-  gridOf = table fieldsOf (c .count)
+  gridOf = tabulate fieldsOf (c .count)
 
   unfoldable pub print : List ℕ
   print = sheetOf gridOf

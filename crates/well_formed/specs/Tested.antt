@@ -9,7 +9,7 @@ use Rattle.code.specs.declared.Word.{Word}
 use Rattle.code.specs.declared.Row.{Row}
 use Rattle.code.specs.declared.Code.{Code}
 use Rattle.code.specs.declared.Limits.{Limits}
-use Rattle.code.specs.Definitions.Lists.{table, sum}
+use Rattle.code.specs.Definitions.Lists.{tabulate, sum}
 use Rattle.code.specs.Laws.Lists.{sum-more}
 use Rattle.code.specs.Laws.Exactly.{Exactly, exactly-false, exactly-iff, exactly-and, exactly-lt, exactly-le, exactly-eq}
 use Rattle.code.specs.Laws.WellFormed.{lenOf, WordFits, RowFits, RecordAt, WellFormed}
@@ -55,17 +55,17 @@ module _ (l : Limits) (n : ℕ) where
         (exactly-iff (greatest-fit 1 0 (l .words) (r .entries) array) entries)
 
 -- The room that the symbols of the first k words leave of one more than the limit: none is left where they are over the limit.
-module _ (c : Code) (limit k room : ℕ) (left : room ≡ limit + 1 - sum (table (lenOf c) k)) where
-  pub room-more : room - lenOf c k ≡ limit + 1 - sum (table (lenOf c) (k + 1))
+module _ (c : Code) (limit k room : ℕ) (left : room ≡ limit + 1 - sum (tabulate (lenOf c) k)) where
+  pub room-more : room - lenOf c k ≡ limit + 1 - sum (tabulate (lenOf c) (k + 1))
   room-more = omega (arith, sum-more (lenOf c) k)
 
-  pub room-left : Exactly (ltb 0 room) (sum (table (lenOf c) k) ≤ limit)
+  pub room-left : Exactly (ltb 0 room) (sum (tabulate (lenOf c) k) ≤ limit)
   room-left = exactly-iff ((λ h. omega arith), (λ h. omega arith)) (exactly-lt 0 room)
 
 module _ (l : Limits) (c : Code) (words : length (c .words) ≡ l .words) (rows : length (c .rows) ≡ l .words) (begins : length (c .begins) ≡ l .words)
     {m t u : Bool} where
   pub table-tested : Exactly m (AtMost (c .begins) (greatestEntries l (c .count))) → Exactly t ((k : ℕ) → k < l .words → RecordAt l c k)
-      → Exactly u (sum (table (lenOf c) (l .words)) ≤ l .total)
+      → Exactly u (sum (tabulate (lenOf c) (l .words)) ≤ l .total)
       → Exactly (leb 1 (c .count) && leb (c .count) (l .words) && m && (t && u)) (WellFormed l c)
   table-tested marks records total =
       exactly-iff (

@@ -8,7 +8,7 @@ use code::bools::and;
 ghost use mathlib.Core.Path.{_≡_};
 ghost use Prim.Native.Nat.{ℕ, _-_, _≤_, _<_, max};
 ghost use lib.ListN.{length};
-ghost use Rattle.code.specs.Definitions.Lists.{table, sum};
+ghost use Rattle.code.specs.Definitions.Lists.{tabulate, sum};
 ghost use Rattle.code.specs.Definitions.Sheets.{limits, FromSheet};
 ghost use Rattle.code.specs.Laws.Exactly.{Exactly};
 ghost use Rattle.well_formed.specs.AtMost.{AtMost, filled, greatestEntries, greatestSymbols};
@@ -132,7 +132,7 @@ fn records_fit(code: Code, most: &[u8; Code::WORDS]) -> bool
 
 // The words together have at most as many symbols as a code may have. No sum is made, since it could pass the range of a number.
 fn total_fits(code: Code) -> bool
-    ensures { λ r. ⌜ Exactly r (sum (table (lenOf code) (limits .words)) ≤ limits .total) ⌝ }
+    ensures { λ r. ⌜ Exactly r (sum (tabulate (lenOf code) (limits .words)) ≤ limits .total) ⌝ }
 {
     // one more than the symbols that may still come
     let mut room = Code::SYMBOLS + 1;

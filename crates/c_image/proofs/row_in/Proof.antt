@@ -5,7 +5,7 @@ use Prim.Native.Nat.{_-_, _≤_}
 use native.Mathlib.Omega.{arith}
 use lib.ListN.{length, drop, replicate, length-set}
 use borrow.Author.Needs.{needs}
-use Rattle.code.specs.Definitions.Lists.{table as filling}
+use Rattle.code.specs.Definitions.Lists.{tabulate as filling}
 use Rattle.code.specs.Laws.Filling.{fill-next}
 use Rattle.c_image.specs.Image.{byteFrom}
 use Rattle.c_image.specs.Unpacking.{filled}
@@ -13,11 +13,11 @@ use Rattle.c_image.proofs.row_in.Statement.{statement}
 use Rattle.c_image.proofs.row_in.Tie as tie
 
 abbrev Inv-loop : tie.InvT-loop
-Inv-loop table at row₀ y₀ row y =
-    (y ≤ 32) × (length (row .entries) ≡ 32) × (row .entries ≡ filling (byteFrom table at) y ++ drop y (replicate 32 0))
+Inv-loop tabulate at row₀ y₀ row y =
+    (y ≤ 32) × (length (row .entries) ≡ 32) × (row .entries ≡ filling (byteFrom tabulate at) y ++ drop y (replicate 32 0))
 
 abbrev μ-loop : tie.MeasureT-loop
-μ-loop table at row₀ y₀ row y = 32 - y
+μ-loop tabulate at row₀ y₀ row y = 32 - y
 
 loop-holds : tie.Need-loop-holds Inv-loop μ-loop
 unfolding filling

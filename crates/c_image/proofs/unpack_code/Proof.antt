@@ -4,17 +4,17 @@ use Prim.Native.Nat.{_-_}
 use native.Mathlib.Omega.{arith}
 use borrow.Author.Needs.{needs}
 use Rattle.code.specs.declared.Row.{Row}
-use Rattle.code.specs.Definitions.Lists.{table as filling}
+use Rattle.code.specs.Definitions.Lists.{tabulate as filling}
 use Rattle.c_image.specs.Image.{countPlace}
 use Rattle.c_image.specs.Unpacking.{Unpacked, unpacked-next, unpacked-all}
 use Rattle.c_image.proofs.unpack_code.Statement.{statement}
 use Rattle.c_image.proofs.unpack_code.Tie as tie
 
 abbrev Inv-loop : tie.InvT-loop
-Inv-loop table code₀ k₀ code k = Unpacked table code k
+Inv-loop tabulate code₀ k₀ code k = Unpacked tabulate code k
 
 abbrev μ-loop : tie.MeasureT-loop
-μ-loop table code₀ k₀ code k = 32 - k
+μ-loop tabulate code₀ k₀ code k = 32 - k
 
 cast-t16 : tie.Need-cast-t16 Inv-loop μ-loop
 cast-t16 c = omega (arith, c .shared-slice-known2 .given countPlace)

@@ -5,7 +5,7 @@ use Prim.Native.Nat.{_+_, _-_, _≤_}
 use native.Mathlib.Omega.{arith}
 use lib.ListN.{length, drop, replicate, length-set}
 use borrow.Author.Needs.{needs}
-use Rattle.code.specs.Definitions.Lists.{table as filling}
+use Rattle.code.specs.Definitions.Lists.{tabulate as filling}
 use Rattle.code.specs.Laws.Filling.{fill-next}
 use Rattle.c_image.specs.Image.{byteFrom}
 use Rattle.c_image.specs.Unpacking.{filled}
@@ -13,11 +13,11 @@ use Rattle.c_image.proofs.word_in.Statement.{statement}
 use Rattle.c_image.proofs.word_in.Tie as tie
 
 abbrev Inv-loop : tie.InvT-loop
-Inv-loop table at word₀ k₀ word k =
-    (k ≤ 16) × (length (word .symbols) ≡ 16) × (word .symbols ≡ filling (byteFrom table at) k ++ drop k (replicate 16 0)) × (word .len ≡ byteFrom table at 16)
+Inv-loop tabulate at word₀ k₀ word k =
+    (k ≤ 16) × (length (word .symbols) ≡ 16) × (word .symbols ≡ filling (byteFrom tabulate at) k ++ drop k (replicate 16 0)) × (word .len ≡ byteFrom tabulate at 16)
 
 abbrev μ-loop : tie.MeasureT-loop
-μ-loop table at word₀ k₀ word k = 16 - k
+μ-loop tabulate at word₀ k₀ word k = 16 - k
 
 cast-t9 : tie.Need-cast-t9 Inv-loop μ-loop
 cast-t9 c = omega (arith, c .shared-slice-known .given (c .before .args .at + 16))

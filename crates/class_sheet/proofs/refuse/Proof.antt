@@ -1,12 +1,12 @@
 -- The classes are those of no range.
 use mathlib.Core.Path.{refl}
 use Rattle.code.specs.Definitions.ClassSheets.{classBy, classesOf, noLetters}
-use Rattle.code.specs.Definitions.Lists.{table}
+use Rattle.code.specs.Definitions.Lists.{tabulate}
 use Rattle.class_sheet.proofs.refuse.Statement.{statement}
 use Rattle.class_sheet.proofs.refuse.Tie as tie
 
 returns : tie.Need-returns
-unfolding table classBy classesOf noLetters
+unfolding tabulate classBy classesOf noLetters
 returns c = refl
 
 pub refuse-spec : {M : Type 1} → statement M

@@ -3,7 +3,7 @@ use mathlib.Core.Path.{_≡_}
 use Prim.Native.Nat.{_+_, _-_}
 use borrow.Author.Needs.{needs}
 use lib.ListN.{length}
-use Rattle.class_sheet.specs.Passing.{Passed, passing-starts, passing-clean, passing-long, passing-wrong, passing-mark, passing-on, passing-less, passing-ends}
+use Rattle.class_sheet.specs.Passing.{Passed, passing-starts, passing-clean, passing-long, passing-wrong, passing-sign, passing-on, passing-less, passing-ends}
 use Rattle.class_sheet.proofs.take_records.Statement.{statement}
 use Rattle.class_sheet.proofs.take_records.Tie as tie
 
@@ -23,7 +23,7 @@ returns : tie.Need-returns Inv-loop μ-loop
 returns c = search passing-wrong
 
 returns-2 : tie.Need-returns-2 Inv-loop μ-loop
-returns-2 c = search passing-mark
+returns-2 c = search passing-sign
 
 fill-requires : tie.Need-fill-requires Inv-loop μ-loop
 fill-requires c κs = passing-long (c .before .before .before .before .before .before .before .before .before .loop .inv .0)

@@ -12,9 +12,9 @@ use Rattle.code.specs.declared.Refusal.{Refusal}
 use Rattle.code.specs.declared.Refusal.the-variants.{SheetLength, ClassRecord, ClassRange, ClassOverlap}
 use Rattle.code.specs.declared.SheetAnswer.the-variants.{Accepted, Refused}
 use Rattle.code.specs.declared.TakenClasses.{TakenClasses}
-use Rattle.code.specs.Definitions.Lists.{if_then_else_, any, every, table}
+use Rattle.code.specs.Definitions.Lists.{if_then_else_, any, every, tabulate}
 use Rattle.code.specs.Definitions.Sheets.{isDigit, valueOf, grid, badBytes, wrongLength}
-use Rattle.code.specs.Definitions.Texts.{other, marks}
+use Rattle.code.specs.Definitions.Texts.{other, signs}
 
 -- 02, request 5: "records of lowest byte, highest byte (two hexadecimal digits each) and symbol digit"
 pub record Range : Type 0 where
@@ -47,12 +47,12 @@ unfoldable pub malformed : List (List ℕ) → Bool
 malformed r = not (eqb (length r) 3 && digits 2 (getD r 0 []) && digits 2 (getD r 1 []) && digits 1 (getD r 2 []))
 
 -- "one that takes in B7 or a bracket (hexadecimal 28, 29, 5B, 5D)"
-unfoldable pub takesMark : Range → Bool
-takesMark r = any (λ b. takesIn b r) marks
+unfoldable pub takesSign : Range → Bool
+takesSign r = any (λ b. takesIn b r) signs
 
 -- 18: "wrong bytes, a malformed record, or one that takes in B7 or a bracket". Bytes are wrong as in a code sheet.
 unfoldable pub refused18 : List ℕ → Bool
-refused18 s = badBytes false s || any malformed (grid s) || any takesMark (rangesOf s)
+refused18 s = badBytes false s || any malformed (grid s) || any takesSign (rangesOf s)
 
 -- 19: "lowest above highest"
 abbrev pub upsideDown : Range → Bool
@@ -66,7 +66,7 @@ abbrev pub differentBytes : ℕ
 differentBytes = 256
 
 unfoldable pub allBytes : List ℕ
-allBytes = table (λ b. b) differentBytes
+allBytes = tabulate (λ b. b) differentBytes
 
 -- how many ranges take in a byte
 unfoldable pub takers : ℕ → List Range → ℕ
@@ -83,7 +83,7 @@ classBy [] b = other
 classBy (r ∷ g) b = if takesIn b r then r .symbol else classBy g b
 
 unfoldable pub classesOf : List Range → Classes
-classesOf g = record { entries = table (classBy g) differentBytes }
+classesOf g = record { entries = tabulate (classBy g) differentBytes }
 
 -- the classes of a refused sheet: no letter
 unfoldable pub noLetters : Classes

@@ -11,7 +11,7 @@ use Rattle.code.specs.declared.Enlargement.{Enlargement}
 use Rattle.code.specs.declared.Limits.{Limits}
 use Rattle.code.specs.declared.Refusal.the-variants.{BanLimit}
 use Rattle.code.specs.declared.SheetAnswer.the-variants.{Accepted, Refused}
-use Rattle.code.specs.Definitions.Lists.{if_then_else_, table, sum}
+use Rattle.code.specs.Definitions.Lists.{if_then_else_, tabulate, sum}
 use Rattle.code.specs.Definitions.Tables.{Table, noWord, tableOf}
 use Rattle.code.specs.Definitions.Sheets.{blankCode}
 use Rattle.code.specs.Definitions.Bans.{Ban, Copy, bannedBy, copiesOf, copyAt, origin, mayCome, enlarged, tableIn}
@@ -20,7 +20,7 @@ module _ (l : Limits) where
   -- A table without copies: each word stands for itself.
   unfoldable pub plainOf : Code → Enlarged
   unfolding origin
-  plainOf c = record { code = c; originals = c .count; origins = table (origin (c .count) []) (l .words); behind = table (λ x. 0) (l .words) }
+  plainOf c = record { code = c; originals = c .count; origins = tabulate (origin (c .count) []) (l .words); behind = tabulate (λ x. 0) (l .words) }
 
   -- the table of a refused list: no word, and all zero
   unfoldable pub blankEnlarged : Enlarged
@@ -46,14 +46,14 @@ module _ (l : Limits) where
     unfolding origin mayCome bannedBy
     enlargedCode = record {
       code = record {
-        words = table enlargedWord (l .words);
-        rows = table (λ x. record { entries = table (enlargedEntry x) (l .words) }) (l .words);
+        words = tabulate enlargedWord (l .words);
+        rows = tabulate (λ x. record { entries = tabulate (enlargedEntry x) (l .words) }) (l .words);
         begins = c .begins;
         count = enlargedCount;
       };
       originals = c .count;
-      origins = table (origin (c .count) (copiesOf bs)) (l .words);
-      behind = table behindOf (l .words);
+      origins = tabulate (origin (c .count) (copiesOf bs)) (l .words);
+      behind = tabulate behindOf (l .words);
     }
 
     -- 17: "the copies pass the limits on words or symbols"
@@ -66,7 +66,7 @@ module _ (l : Limits) where
 
 -- The copies of a value.
 abbrev pub copiesIn : Enlarged → List Copy
-copiesIn e = table (λ i. record { behind = getD (e .behind) (e .originals + i) 0; of = getD (e .origins) (e .originals + i) 0 }) (e .code .count - e .originals)
+copiesIn e = tabulate (λ i. record { behind = getD (e .behind) (e .originals + i) 0; of = getD (e .origins) (e .originals + i) 0 }) (e .code .count - e .originals)
 
 -- 02, request 2: "the table of original words", with the bans: what a value means.
 abbrev pub originalTable : Enlarged → Table

@@ -39,8 +39,8 @@ abbrev pub syllableBreak : ℕ
 syllableBreak = 183
 
 -- The bytes that are put into a text.
-abbrev pub marks : List ℕ
-marks = syllableBreak ∷ 40 ∷ 41 ∷ 91 ∷ 93 ∷ []
+abbrev pub signs : List ℕ
+signs = syllableBreak ∷ 40 ∷ 41 ∷ 91 ∷ 93 ∷ []
 
 -- The syllables of a word, by their lengths.
 unfoldable pub syllables : List ℕ → List ℕ → List (List ℕ)

@@ -11,7 +11,7 @@ use lib.Seq.{getD-drop}
 use borrow.Author.Tests.{lt-ltb, le-ltb, eq-eqb}
 use Rattle.code.specs.declared.Limits.{Limits}
 use Rattle.code.specs.Definitions.Sheets.{valueOf, allWide, hasStarts, firstField, startField, wordLength, badEntry, badRow, badWord, wordOf, rowOf, beginsOf, codeOf, refused4, refused6, refused7, refused15, takenGrid}
-use Rattle.code.specs.Laws.Lists.{map-at, table-same, any-map, any-none, every-all}
+use Rattle.code.specs.Laws.Lists.{map-at, tabulate-same, any-map, any-none, every-all}
 use Rattle.code.specs.Laws.Records.{wide-at}
 
 -- a record with the field 1 in second place
@@ -73,7 +73,7 @@ module _ (l : Limits) (g : List (List (List ℕ))) (wide : allWide (length g + 1
 
   row-same : (r : List (List ℕ)) → rowOf l 2 (withOne r) ≡ rowOf l 1 r
   row-same r =
-      let same = table-same (λ y. valueOf (getD (getD (withOne r) (y + 2) []) 0 48)) (λ y. valueOf (getD (getD r (y + 1) []) 0 48)) (l .words)
+      let same = tabulate-same (λ y. valueOf (getD (getD (withOne r) (y + 2) []) 0 48)) (λ y. valueOf (getD (getD r (y + 1) []) 0 48)) (l .words)
       (λ y h. ap (λ (f : List ℕ). valueOf (getD f 0 48)) (entry-same r y)) in
       rw same
 
@@ -84,11 +84,11 @@ module _ (l : Limits) (g : List (List (List ℕ))) (wide : allWide (length g + 1
   same-code : codeOf l (withOnes g) ≡ codeOf l g
   unfolding codeOf
   same-code =
-      let words = table-same (λ k. wordOf l (firstField (getD (withOnes g) k []))) (λ k. wordOf l (firstField (getD g k []))) (l .words)
+      let words = tabulate-same (λ k. wordOf l (firstField (getD (withOnes g) k []))) (λ k. wordOf l (firstField (getD g k []))) (l .words)
       (λ k h. by-record (λ r. wordOf l (firstField r)) (λ r. wordOf l (firstField r)) (λ r. refl) refl k (decLt k (length g))) in
-      let rows = table-same (λ k. rowOf l 2 (getD (withOnes g) k [])) (λ k. rowOf l 1 (getD g k [])) (l .words)
+      let rows = tabulate-same (λ k. rowOf l 2 (getD (withOnes g) k [])) (λ k. rowOf l 1 (getD g k [])) (l .words)
       (λ k h. by-record (rowOf l 2) (rowOf l 1) row-same refl k (decLt k (length g))) in
-      let begins = table-same (beginsOf l (withOnes g)) (beginsOf l g) (l .words) (λ k h. begins-same k (decLt k (length g))) in
+      let begins = tabulate-same (beginsOf l (withOnes g)) (beginsOf l g) (l .words) (λ k h. begins-same k (decLt k (length g))) in
       rw (marked, unmarked, words, rows, begins, long)
 
   alike : takenGrid l (withOnes g) ≡ takenGrid l g

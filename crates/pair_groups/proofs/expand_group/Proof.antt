@@ -5,7 +5,7 @@ use mathlib.Core.Path.{_≡_}
 use Prim.Native.Nat.{_+_, _≤_, _-_}
 use lib.ListN.{length}
 use Rattle.pair_places.specs.Flat.{pairCount}
-use Rattle.pair_storage.specs.Entries.{held}
+use Rattle.pair_storage.specs.Entries.{entriesIn}
 use Rattle.pair_storage.specs.Marks.{marks}
 use Rattle.pair_groups.specs.Contracts.{Stands}
 use Rattle.pair_groups.specs.Parts.{goal-again, group-done, group-known, group-within, known-again}
@@ -16,7 +16,7 @@ use Rattle.pair_groups.proofs.expand_group.Tie as tie
 abbrev Inv-loop : tie.InvT-loop
 Inv-loop places work₀ group tail symbol₀ tail₀ work symbol tail'
     =
-    Stands places (marks places work) (held places work) tail' (group .start) (group .end) symbol (group .start) 0 × (pairCount places + 2 ≤ length work)
+    Stands places (marks places work) (entriesIn places work) tail' (group .start) (group .end) symbol (group .start) 0 × (pairCount places + 2 ≤ length work)
     × (group .end ≤ length work)
     × (length work ≡ length work₀)
 

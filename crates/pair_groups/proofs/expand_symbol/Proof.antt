@@ -5,7 +5,7 @@ use mathlib.Core.Path.{_≡_}
 use Prim.Native.Nat.{_+_, _≤_, _-_}
 use lib.ListN.{length}
 use Rattle.pair_places.specs.Flat.{pairCount}
-use Rattle.pair_storage.specs.Entries.{held}
+use Rattle.pair_storage.specs.Entries.{entriesIn}
 use Rattle.pair_storage.specs.Marks.{marks}
 use Rattle.pair_groups.specs.Contracts.{Stands}
 use Rattle.pair_groups.specs.Parts.{was-tail, goal-again, expanding, symbol-end}
@@ -15,7 +15,7 @@ use Rattle.pair_groups.proofs.expand_symbol.Tie as tie
 abbrev Inv-loop : tie.InvT-loop
 Inv-loop places work₀ group symbol tail member₀ tail₀ work member tail'
     =
-    Stands places (marks places work) (held places work) tail' (group .start) (group .end) symbol member 0 × (pairCount places + 2 ≤ length work)
+    Stands places (marks places work) (entriesIn places work) tail' (group .start) (group .end) symbol member 0 × (pairCount places + 2 ≤ length work)
     × (length work ≡ length work₀)
 
 abbrev μ-loop : tie.MeasureT-loop

@@ -2,14 +2,14 @@
 use borrow.Author.Needs.{needs}
 use Prim.Native.Nat.{_-_}
 use Rattle.pair_places.specs.Opens.{openGraph}
-use Rattle.pair_storage.specs.Entries.{held}
+use Rattle.pair_storage.specs.Entries.{entriesIn}
 use Rattle.pair_groups.specs.Carrying.{known-node}
 use Rattle.pair_groups.specs.Runs.{Run, run-one, group-more, group-differs, group-last}
 use Rattle.pair_groups.proofs.group_end.Statement.{statement}
 use Rattle.pair_groups.proofs.group_end.Tie as tie
 
 abbrev Inv-loop : tie.InvT-loop
-Inv-loop places work start tail first end₀ end = Run (openGraph places) (held places work) tail start end
+Inv-loop places work start tail first end₀ end = Run (openGraph places) (entriesIn places work) tail start end
 
 abbrev μ-loop : tie.MeasureT-loop
 μ-loop places work start tail first end₀ end = tail - end

@@ -2,14 +2,14 @@
 -- left of the group.
 use borrow.Author.Needs.{needs}
 use Prim.Native.Nat.{_≤_, _-_}
-use Rattle.pair_storage.specs.Entries.{held}
+use Rattle.pair_storage.specs.Entries.{entriesIn}
 use Rattle.pair_groups.specs.Carrying.{known-high}
 use Rattle.pair_groups.specs.Symbols.{NoneLed, none-led-begin, none-led-more, none-led-end}
 use Rattle.pair_groups.proofs.next_symbol.Statement.{statement}
 use Rattle.pair_groups.proofs.next_symbol.Tie as tie
 
 abbrev Inv-loop : tie.InvT-loop
-Inv-loop places work group symbol least₀ member₀ least member = NoneLed places (held places work) (group .start) member symbol least × (least ≤ 16)
+Inv-loop places work group symbol least₀ member₀ least member = NoneLed places (entriesIn places work) (group .start) member symbol least × (least ≤ 16)
 
 abbrev μ-loop : tie.MeasureT-loop
 μ-loop places work group symbol least₀ member₀ least member = group .end - member

@@ -4,7 +4,7 @@ use mathlib.Core.Path.{_≡_}
 use lib.ListN.{length}
 use Rattle.code.specs.Laws.Cells.{total}
 use Rattle.pair_places.specs.Flat.{pairGraph}
-use Rattle.pair_storage.specs.Entries.{held}
+use Rattle.pair_storage.specs.Entries.{entriesIn}
 use Rattle.pair_storage.specs.Marks.{marks}
 use Rattle.pair_heights.specs.Marks.{left}
 use Rattle.pair_heights.specs.Search.{searching}
@@ -13,7 +13,7 @@ use Rattle.pair_longest.proofs.run.Statement.{statement}
 use Rattle.pair_longest.proofs.run.Tie as tie
 
 abbrev Inv-loop : tie.InvT-loop
-Inv-loop places work₀ root depth₀ work depth = Running places (marks places work) (held places work) root depth × (length work ≡ length work₀)
+Inv-loop places work₀ root depth₀ work depth = Running places (marks places work) (entriesIn places work) root depth × (length work ≡ length work₀)
 
 abbrev μ-loop : tie.MeasureT-loop
 μ-loop places work₀ root depth₀ work depth = total (left (pairGraph places)) (marks places work)

@@ -6,7 +6,7 @@ use Prim.Native.Nat.{_+_, _≤_, _-_}
 use lib.ListN.{length}
 use Rattle.pair_places.specs.Flat.{pairCount}
 use Rattle.pair_places.specs.Opens.{openGraph}
-use Rattle.pair_storage.specs.Entries.{held}
+use Rattle.pair_storage.specs.Entries.{entriesIn}
 use Rattle.pair_storage.specs.Marks.{marks}
 use Rattle.pair_groups.specs.Queue.{Between}
 use Rattle.pair_shortest.specs.Groups.{was-moved, explore-goal, explore-end, explore-less, moved-few}
@@ -16,7 +16,7 @@ use Rattle.pair_shortest.proofs.explore.Tie as tie
 abbrev Inv-loop : tie.InvT-loop
 Inv-loop places work₀ start₀ tail₀ work start tail
     =
-    Between (openGraph places) (marks places work) (held places work) tail start × (pairCount places + 2 ≤ length work) × (tail ≤ pairCount places + 1)
+    Between (openGraph places) (marks places work) (entriesIn places work) tail start × (pairCount places + 2 ≤ length work) × (tail ≤ pairCount places + 1)
     × (length work ≡ length work₀)
 
 abbrev μ-loop : tie.MeasureT-loop

@@ -6,20 +6,20 @@ use Prim.Native.Nat.{_-_, _≤_}
 use native.Mathlib.Omega.{arith}
 use lib.ListN.{length, drop, replicate, length-set}
 use Rattle.code.specs.declared.Row.{Row}
-use Rattle.code.specs.Definitions.Lists.{table}
+use Rattle.code.specs.Definitions.Lists.{tabulate}
 use Rattle.code.specs.Laws.Filling.{fill-next}
 use Rattle.sheet_table.specs.Building.{rowByte, row-symbol, row-filled}
 use Rattle.sheet_table.proofs.read_row.Statement.{statement}
 use Rattle.sheet_table.proofs.read_row.Tie as tie
 
 abbrev Inv-loop : tie.InvT-loop
-Inv-loop s at n row₀ y₀ row y = (y ≤ n) × (length (row .entries) ≡ 32) × (row .entries ≡ table (rowByte s at n) y ++ drop y (replicate 32 0))
+Inv-loop s at n row₀ y₀ row y = (y ≤ n) × (length (row .entries) ≡ 32) × (row .entries ≡ tabulate (rowByte s at n) y ++ drop y (replicate 32 0))
 
 abbrev μ-loop : tie.MeasureT-loop
 μ-loop s at n row₀ y₀ row y = n - y
 
 loop-holds : tie.Need-loop-holds Inv-loop μ-loop
-unfolding table
+unfolding tabulate
 loop-holds c = let e = ap (λ (r : Row). r .entries) (c .blank-row .ensures) in (search needs, ap length e, e)
 
 value-of-requires : tie.Need-value-of-requires Inv-loop μ-loop

@@ -6,33 +6,33 @@ use Prim.Native.Nat.{_-_, _≤_}
 use native.Mathlib.Omega.{arith}
 use lib.ListN.{length, drop, replicate, length-set}
 use Rattle.code.specs.declared.Word.{Word}
-use Rattle.code.specs.Definitions.Lists.{table}
+use Rattle.code.specs.Definitions.Lists.{tabulate}
 use Rattle.code.specs.Laws.Filling.{fill-next}
 use Rattle.csv.specs.Fields.{leading}
-use Rattle.sheet_table.specs.Standing.{symbolOf}
-use Rattle.sheet_table.specs.Building.{word-digit, word-symbol, word-read}
+use Rattle.csv.specs.Symbols.{fieldSymbol, field-digit, field-symbol}
+use Rattle.sheet_table.specs.Building.{word-read}
 use Rattle.sheet_table.proofs.read_word.Statement.{statement}
 use Rattle.sheet_table.proofs.read_word.Tie as tie
 
 abbrev Inv-loop : tie.InvT-loop
-Inv-loop s at e n word₀ k₀ word k = (k ≤ n) × (length (word .symbols) ≡ 16) × (word .symbols ≡ table (symbolOf (leading (drop at s))) k ++ drop k (replicate 16 0)) × (word .len ≡ n)
+Inv-loop s at e n word₀ k₀ word k = (k ≤ n) × (length (word .symbols) ≡ 16) × (word .symbols ≡ tabulate (fieldSymbol (leading (drop at s))) k ++ drop k (replicate 16 0)) × (word .len ≡ n)
 
 abbrev μ-loop : tie.MeasureT-loop
 μ-loop s at e n word₀ k₀ word k = n - k
 
 loop-holds : tie.Need-loop-holds Inv-loop μ-loop
-unfolding table
+unfolding tabulate
 loop-holds c = let e = ap (λ (w : Word). w .symbols) (c .blank-word .ensures) in (search needs, ap length e, e, refl)
 
 value-of-requires : tie.Need-value-of-requires Inv-loop μ-loop
 value-of-requires c κs = let l = c .before .before .loop in let a = c .before .before .before .before .before .args in let p = c .before .before .before .before .before .pre in
-    word-digit (a .s .now) (a .at) (l .k) (omega (arith, p .0))
+    field-digit (a .s .now) (a .at) (l .k) (omega (arith, p .0))
 
 loop-again : tie.Need-loop-again Inv-loop μ-loop
 loop-again c = let l = c .before .before .before .loop in let a = c .before .before .before .before .before .before .args in let p = c .before .before .before .before .before .before .pre in
     let f = leading (drop (a .at) (a .s .now)) in
-    let v = c .value-of .ensures ∙ word-symbol (a .s .now) (a .at) (l .k) (omega (arith, p .0)) in
-    (search needs, simp length-set (l .inv .1), rw (l .inv .2, v) (fill-next (symbolOf f) (replicate 16 0) (l .k) (omega (arith, p .0, p .2))), l .inv .3)
+    let v = c .value-of .ensures ∙ field-symbol (a .s .now) (a .at) (l .k) (omega (arith, p .0)) in
+    (search needs, simp length-set (l .inv .1), rw (l .inv .2, v) (fill-next (fieldSymbol f) (replicate 16 0) (l .k) (omega (arith, p .0, p .2))), l .inv .3)
 
 returns : tie.Need-returns Inv-loop μ-loop
 returns c = let l = c .before .loop in let a = c .before .before .before .before .args in let p = c .before .before .before .before .pre in

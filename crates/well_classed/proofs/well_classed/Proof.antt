@@ -15,7 +15,7 @@ returns c =
     let classes = fits .before .before .before .args .classes in
     -- the type of the parameter says how long its array is
     let whole : length (classes .entries) ≡ differentBytes = search needs in
-    rw (c .and .ensures, c .before .some-mark-letter .ensures) (exactly-iff well-classed (classes-tested (classes .entries) whole (fits .entries-fit .ensures)))
+    rw (c .and .ensures, c .before .some-sign-letter .ensures) (exactly-iff well-classed (classes-tested (classes .entries) whole (fits .entries-fit .ensures)))
 
 pub well-classed-spec : {M : Type 1} → statement M
 well-classed-spec = tie.close (tie.spec (λ c κs. search needs) (λ c κs. search needs) (λ c κs. search needs) returns)

@@ -2,7 +2,7 @@
 use Prim.Native.Nat.{_-_}
 use borrow.Author.Needs.{needs}
 use Rattle.code.specs.Definitions.Enlarged.{plainOf}
-use Rattle.code.specs.Definitions.Lists.{table}
+use Rattle.code.specs.Definitions.Lists.{tabulate}
 use Rattle.code.specs.Definitions.Sheets.{limits}
 use Rattle.well_enlarged.specs.Plain.{OwnTo, own-none, own-more, own-all}
 use Rattle.well_enlarged.proofs.plain.Statement.{statement}
@@ -24,7 +24,7 @@ loop-again : tie.Need-loop-again Inv-loop μ-loop
 loop-again c = own-more limits _ (c .before .before .loop .inv) (search needs) _ (c .own .ensures)
 
 returns : tie.Need-returns Inv-loop μ-loop
-unfolding plainOf table
+unfolding plainOf tabulate
 returns c = rw (own-all limits _ (c .before .loop .inv) (search needs))
 
 pub plain-spec : {M : Type 1} → statement M

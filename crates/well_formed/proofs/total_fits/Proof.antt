@@ -4,20 +4,20 @@ use mathlib.Core.Path.{_≡_, refl, _∙_}
 use Prim.Native.Nat.{_-_, _≤_}
 use native.Mathlib.Omega.{arith}
 use borrow.Author.Needs.{needs}
-use Rattle.code.specs.Definitions.Lists.{table, sum}
+use Rattle.code.specs.Definitions.Lists.{tabulate, sum}
 use Rattle.code.specs.Laws.WellFormed.{lenOf}
 use Rattle.well_formed.specs.Tested.{room-more, room-left}
 use Rattle.well_formed.proofs.total_fits.Statement.{statement}
 use Rattle.well_formed.proofs.total_fits.Tie as tie
 
 abbrev Inv-loop : tie.InvT-loop
-Inv-loop code room₀ k₀ room k = (k ≤ 32) × (room ≡ 129 - sum (table (lenOf code) k))
+Inv-loop code room₀ k₀ room k = (k ≤ 32) × (room ≡ 129 - sum (tabulate (lenOf code) k))
 
 abbrev μ-loop : tie.MeasureT-loop
 μ-loop code room₀ k₀ room k = 32 - k
 
 loop-holds : tie.Need-loop-holds Inv-loop μ-loop
-unfolding table sum
+unfolding tabulate sum
 loop-holds c = (omega arith, refl)
 
 loop-again : tie.Need-loop-again Inv-loop μ-loop

@@ -4,7 +4,7 @@ use mathlib.Core.List.{[], _++_}
 use Prim.Native.Nat.{_-_, _≤_}
 use lib.ListN.{length, drop, replicate, length-set}
 use Rattle.code.specs.Definitions.Bans.{origin}
-use Rattle.code.specs.Definitions.Lists.{table}
+use Rattle.code.specs.Definitions.Lists.{tabulate}
 use Rattle.code.specs.Definitions.Sheets.{limits}
 use Rattle.ban_copies.specs.Adding.{own-next, start}
 use borrow.Author.Needs.{needs}
@@ -12,13 +12,13 @@ use Rattle.ban_copies.proofs.adding.no_copies.Statement.{statement}
 use Rattle.ban_copies.proofs.adding.no_copies.Tie as tie
 
 abbrev Inv-loop : tie.InvT-loop
-Inv-loop n symbols origins₀ x₀ origins x = (x ≤ n) × (length origins ≡ limits .words) × (origins ≡ table (origin n []) x ++ drop x (replicate (limits .words) 0))
+Inv-loop n symbols origins₀ x₀ origins x = (x ≤ n) × (length origins ≡ limits .words) × (origins ≡ tabulate (origin n []) x ++ drop x (replicate (limits .words) 0))
 
 abbrev μ-loop : tie.MeasureT-loop
 μ-loop n symbols origins₀ x₀ origins x = n - x
 
 loop-holds : tie.Need-loop-holds Inv-loop μ-loop
-unfolding table
+unfolding tabulate
 loop-holds c = (search needs, refl, refl)
 
 loop-again : tie.Need-loop-again Inv-loop μ-loop

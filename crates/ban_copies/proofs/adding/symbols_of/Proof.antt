@@ -2,7 +2,7 @@
 use mathlib.Core.Path.{_≡_, refl, sym}
 use Prim.Native.Nat.{_-_, _*_, _≤_}
 use native.Mathlib.Omega.{arith}
-use Rattle.code.specs.Definitions.Lists.{table, sum}
+use Rattle.code.specs.Definitions.Lists.{tabulate, sum}
 use Rattle.code.specs.Definitions.Sheets.{limits}
 use Rattle.code.specs.Laws.Lists.{sum-more}
 use Rattle.code.specs.Laws.WellFormed.{lenOf}
@@ -11,13 +11,13 @@ use Rattle.ban_copies.proofs.adding.symbols_of.Statement.{statement}
 use Rattle.ban_copies.proofs.adding.symbols_of.Tie as tie
 
 abbrev Inv-loop : tie.InvT-loop
-Inv-loop code symbols₀ k₀ symbols k = (k ≤ limits .words) × (symbols ≡ sum (table (lenOf code) k)) × (symbols ≤ limits .symbols * k)
+Inv-loop code symbols₀ k₀ symbols k = (k ≤ limits .words) × (symbols ≡ sum (tabulate (lenOf code) k)) × (symbols ≤ limits .symbols * k)
 
 abbrev μ-loop : tie.MeasureT-loop
 μ-loop code symbols₀ k₀ symbols k = limits .words - k
 
 loop-holds : tie.Need-loop-holds Inv-loop μ-loop
-unfolding table sum
+unfolding tabulate sum
 loop-holds c = (search needs, refl, search needs)
 
 add-symbols : tie.Need-add-symbols Inv-loop μ-loop

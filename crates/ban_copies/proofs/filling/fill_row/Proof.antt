@@ -4,7 +4,7 @@ use mathlib.Core.List.{_++_}
 use Prim.Native.Nat.{_-_, _≤_}
 use native.Mathlib.Omega.{arith}
 use lib.ListN.{length, drop, replicate, length-set}
-use Rattle.code.specs.Definitions.Lists.{table}
+use Rattle.code.specs.Definitions.Lists.{tabulate}
 use Rattle.code.specs.Definitions.Sheets.{limits}
 use Rattle.code.specs.Laws.Filling.{fill-next}
 use Rattle.ban_theory.specs.Triples.{bansFrom}
@@ -15,13 +15,13 @@ use Rattle.ban_copies.proofs.filling.fill_row.Statement.{statement}
 use Rattle.ban_copies.proofs.filling.fill_row.Tie as tie
 
 abbrev Inv-loop : tie.InvT-loop
-Inv-loop row copies numbers bans x count filled₀ y₀ filled y = (y ≤ count) × (length (filled .entries) ≡ limits .words) × (filled .entries ≡ table (entryBy (row .entries) (copies .originals) (bansFrom numbers bans) x) y ++ drop y (replicate (limits .words) 0))
+Inv-loop row copies numbers bans x count filled₀ y₀ filled y = (y ≤ count) × (length (filled .entries) ≡ limits .words) × (filled .entries ≡ tabulate (entryBy (row .entries) (copies .originals) (bansFrom numbers bans) x) y ++ drop y (replicate (limits .words) 0))
 
 abbrev μ-loop : tie.MeasureT-loop
 μ-loop row copies numbers bans x count filled₀ y₀ filled y = count - y
 
 loop-holds : tie.Need-loop-holds Inv-loop μ-loop
-unfolding table
+unfolding tabulate
 loop-holds c = (search needs, refl, refl)
 
 may-come-requires : tie.Need-may-come-requires Inv-loop μ-loop

@@ -5,7 +5,7 @@ use mathlib.Core.Path.{_≡_}
 use Prim.Native.Nat.{_-_}
 use lib.ListN.{length}
 use Rattle.pair_places.specs.Flat.{cell}
-use Rattle.pair_storage.specs.Entries.{nodeAt, held}
+use Rattle.pair_storage.specs.Entries.{nodeAt, entriesIn}
 use Rattle.pair_storage.specs.Marks.{marks}
 use Rattle.pair_groups.specs.Contracts.{Expanding}
 use Rattle.pair_groups.specs.Parts.{space}
@@ -18,7 +18,7 @@ abbrev Inv-loop : tie.InvT-loop
 Inv-loop places work₀ group symbol member pair tail end slot₀ tail₀ work slot tail'
     =
     Expanding places (marks places work) work tail' (group .start) (group .end) symbol member slot
-    × (nodeAt (held places work) member ≡ cell places (pair .low) (pair .high))
+    × (nodeAt (entriesIn places work) member ≡ cell places (pair .low) (pair .high))
     × (length work ≡ length work₀)
 
 abbrev μ-loop : tie.MeasureT-loop

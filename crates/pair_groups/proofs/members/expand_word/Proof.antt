@@ -5,7 +5,7 @@ use mathlib.Core.Path.{_≡_}
 use Prim.Native.Nat.{_+_, _*_, _-_, _≤_}
 use lib.ListN.{length}
 use Rattle.code.specs.Definitions.Sheets.{limits}
-use Rattle.pair_storage.specs.Entries.{nodeAt, held}
+use Rattle.pair_storage.specs.Entries.{nodeAt, entriesIn}
 use Rattle.pair_storage.specs.Marks.{marks}
 use Rattle.pair_slots.specs.Contracts.{Turned}
 use Rattle.pair_slots.specs.Words.{leastBehind}
@@ -20,7 +20,7 @@ abbrev Inv-loop : tie.InvT-loop
 Inv-loop places work₀ group symbol member y x tail n z₀ tail₀ work z tail'
     =
     Expanding places (marks places work) work tail' (group .start) (group .end) symbol member (x * limits .words + z)
-    × Turned places (nodeAt (held places work) member) y
+    × Turned places (nodeAt (entriesIn places work) member) y
     × (leastBehind places x ≤ z)
     × (z ≤ limits .words)
     × (length work ≡ length work₀)

@@ -5,7 +5,7 @@ use mathlib.Core.Path.{_≡_}
 use Prim.Native.Nat.{_*_, _-_}
 use lib.ListN.{length}
 use Rattle.code.specs.Definitions.Sheets.{limits}
-use Rattle.pair_storage.specs.Entries.{nodeAt, held}
+use Rattle.pair_storage.specs.Entries.{nodeAt, entriesIn}
 use Rattle.pair_storage.specs.Marks.{marks}
 use Rattle.pair_slots.specs.Contracts.{Turned}
 use Rattle.pair_groups.specs.Contracts.{Expanding}
@@ -18,7 +18,7 @@ abbrev Inv-loop : tie.InvT-loop
 Inv-loop places work₀ group symbol member y tail n x₀ tail₀ work x tail'
     =
     Expanding places (marks places work) work tail' (group .start) (group .end) symbol member (x * limits .words)
-    × Turned places (nodeAt (held places work) member) y
+    × Turned places (nodeAt (entriesIn places work) member) y
     × (length work ≡ length work₀)
 
 abbrev μ-loop : tie.MeasureT-loop

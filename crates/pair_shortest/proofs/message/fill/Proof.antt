@@ -4,7 +4,7 @@ use borrow.Author.Needs.{needs}
 use mathlib.Core.Path.{_≡_}
 use lib.ListN.{length}
 use Rattle.pair_places.specs.Opens.{openGraph}
-use Rattle.pair_storage.specs.Entries.{held}
+use Rattle.pair_storage.specs.Entries.{entriesIn}
 use Rattle.pair_shortest.specs.Spelling.{Filled, fill-begin, fill-some, fill-end}
 use Rattle.pair_shortest.specs.Writing.{fill-within, fill-place, link-from, link-falls, fill-store}
 use Rattle.pair_shortest.proofs.message.fill.Statement.{statement}
@@ -13,7 +13,7 @@ use Rattle.pair_shortest.proofs.message.fill.Tie as tie
 abbrev Inv-loop : tie.InvT-loop
 Inv-loop places work message₀ start count index₀ at₀ message index at
     =
-    Filled (openGraph places) (held places work) start count message₀ index at message × (length message ≡ length message₀)
+    Filled (openGraph places) (entriesIn places work) start count message₀ index at message × (length message ≡ length message₀)
 
 abbrev μ-loop : tie.MeasureT-loop
 μ-loop places work message₀ start count index₀ at₀ message index at = index

@@ -1,4 +1,4 @@
--- What a test says of no mark it does not say of one of them: so no mark is a letter of well-classed entries.
+-- What a test says of no sign it does not say of one of them: so no sign is a letter of well-classed entries.
 use mathlib.Core.Path.{_≡_, refl}
 use mathlib.Core.Bool.{Bool, true, false, false≢true}
 use mathlib.Core.List.{List, [], _∷_}
@@ -6,9 +6,9 @@ use Prim.Native.Nat.{ℕ}
 use lib.Dec.{eqb}
 use borrow.Author.Tests.{eqb-true}
 use Rattle.code.specs.Definitions.Lists.{any}
-use Rattle.code.specs.Definitions.Texts.{isLetter, marks}
+use Rattle.code.specs.Definitions.Texts.{isLetter, signs}
 use Rattle.code.specs.Laws.Lists.{or-neither}
-use Rattle.text_theory.specs.Marks.{isMark}
+use Rattle.text_theory.specs.Signs.{isSign}
 use Rattle.well_classed.specs.WellClassed.{WellClassed}
 
 module _ (p : ℕ → Bool) (b : ℕ) where
@@ -23,5 +23,5 @@ module _ (p : ℕ → Bool) (b : ℕ) where
       let parts = or-neither (p a) (any p l) e in
       here-or-later a (eqb b a) refl (parts .0) (λ q. none-of l (parts .1) (rw q at m))
 
-pub marks-no-letters : {c : List ℕ} → WellClassed c → (b : ℕ) → isMark b ≡ true → isLetter c b ≡ false
-marks-no-letters {c} w b = none-of (isLetter c) b marks (w .apart)
+pub signs-no-letters : {c : List ℕ} → WellClassed c → (b : ℕ) → isSign b ≡ true → isLetter c b ≡ false
+signs-no-letters {c} w b = none-of (isLetter c) b signs (w .apart)

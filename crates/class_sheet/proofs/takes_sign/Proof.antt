@@ -1,9 +1,9 @@
--- The five tests are joined as `any` joins them (`marks-tested`).
+-- The five tests are joined as `any` joins them (`signs-tested`).
 use borrow.Author.Needs.{needs}
 use Rattle.class_sheet.specs.Filling.{fromTo}
-use Rattle.class_sheet.specs.Marks.{marks-tested}
-use Rattle.class_sheet.proofs.takes_mark.Statement.{statement}
-use Rattle.class_sheet.proofs.takes_mark.Tie as tie
+use Rattle.class_sheet.specs.Signs.{signs-tested}
+use Rattle.class_sheet.proofs.takes_sign.Statement.{statement}
+use Rattle.class_sheet.proofs.takes_sign.Tie as tie
 
 returns : tie.Need-returns
 returns c =
@@ -21,10 +21,10 @@ returns c =
       round .before .takes-in2 .ensures,
       round .before .before .takes-in .ensures,
     )
-    (marks-tested (fromTo (a .lowest) (a .highest)))
+    (signs-tested (fromTo (a .lowest) (a .highest)))
 
-pub takes-mark-spec : {M : Type 1} → statement M
-takes-mark-spec =
+pub takes-sign-spec : {M : Type 1} → statement M
+takes-sign-spec =
     tie.close
     (tie.spec
     (λ c κs. search needs)

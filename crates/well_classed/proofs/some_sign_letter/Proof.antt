@@ -1,9 +1,9 @@
--- `some_mark_letter` looks at each of the marks.
+-- `some_sign_letter` looks at each of the signs.
 use borrow.Author.Needs.{needs}
 use Rattle.code.specs.Definitions.Texts.{isLetter}
-use Rattle.class_sheet.specs.Marks.{marks-tested}
-use Rattle.well_classed.proofs.some_mark_letter.Statement.{statement}
-use Rattle.well_classed.proofs.some_mark_letter.Tie as tie
+use Rattle.class_sheet.specs.Signs.{signs-tested}
+use Rattle.well_classed.proofs.some_sign_letter.Statement.{statement}
+use Rattle.well_classed.proofs.some_sign_letter.Tie as tie
 
 returns : tie.Need-returns
 returns c =
@@ -20,10 +20,10 @@ returns c =
       round .before .is-letter2 .ensures,
       round .before .before .is-letter .ensures,
     )
-    (marks-tested (isLetter (round .before .before .before .args .classes .now)))
+    (signs-tested (isLetter (round .before .before .before .args .classes .now)))
 
-pub some-mark-letter-spec : {M : Type 1} → statement M
-some-mark-letter-spec =
+pub some-sign-letter-spec : {M : Type 1} → statement M
+some-sign-letter-spec =
     tie.close
     (tie.spec
     (λ c κs. search needs)
