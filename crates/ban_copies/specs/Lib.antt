@@ -3,5 +3,3 @@ pub mod Held
 pub mod Symbols
 pub mod Adding
 pub mod Coming
-pub mod Filling
-pub mod Answers

@@ -1,2 +1,1 @@
-pub mod Without
 pub mod Ways

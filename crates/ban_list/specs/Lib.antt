@@ -1,5 +1,3 @@
 pub mod Numbers
-pub mod Storing
 pub mod Contracts
 pub mod BanRecords
-pub mod Passing

@@ -22,7 +22,7 @@ use Rattle.code.specs.Definitions.Operations.{Enlarges, enlarged as accepted, F
 use Rattle.code.specs.Laws.Lists.{tabulate-list, tabulate-same, sum-past}
 use Rattle.ban_theory.specs.CopyLists.{origin-word}
 use Rattle.ban_theory.specs.BanLists.{no-ban, copies-serve}
-use Rattle.well_enlarged.specs.Plain.{none-stand}
+use Rattle.well_enlarged.proofs.Laws.Plain.{none-stand}
 use Rattle.well_enlarged.specs.Totals.{enlarged-lengths}
 use Rattle.well_formed.specs.Given.{well}
 use Rattle.code.specs.Laws.WellFormed.{lenOf, WellFormed}

@@ -22,7 +22,7 @@ use Rattle.well_enlarged.specs.FromBans.{FromBans}
 use Rattle.well_enlarged.specs.Made.{from-bans}
 use Rattle.well_enlarged.specs.Back.{original-size}
 use Rattle.well_enlarged.specs.Meaning.{Covers, value-covers, bans-covers, bans-permitted}
-use Rattle.well_enlarged.specs.Plain.{no-copies}
+use Rattle.well_enlarged.proofs.Laws.Plain.{no-copies}
 use Rattle.well_enlarged.specs.Listed.{given-by, accepted-never}
 use Rattle.well_formed.specs.Given.{well}
 use Rattle.code.specs.Laws.WellFormed.{WellFormed}

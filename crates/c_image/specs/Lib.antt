@@ -2,4 +2,3 @@ pub mod Image
 pub mod Blocks
 pub mod Packing
 pub mod RoundTrip
-pub mod Unpacking

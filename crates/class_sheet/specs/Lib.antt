@@ -1,7 +1,2 @@
-pub mod Signs
 pub mod Filling
 pub mod Records
-pub mod Counting
-pub mod Sofar
-pub mod Passing
-pub mod Taking

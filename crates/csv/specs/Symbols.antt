@@ -13,8 +13,8 @@ use Rattle.csv.specs.Fields.{leading, leading-at}
 abbrev pub fieldSymbol : List ℕ → ℕ → ℕ
 fieldSymbol f k = valueOf (getD f k 48)
 
-pub field-digit : (s : List ℕ) (at k : ℕ) → k < length (leading (drop at s)) → isDigit (getD s (at + k) 0) ≡ true
-field-digit s at k h = rw (← getD-drop at s k 0) (leading-at (drop at s) k 0 h .1)
+pub leading-digit : (s : List ℕ) (at k : ℕ) → k < length (leading (drop at s)) → isDigit (getD s (at + k) 0) ≡ true
+leading-digit s at k h = rw (← getD-drop at s k 0) (leading-at (drop at s) k 0 h .1)
 
-pub field-symbol : (s : List ℕ) (at k : ℕ) → k < length (leading (drop at s)) → valueOf (getD s (at + k) 0) ≡ fieldSymbol (leading (drop at s)) k
-field-symbol s at k h = ap valueOf (sym (getD-drop at s k 0) ∙ leading-at (drop at s) k 0 h .0 ∙ getD-within (leading (drop at s)) k 0 48 h)
+pub leading-symbol : (s : List ℕ) (at k : ℕ) → k < length (leading (drop at s)) → valueOf (getD s (at + k) 0) ≡ fieldSymbol (leading (drop at s)) k
+leading-symbol s at k h = ap valueOf (sym (getD-drop at s k 0) ∙ leading-at (drop at s) k 0 h .0 ∙ getD-within (leading (drop at s)) k 0 48 h)

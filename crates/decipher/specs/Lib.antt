@@ -3,6 +3,5 @@ pub mod Buffers
 pub mod Lengths
 pub mod Found
 pub mod Decided
-pub mod Ways
 pub mod Kinds
 pub mod Shown

@@ -1,3 +1,2 @@
 pub mod Originals
 pub mod Permitted
-pub mod Walk

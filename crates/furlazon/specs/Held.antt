@@ -16,7 +16,7 @@ use Rattle.code.specs.Definitions.Lists.{tabulate}
 use Rattle.code.specs.Definitions.Operations.{Enlarges, FromLists}
 use Rattle.code.specs.Definitions.Sheets.{limits, taken}
 use Rattle.c_results.specs.Given.{Answered, classesIn}
-use Rattle.c_results.specs.Held.{given, classes-there}
+use Rattle.c_results.proofs.Laws.Held.{given, classes-there}
 use Rattle.c_image.specs.Image.{imageLength, imageOf, Packable, enlargedIn}
 use Rattle.c_image.specs.RoundTrip.{image-holds}
 use Rattle.turkish_letters.specs.Letters.{turkishClasses}
@@ -47,7 +47,7 @@ list-held (EnlargeCall.answered h g call) = let d = held call (list-packs g) in 
 pub both-held : (s : List ℕ) {t b u d d′ : List ℕ} → TakesIn s b t 0 → EnlargeCall t u d d′ 0 → FromLists limits (enlargedIn d′)
 both-held s {u = u} first second =
     let a = sheet-held s first in
-    record { tabulate = taken limits s .code; given = record { sheet = s; gives = rw (a .0) }; list = u; gives = rw (a .1) at (list-held second) }
+    record { table = taken limits s .code; given = record { sheet = s; gives = rw (a .0) }; list = u; gives = rw (a .1) at (list-held second) }
 
 -- Classes that a class sheet leaves are not refused 8 either.
 pub classes-held : (s : List ℕ) {b b′ : List ℕ} → ClassesCall s b b′ 0 → takenClasses limits s ≡ record { answer = Accepted; classes = classesIn b′ }

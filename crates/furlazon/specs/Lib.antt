@@ -1,4 +1,3 @@
 pub mod Calls
-pub mod Ways
 pub mod Packs
 pub mod Held

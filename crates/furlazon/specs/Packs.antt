@@ -14,7 +14,7 @@ use Rattle.code.specs.Definitions.Enlarged.{plainOf}
 use Rattle.code.specs.Definitions.Operations.{WithoutCopies, Enlarges, refused, enlarged}
 use Rattle.code.specs.Definitions.Sheets.{limits, taken}
 use Rattle.well_enlarged.specs.WellEnlarged.{WellEnlarged}
-use Rattle.well_enlarged.specs.Plain.{plain-well}
+use Rattle.well_enlarged.proofs.Laws.Plain.{plain-well}
 use Rattle.well_enlarged.specs.Listed.{from-lists}
 use Rattle.c_image.specs.Image.{Packable}
 use Rattle.well_formed.specs.Given.{well}

@@ -1,7 +1,6 @@
 pub mod Backward
 pub mod Carrying
 pub mod Contracts
-pub mod Frontier
 pub mod Labels
 pub mod Links
 pub mod Pairs
@@ -9,10 +8,6 @@ pub mod Parts
 pub mod Push
 pub mod Queue
 pub mod Room
-pub mod Runs
 pub mod Slots
-pub mod Steps
-pub mod Straights
 pub mod Symbols
 pub mod Turns
-pub mod Words

@@ -9,4 +9,3 @@ pub mod Search
 pub mod Pass
 pub mod Follow
 pub mod Pop
-pub mod Advance

@@ -1,4 +1,3 @@
-pub mod Arrivals
 pub mod Contracts
 pub mod Leaves
 pub mod Widths

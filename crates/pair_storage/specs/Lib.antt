@@ -3,6 +3,4 @@ pub mod Entries
 pub mod Marks
 pub mod Stores
 pub mod Rooms
-pub mod Laying
-pub mod Bounds
 pub mod Cleared

@@ -1,9 +1,3 @@
 pub mod Printed
-pub mod Decimals
-pub mod Starts
-pub mod Numbers
-pub mod Lengths
 pub mod Prints
-pub mod Rooms
-pub mod Results
 pub mod Examples

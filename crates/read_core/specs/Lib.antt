@@ -1,4 +1,3 @@
 pub mod Readings
 pub mod Core
 pub mod Counts
-pub mod Parts

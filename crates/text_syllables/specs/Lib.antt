@@ -1,4 +1,3 @@
 pub mod Lengths
 pub mod Words
-pub mod Turns
 pub mod Shown

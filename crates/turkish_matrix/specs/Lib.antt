@@ -1,5 +1,2 @@
 pub mod Printed
-pub mod Printing
 pub mod Rules
-pub mod Rows
-pub mod Lines

@@ -172,7 +172,7 @@ judgementB = Judged (Finite (record { 0 = 3 }))
 -- Without the ban 011 has two readings; with it the code has the delay 3.
 pub right-b : RightFor sheetB listB [] [] [] judgementB
 right-b =
-    let lists : FromLists limits valueB = record { tabulate = codeB; given = record { sheet = sheetB; gives = taken-b }; list = listB; gives = enlarges-b } in
+    let lists : FromLists limits valueB = record { table = codeB; given = record { sheet = sheetB; gives = taken-b }; list = listB; gives = enlarges-b } in
     record {
       given = record { answer = Accepted; enlarged = valueB };
       gives = sheet-accepted (ap (λ (t : Taken). t .answer) taken-b) (rw taken-b enlarges-b);

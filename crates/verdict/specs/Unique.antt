@@ -19,7 +19,7 @@ use Rattle.code.specs.Laws.Readings.{ambiguous-unique}
 use Rattle.code.specs.Laws.Verdicts.{verdict-unique}
 use Rattle.ban_meaning.specs.Answered.{enlarges-unique}
 use Rattle.printing.specs.Printed.{printed}
-use Rattle.sheet.specs.Either.{not-both, one-refusal}
+use Rattle.sheet.proofs.Laws.Either.{not-both, one-refusal}
 use Rattle.verdict.specs.Answers.{Gives, sheet-refused, sheet-accepted, RightOf, RightFor, Answers}
 
 -- A sheet and a list give one thing.

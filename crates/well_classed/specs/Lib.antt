@@ -9,4 +9,3 @@ pub mod Print
 pub mod Written
 pub mod Round
 pub mod Splitting
-pub mod Tested

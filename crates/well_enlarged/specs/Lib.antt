@@ -7,6 +7,4 @@ pub mod Made
 pub mod Base
 pub mod Back
 pub mod Meaning
-pub mod Plain
 pub mod Listed
-pub mod Tested

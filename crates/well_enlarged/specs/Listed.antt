@@ -90,7 +90,7 @@ module _ {l : Limits} {e : Enlarged} where
     to-lists =
         let back = bans-back (bans .base .count) few (bans .bans) (bans .known) in
         record {
-          tabulate = bans .base;
+          table = bans .base;
           given = from-sheet sheets (bans .given);
           list = print (bans .bans);
           gives =

@@ -1,5 +1,4 @@
 pub mod AtMost
-pub mod Tested
 pub mod Accepts
 pub mod Given
 pub mod Print

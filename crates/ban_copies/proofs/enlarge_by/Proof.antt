@@ -1,6 +1,6 @@
 -- Where the copies are within the limits the result is the enlarged code, else refusal 17.
 use Rattle.ban_theory.specs.Triples.{bansFrom}
-use Rattle.ban_copies.specs.Answers.{accepted, refused}
+use Rattle.ban_copies.proofs.Laws.Answers.{accepted, refused}
 use borrow.Author.Needs.{needs}
 use Rattle.ban_copies.proofs.enlarge_by.Statement.{statement}
 use Rattle.ban_copies.proofs.enlarge_by.Tie as tie

@@ -1,6 +1,6 @@
 -- The filled code and the arrays are the enlarged code.
 use Rattle.ban_theory.specs.Triples.{bansFrom}
-use Rattle.ban_copies.specs.Answers.{enlarged-whole}
+use Rattle.ban_copies.proofs.Laws.Answers.{enlarged-whole}
 use borrow.Author.Needs.{needs}
 use Rattle.ban_copies.proofs.with_copies.Statement.{statement}
 use Rattle.ban_copies.proofs.with_copies.Tie as tie

@@ -2,7 +2,7 @@
 use native.Mathlib.Omega.{arith}
 use borrow.Author.Needs.{needs}
 use Rattle.well_enlarged.specs.Listed.{limits-lists}
-use Rattle.ban_enlarge.specs.Without.{tested-all, tested-not}
+use Rattle.ban_enlarge.proofs.Laws.Without.{tested-all, tested-not}
 use Rattle.ban_enlarge.proofs.without_copies.Statement.{statement}
 use Rattle.ban_enlarge.proofs.without_copies.Tie as tie
 

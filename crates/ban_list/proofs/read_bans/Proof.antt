@@ -3,7 +3,7 @@ use mathlib.Core.Path.{sym, _∙_}
 use native.Mathlib.Omega.{arith}
 use lib.Seq.{length-take-le}
 use Rattle.code.specs.Laws.Clean.{clean-body}
-use Rattle.ban_list.specs.Passing.{list-empty, list-bytes, list-records}
+use Rattle.ban_list.proofs.Laws.Passing.{list-empty, list-bytes, list-records}
 use borrow.Author.Needs.{needs}
 use Rattle.ban_list.proofs.read_bans.Statement.{statement}
 use Rattle.ban_list.proofs.read_bans.Tie as tie

@@ -4,7 +4,7 @@ use mathlib.Core.Path.{_≡_}
 use Prim.Native.Nat.{_+_, _-_}
 use lib.ListN.{length}
 use Rattle.ban_list.specs.Contracts.{wrong}
-use Rattle.ban_list.specs.Passing.{Passed, passing-starts, passing-clean, passing-room, passing-stops, passing-on, passing-less, passing-ends}
+use Rattle.ban_list.proofs.Laws.Passing.{Passed, passing-starts, passing-clean, passing-room, passing-stops, passing-on, passing-less, passing-ends}
 use Rattle.ban_list.proofs.read_records.Statement.{statement}
 use Rattle.ban_list.proofs.read_records.Tie as tie
 

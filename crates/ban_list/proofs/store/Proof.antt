@@ -1,7 +1,7 @@
 -- Three stores behind one another make one ban more.
 use native.Mathlib.Omega.{arith}
 use lib.ListN.{length-set}
-use Rattle.ban_list.specs.Storing.{stored-more}
+use Rattle.ban_list.proofs.Laws.Storing.{stored-more}
 use borrow.Author.Needs.{needs}
 use Rattle.ban_list.proofs.store.Statement.{statement}
 use Rattle.ban_list.proofs.store.Tie as tie

@@ -1,7 +1,7 @@
 -- The code, the number of originals, the origins and the words behind are read from their places.
 use native.Mathlib.Omega.{arith}
 use Rattle.c_image.specs.Image.{codeLength}
-use Rattle.c_image.specs.Unpacking.{unpacked}
+use Rattle.c_image.proofs.Laws.Unpacking.{unpacked}
 use borrow.Author.Needs.{needs}
 use Rattle.c_image.proofs.unpack.Statement.{statement}
 use Rattle.c_image.proofs.unpack.Tie as tie

@@ -6,7 +6,7 @@ use borrow.Author.Needs.{needs}
 use Rattle.code.specs.declared.Row.{Row}
 use Rattle.code.specs.Definitions.Lists.{tabulate as filling}
 use Rattle.c_image.specs.Image.{countPlace}
-use Rattle.c_image.specs.Unpacking.{Unpacked, unpacked-next, unpacked-all}
+use Rattle.c_image.proofs.Laws.Unpacking.{Unpacked, unpacked-next, unpacked-all}
 use Rattle.c_image.proofs.unpack_code.Statement.{statement}
 use Rattle.c_image.proofs.unpack_code.Tie as tie
 

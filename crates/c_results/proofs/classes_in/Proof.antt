@@ -5,7 +5,7 @@ use Prim.Native.Nat.{ℕ}
 use lib.ListN.{replicate}
 use borrow.Author.Needs.{needs}
 use Rattle.code.specs.Definitions.ClassSheets.{differentBytes}
-use Rattle.c_results.specs.Ways.{whole-pasted}
+use Rattle.c_results.proofs.Laws.Ways.{whole-pasted}
 use Rattle.c_results.proofs.classes_in.Statement.{statement}
 use Rattle.c_results.proofs.classes_in.Tie as tie
 

@@ -1,6 +1,6 @@
 -- The flag is tested, then the two numbers are compared.
 use borrow.Author.Needs.{needs}
-use Rattle.c_results.specs.Ways.{lower-least, lower-own, lower-long}
+use Rattle.c_results.proofs.Laws.Ways.{lower-least, lower-own, lower-long}
 use Rattle.c_results.proofs.lower.Statement.{statement}
 use Rattle.c_results.proofs.lower.Tie as tie
 

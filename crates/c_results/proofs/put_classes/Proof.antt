@@ -5,7 +5,7 @@ use lib.ListN.{length}
 use borrow.Author.Needs.{needs}
 use borrow.Author.Tests.{ltb-false}
 use Rattle.code.specs.Definitions.ClassSheets.{differentBytes}
-use Rattle.c_results.specs.Ways.{given-short, given-written, given-refused, front-pasted}
+use Rattle.c_results.proofs.Laws.Ways.{given-short, given-written, given-refused, front-pasted}
 use Rattle.c_results.proofs.put_classes.Statement.{statement}
 use Rattle.c_results.proofs.put_classes.Tie as tie
 

@@ -2,7 +2,7 @@
 use mathlib.Core.Path.{refl}
 use borrow.Author.Needs.{needs}
 use borrow.Author.Tests.{ltb-false}
-use Rattle.c_results.specs.Ways.{given-short, given-written, given-refused}
+use Rattle.c_results.proofs.Laws.Ways.{given-short, given-written, given-refused}
 use Rattle.c_results.proofs.put_table.Statement.{statement}
 use Rattle.c_results.proofs.put_table.Tie as tie
 

@@ -1,6 +1,6 @@
 -- Both bytes are digits of the field, so what they stand for makes a byte.
 use native.Mathlib.Omega.{arith}
-use Rattle.class_records.specs.Values.{high-digit, low-digit, digits-small, byte-read}
+use Rattle.class_records.proofs.Laws.Values.{high-digit, low-digit, digits-small, byte-read}
 use Rattle.class_records.proofs.byte_in.Statement.{statement}
 use Rattle.class_records.proofs.byte_in.Tie as tie
 

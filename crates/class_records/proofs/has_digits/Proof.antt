@@ -1,6 +1,6 @@
 -- The digits are counted from the field's end (`digits-counted`).
 use borrow.Author.Needs.{needs}
-use Rattle.class_records.specs.Forms.{digits-counted}
+use Rattle.class_records.proofs.Laws.Forms.{digits-counted}
 use Rattle.class_records.proofs.has_digits.Statement.{statement}
 use Rattle.class_records.proofs.has_digits.Tie as tie
 

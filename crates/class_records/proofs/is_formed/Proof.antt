@@ -4,7 +4,7 @@ use mathlib.Core.Path.{sym, _∙_}
 use Prim.Native.Nat.{_+_}
 use native.Mathlib.Omega.{arith}
 use Rattle.csv.specs.Front.{comma-within}
-use Rattle.class_records.specs.Forms.{lowest-wrong, lowest-only, highest-wrong, highest-last, symbol-wrong, last-byte}
+use Rattle.class_records.proofs.Laws.Forms.{lowest-wrong, lowest-only, highest-wrong, highest-last, symbol-wrong, last-byte}
 use Rattle.class_records.proofs.is_formed.Statement.{statement}
 use Rattle.class_records.proofs.is_formed.Tie as tie
 

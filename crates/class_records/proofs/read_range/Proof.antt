@@ -2,7 +2,7 @@
 use borrow.Author.Needs.{needs}
 use borrow.Author.Tests.{not-true, not-false}
 use Rattle.class_records.specs.Contracts.{wrong, found}
-use Rattle.class_records.specs.Forms.{range-read}
+use Rattle.class_records.proofs.Laws.Forms.{range-read}
 use Rattle.class_records.proofs.read_range.Statement.{statement}
 use Rattle.class_records.proofs.read_range.Tie as tie
 

@@ -1,7 +1,7 @@
 -- The byte is the field's digit.
 use mathlib.Core.Path.{_∙_}
 use native.Mathlib.Omega.{arith}
-use Rattle.class_records.specs.Values.{symbol-digit}
+use Rattle.class_records.proofs.Laws.Values.{symbol-digit}
 use Rattle.class_records.proofs.symbol_in.Statement.{statement}
 use Rattle.class_records.proofs.symbol_in.Tie as tie
 

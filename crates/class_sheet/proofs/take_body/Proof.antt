@@ -1,7 +1,7 @@
 -- The answer to the records decides.
 use mathlib.Core.Path.{_∙_}
 use borrow.Author.Needs.{needs}
-use Rattle.class_sheet.specs.Taking.{way-refused, way-accepted}
+use Rattle.class_sheet.proofs.Laws.Taking.{way-refused, way-accepted}
 use Rattle.class_sheet.proofs.take_body.Statement.{statement}
 use Rattle.class_sheet.proofs.take_body.Tie as tie
 

@@ -3,7 +3,7 @@ use mathlib.Core.Path.{sym, _∙_}
 use borrow.Author.Needs.{needs}
 use lib.Seq.{length-take-le}
 use Rattle.code.specs.Laws.Clean.{clean-body}
-use Rattle.class_sheet.specs.Taking.{way-empty, way-long, way-bytes, way-records}
+use Rattle.class_sheet.proofs.Laws.Taking.{way-empty, way-long, way-bytes, way-records}
 use Rattle.class_sheet.proofs.take_classes.Statement.{statement}
 use Rattle.class_sheet.proofs.take_classes.Tie as tie
 

@@ -3,7 +3,7 @@ use mathlib.Core.Path.{_≡_}
 use Prim.Native.Nat.{_+_, _-_}
 use borrow.Author.Needs.{needs}
 use lib.ListN.{length}
-use Rattle.class_sheet.specs.Passing.{Passed, passing-starts, passing-clean, passing-long, passing-wrong, passing-sign, passing-on, passing-less, passing-ends}
+use Rattle.class_sheet.proofs.Laws.Passing.{Passed, passing-starts, passing-clean, passing-long, passing-wrong, passing-sign, passing-on, passing-less, passing-ends}
 use Rattle.class_sheet.proofs.take_records.Statement.{statement}
 use Rattle.class_sheet.proofs.take_records.Tie as tie
 

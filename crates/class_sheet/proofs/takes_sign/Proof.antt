@@ -1,7 +1,7 @@
 -- The five tests are joined as `any` joins them (`signs-tested`).
 use borrow.Author.Needs.{needs}
 use Rattle.class_sheet.specs.Filling.{fromTo}
-use Rattle.class_sheet.specs.Signs.{signs-tested}
+use Rattle.class_sheet.proofs.Laws.Signs.{signs-tested}
 use Rattle.class_sheet.proofs.takes_sign.Statement.{statement}
 use Rattle.class_sheet.proofs.takes_sign.Tie as tie
 

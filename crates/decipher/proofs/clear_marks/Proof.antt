@@ -3,7 +3,7 @@ use mathlib.Core.Path.{sym, _∙_}
 use borrow.Author.Needs.{needs}
 use native.Mathlib.Omega.{arith}
 use lib.ListN.{take}
-use Rattle.read_core.specs.Parts.{withRest, used-length, all-zero}
+use Rattle.read_core.proofs.Laws.Parts.{withRest, used-length, all-zero}
 use Rattle.decipher.specs.Lent.{laid-whole}
 use Rattle.decipher.specs.Buffers.{marksRoom}
 use Rattle.decipher.proofs.clear_marks.Statement.{statement}

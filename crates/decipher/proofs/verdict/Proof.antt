@@ -3,7 +3,7 @@ use borrow.Author.Needs.{needs}
 use borrow.Author.Tests.{not-false}
 use Rattle.well_enlarged.specs.Listed.{from-lists}
 use Rattle.decipher.specs.Buffers.{has-room}
-use Rattle.decipher.specs.Ways.{way-8, way-13, way-judged}
+use Rattle.decipher.proofs.Laws.Ways.{way-8, way-13, way-judged}
 use Rattle.decipher.proofs.verdict.Statement.{statement}
 use Rattle.decipher.proofs.verdict.Tie as tie
 

@@ -4,7 +4,7 @@ use native.Mathlib.Omega.{arith}
 use lib.ListN.{length}
 use borrow.Author.Needs.{needs}
 use Rattle.code.specs.Definitions.Sheets.{limits}
-use Rattle.encode_permitted.specs.Walk.{Walked, walk-begins, number-low, held-low, next-low, forbidden-empty, forbidden-opening, forbidden-here, walked-on, forbidden-nowhere}
+use Rattle.encode_permitted.proofs.Laws.Walk.{Walked, walk-begins, number-low, held-low, next-low, forbidden-empty, forbidden-opening, forbidden-here, walked-on, forbidden-nowhere}
 use Rattle.encode_permitted.proofs.has_forbidden.Statement.{statement}
 use Rattle.encode_permitted.proofs.has_forbidden.Tie as tie
 

@@ -2,7 +2,7 @@
 use native.Mathlib.Omega.{arith}
 use borrow.Author.Needs.{needs}
 use Rattle.code.specs.Definitions.Sheets.{limits}
-use Rattle.encoding.specs.Ways.{way-8, lists-well, way-9, all-original, all-known, way-10, way-11, way-13, way-encoded}
+use Rattle.encoding.proofs.Laws.Ways.{way-8, lists-well, way-9, all-original, all-known, way-10, way-11, way-13, way-encoded}
 use Rattle.encoding.proofs.encode.Statement.{statement}
 use Rattle.encoding.proofs.encode.Tie as tie
 

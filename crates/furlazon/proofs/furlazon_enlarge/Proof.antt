@@ -1,6 +1,6 @@
 -- An image too short to be read is found first; then an accepted list gives a table that can be packed, and its answer decides.
 use Rattle.furlazon.specs.Packs.{list-packs}
-use Rattle.furlazon.specs.Ways.{list-unread, list-answered}
+use Rattle.furlazon.proofs.Laws.Ways.{list-unread, list-answered}
 use borrow.Author.Needs.{needs}
 use Rattle.furlazon.proofs.furlazon_enlarge.Statement.{statement}
 use Rattle.furlazon.proofs.furlazon_enlarge.Tie as tie

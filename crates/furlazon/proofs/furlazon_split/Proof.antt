@@ -1,6 +1,6 @@
 -- An image or classes too short to be read are found first, then an answer too short to be told; then the operation answers, and its answer is written as numbers.
 use borrow.Author.Needs.{needs}
-use Rattle.furlazon.specs.Ways.{answer-short, answer-room, split-unread, split-unclassed, split-untold, split-answered}
+use Rattle.furlazon.proofs.Laws.Ways.{answer-short, answer-room, split-unread, split-unclassed, split-untold, split-answered}
 use Rattle.furlazon.proofs.furlazon_split.Statement.{statement}
 use Rattle.furlazon.proofs.furlazon_split.Tie as tie
 

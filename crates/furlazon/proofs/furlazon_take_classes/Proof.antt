@@ -1,6 +1,6 @@
 -- The answer to the class sheet decides.
 use borrow.Author.Needs.{needs}
-use Rattle.furlazon.specs.Ways.{classes-answered}
+use Rattle.furlazon.proofs.Laws.Ways.{classes-answered}
 use Rattle.furlazon.proofs.furlazon_take_classes.Statement.{statement}
 use Rattle.furlazon.proofs.furlazon_take_classes.Tie as tie
 

@@ -1,6 +1,6 @@
 -- An accepted sheet gives a table that can be packed, and its answer decides.
 use Rattle.furlazon.specs.Packs.{sheet-packs}
-use Rattle.furlazon.specs.Ways.{sheet-answered}
+use Rattle.furlazon.proofs.Laws.Ways.{sheet-answered}
 use borrow.Author.Needs.{needs}
 use Rattle.furlazon.proofs.furlazon_take_in.Statement.{statement}
 use Rattle.furlazon.proofs.furlazon_take_in.Tie as tie

@@ -1,6 +1,6 @@
 -- The code of the twelve types is one that an accepted sheet gives, so it can be packed.
 use Rattle.furlazon.specs.Packs.{turkish-packs}
-use Rattle.furlazon.specs.Ways.{turkish-answered}
+use Rattle.furlazon.proofs.Laws.Ways.{turkish-answered}
 use borrow.Author.Needs.{needs}
 use Rattle.furlazon.proofs.furlazon_turkish.Statement.{statement}
 use Rattle.furlazon.proofs.furlazon_turkish.Tie as tie

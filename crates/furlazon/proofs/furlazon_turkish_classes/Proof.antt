@@ -1,6 +1,6 @@
 -- The built-in table is given.
 use borrow.Author.Needs.{needs}
-use Rattle.furlazon.specs.Ways.{letters-answered}
+use Rattle.furlazon.proofs.Laws.Ways.{letters-answered}
 use Rattle.furlazon.proofs.furlazon_turkish_classes.Statement.{statement}
 use Rattle.furlazon.proofs.furlazon_turkish_classes.Tie as tie
 

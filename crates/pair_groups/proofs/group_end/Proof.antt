@@ -4,7 +4,7 @@ use Prim.Native.Nat.{_-_}
 use Rattle.pair_places.specs.Opens.{openGraph}
 use Rattle.pair_storage.specs.Entries.{entriesIn}
 use Rattle.pair_groups.specs.Carrying.{known-node}
-use Rattle.pair_groups.specs.Runs.{Run, run-one, group-more, group-differs, group-last}
+use Rattle.pair_groups.proofs.Laws.Runs.{Run, run-one, group-more, group-differs, group-last}
 use Rattle.pair_groups.proofs.group_end.Statement.{statement}
 use Rattle.pair_groups.proofs.group_end.Tie as tie
 

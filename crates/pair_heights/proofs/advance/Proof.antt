@@ -1,7 +1,7 @@
 -- `pair_heights::advance` meets its contract: a slot is followed, or the pair on top has none left and is popped.
 use borrow.Author.Needs.{needs}
 use Rattle.pair_heights.specs.Search.{top-within, top-low, top-high, top-marked, top-met}
-use Rattle.pair_heights.specs.Advance.{following, popping}
+use Rattle.pair_heights.proofs.Laws.Advance.{following, popping}
 use Rattle.pair_heights.proofs.advance.Statement.{statement}
 use Rattle.pair_heights.proofs.advance.Tie as tie
 

@@ -1,6 +1,6 @@
 -- `advance` finds the group and deals with it, so the search stands before the next group.
 use borrow.Author.Needs.{needs}
-use Rattle.pair_shortest.specs.Groups.{between-known, entered, expand-goal, expand-next}
+use Rattle.pair_shortest.proofs.Laws.Groups.{between-known, entered, expand-goal, expand-next}
 use Rattle.pair_shortest.proofs.advance.Statement.{statement}
 use Rattle.pair_shortest.proofs.advance.Tie as tie
 

@@ -9,7 +9,7 @@ use Rattle.pair_places.specs.Opens.{openGraph}
 use Rattle.pair_storage.specs.Entries.{entriesIn}
 use Rattle.pair_storage.specs.Marks.{marks}
 use Rattle.pair_groups.specs.Queue.{Between}
-use Rattle.pair_shortest.specs.Groups.{was-moved, explore-goal, explore-end, explore-less, moved-few}
+use Rattle.pair_shortest.proofs.Laws.Groups.{was-moved, explore-goal, explore-end, explore-less, moved-few}
 use Rattle.pair_shortest.proofs.explore.Statement.{statement}
 use Rattle.pair_shortest.proofs.explore.Tie as tie
 

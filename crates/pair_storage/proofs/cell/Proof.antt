@@ -1,6 +1,6 @@
 -- The product of two numbers of places fits, and with the higher place it is the pair's cell.
 use borrow.Author.Needs.{needs}
-use Rattle.pair_storage.specs.Bounds.{product-fits, sum-fits, is-cell}
+use Rattle.pair_storage.proofs.Laws.Bounds.{product-fits, sum-fits, is-cell}
 use Rattle.pair_storage.proofs.cell.Statement.{statement}
 use Rattle.pair_storage.proofs.cell.Tie as tie
 

@@ -1,6 +1,6 @@
 -- The square of the number of places is the number of cells.
 use borrow.Author.Needs.{needs}
-use Rattle.pair_storage.specs.Bounds.{square-fits, is-count}
+use Rattle.pair_storage.proofs.Laws.Bounds.{square-fits, is-count}
 use Rattle.pair_storage.proofs.cell_count.Statement.{statement}
 use Rattle.pair_storage.proofs.cell_count.Tie as tie
 

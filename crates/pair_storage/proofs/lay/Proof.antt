@@ -4,7 +4,7 @@ use mathlib.Core.Path.{_≡_, _∙_}
 use borrow.Author.Needs.{needs}
 use lib.ListN.{length, length-set}
 use native.Mathlib.Omega.{arith}
-use Rattle.pair_storage.specs.Laying.{laid, laid-none, laid-more, laid-all}
+use Rattle.pair_storage.proofs.Laws.Laying.{laid, laid-none, laid-more, laid-all}
 use Rattle.pair_storage.proofs.lay.Statement.{statement}
 use Rattle.pair_storage.proofs.lay.Tie as tie
 

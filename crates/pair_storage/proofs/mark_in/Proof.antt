@@ -1,5 +1,5 @@
 -- What a mask leaves of a stored number is its mark.
-use Rattle.pair_storage.specs.Bounds.{mark-masked}
+use Rattle.pair_storage.proofs.Laws.Bounds.{mark-masked}
 use Rattle.pair_storage.specs.Fields.{mark-fits}
 use Rattle.pair_storage.proofs.mark_in.Statement.{statement}
 use Rattle.pair_storage.proofs.mark_in.Tie as tie

@@ -1,7 +1,7 @@
 -- What a mask leaves of a link is the higher place, and of the link without it the lower one.
 use borrow.Author.Needs.{needs}
 use Rattle.pair_storage.specs.Fields.{lowIn, highIn}
-use Rattle.pair_storage.specs.Bounds.{masked}
+use Rattle.pair_storage.proofs.Laws.Bounds.{masked}
 use Rattle.pair_storage.proofs.pair_in.Statement.{statement}
 use Rattle.pair_storage.proofs.pair_in.Tie as tie
 

@@ -3,7 +3,7 @@ use mathlib.Core.Path.{sym}
 use native.Mathlib.Omega.{arith}
 use lib.Seq.{length-take-le}
 use Rattle.code.specs.Laws.Exactly.{exactly-false}
-use Rattle.printing.specs.Rooms.{same-lengths, no-symbols, room-left}
+use Rattle.printing.proofs.Laws.Rooms.{same-lengths, no-symbols, room-left}
 use borrow.Author.Needs.{needs}
 use Rattle.printing.proofs.printable.Statement.{statement}
 use Rattle.printing.proofs.printable.Tie as tie

@@ -1,7 +1,7 @@
 -- The record of the message, then one for each reading.
 use mathlib.Core.Path.{sym}
 use lib.Seq.{length-take-le}
-use Rattle.printing.specs.Results.{message-room, first-room, second-room, ambiguous-put}
+use Rattle.printing.proofs.Laws.Results.{message-room, first-room, second-room, ambiguous-put}
 use borrow.Author.Needs.{needs}
 use Rattle.printing.proofs.put_ambiguous.Statement.{statement}
 use Rattle.printing.proofs.put_ambiguous.Tie as tie

@@ -1,5 +1,5 @@
 -- The word, the digits and CR LF.
-use Rattle.printing.specs.Results.{line-room, message-put}
+use Rattle.printing.proofs.Laws.Results.{line-room, message-put}
 use borrow.Author.Needs.{needs}
 use Rattle.printing.proofs.put_message.Statement.{statement}
 use Rattle.printing.proofs.put_message.Tie as tie

@@ -1,5 +1,5 @@
 -- The word, the number and CR LF.
-use Rattle.printing.specs.Results.{number-room, end-room, pair-put}
+use Rattle.printing.proofs.Laws.Results.{number-room, end-room, pair-put}
 use borrow.Author.Needs.{needs}
 use Rattle.printing.proofs.put_pair.Statement.{statement}
 use Rattle.printing.proofs.put_pair.Tie as tie

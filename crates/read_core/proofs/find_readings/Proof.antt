@@ -5,7 +5,7 @@ use lib.ListN.{length}
 use mathlib.Core.Path.{refl, sym}
 use native.Mathlib.Omega.{arith}
 use Rattle.code.specs.Definitions.Tables.{tableOf}
-use Rattle.read_core.specs.Parts.{used-length, all-zero}
+use Rattle.read_core.proofs.Laws.Parts.{used-length, all-zero}
 use Rattle.read_core.proofs.find_readings.Statement.{statement}
 use Rattle.read_core.proofs.find_readings.Tie as tie
 

@@ -1,6 +1,6 @@
 -- The survey's answer decides, and its records and their width tell what to build.
 use mathlib.Core.Path.{sym, _∙_}
-use Rattle.sheet.specs.Taking.{way-refused, way-accepted, count-accepted, starts-accepted, fits-accepted}
+use Rattle.sheet.proofs.Laws.Taking.{way-refused, way-accepted, count-accepted, starts-accepted, fits-accepted}
 use borrow.Author.Needs.{needs}
 use Rattle.sheet.proofs.take_body.Statement.{statement}
 use Rattle.sheet.proofs.take_body.Tie as tie

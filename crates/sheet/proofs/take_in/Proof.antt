@@ -3,7 +3,7 @@ use mathlib.Core.Path.{sym, _∙_}
 use native.Mathlib.Omega.{arith}
 use lib.Seq.{length-take-le}
 use Rattle.code.specs.Laws.Clean.{clean-body}
-use Rattle.sheet.specs.Taking.{way-empty, way-long, way-bytes, way-records}
+use Rattle.sheet.proofs.Laws.Taking.{way-empty, way-long, way-bytes, way-records}
 use borrow.Author.Needs.{needs}
 use Rattle.sheet.proofs.take_in.Statement.{statement}
 use Rattle.sheet.proofs.take_in.Tie as tie

@@ -9,7 +9,7 @@ use Rattle.code.specs.declared.Word.{Word}
 use Rattle.code.specs.Definitions.Lists.{tabulate}
 use Rattle.code.specs.Laws.Filling.{fill-next}
 use Rattle.csv.specs.Fields.{leading}
-use Rattle.csv.specs.Symbols.{fieldSymbol, field-digit, field-symbol}
+use Rattle.csv.specs.Symbols.{fieldSymbol, leading-digit, leading-symbol}
 use Rattle.sheet_table.specs.Building.{word-read}
 use Rattle.sheet_table.proofs.read_word.Statement.{statement}
 use Rattle.sheet_table.proofs.read_word.Tie as tie
@@ -26,12 +26,12 @@ loop-holds c = let e = ap (λ (w : Word). w .symbols) (c .blank-word .ensures) i
 
 value-of-requires : tie.Need-value-of-requires Inv-loop μ-loop
 value-of-requires c κs = let l = c .before .before .loop in let a = c .before .before .before .before .before .args in let p = c .before .before .before .before .before .pre in
-    field-digit (a .s .now) (a .at) (l .k) (omega (arith, p .0))
+    leading-digit (a .s .now) (a .at) (l .k) (omega (arith, p .0))
 
 loop-again : tie.Need-loop-again Inv-loop μ-loop
 loop-again c = let l = c .before .before .before .loop in let a = c .before .before .before .before .before .before .args in let p = c .before .before .before .before .before .before .pre in
     let f = leading (drop (a .at) (a .s .now)) in
-    let v = c .value-of .ensures ∙ field-symbol (a .s .now) (a .at) (l .k) (omega (arith, p .0)) in
+    let v = c .value-of .ensures ∙ leading-symbol (a .s .now) (a .at) (l .k) (omega (arith, p .0)) in
     (search needs, simp length-set (l .inv .1), rw (l .inv .2, v) (fill-next (fieldSymbol f) (replicate 16 0) (l .k) (omega (arith, p .0, p .2))), l .inv .3)
 
 returns : tie.Need-returns Inv-loop μ-loop

@@ -1,6 +1,6 @@
 -- The code and the classes are given, the text split by them, and what is found printed.
 use borrow.Author.Needs.{needs}
-use Rattle.syllabify.specs.Ways.{given-sheet, given-classes, given-answers}
+use Rattle.syllabify.proofs.Laws.Ways.{given-sheet, given-classes, given-answers}
 use Rattle.syllabify.proofs.answer.Statement.{statement}
 use Rattle.syllabify.proofs.answer.Tie as tie
 

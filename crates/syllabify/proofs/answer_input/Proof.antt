@@ -1,6 +1,6 @@
 -- Parts of the files and of the input are answered, and a full buffer is refused.
 use borrow.Author.Needs.{needs}
-use Rattle.syllabify.specs.Ways.{input-answered}
+use Rattle.syllabify.proofs.Laws.Ways.{input-answered}
 use Rattle.syllabify.proofs.answer_input.Statement.{statement}
 use Rattle.syllabify.proofs.answer_input.Tie as tie
 

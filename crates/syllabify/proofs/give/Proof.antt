@@ -1,6 +1,6 @@
 -- The sheet is taken in where one is named; else the code is the built-in one.
 use borrow.Author.Needs.{needs}
-use Rattle.syllabify.specs.Ways.{given-named, given-built-in}
+use Rattle.syllabify.proofs.Laws.Ways.{given-named, given-built-in}
 use Rattle.syllabify.proofs.give.Statement.{statement}
 use Rattle.syllabify.proofs.give.Tie as tie
 

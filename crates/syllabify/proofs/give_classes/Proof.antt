@@ -1,6 +1,6 @@
 -- The class sheet is taken in where one is named; else the classes are the built-in ones.
 use borrow.Author.Needs.{needs}
-use Rattle.syllabify.specs.Ways.{classes-named, classes-built-in}
+use Rattle.syllabify.proofs.Laws.Ways.{classes-named, classes-built-in}
 use Rattle.syllabify.proofs.give_classes.Statement.{statement}
 use Rattle.syllabify.proofs.give_classes.Tie as tie
 

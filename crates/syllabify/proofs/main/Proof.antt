@@ -1,6 +1,6 @@
 -- What was read lies within its buffer, and the bytes answered within the output buffer.
 use Rattle.streams.specs.Inputs.{holds-bytes}
-use Rattle.syllabify.specs.Ways.{answer-counts}
+use Rattle.syllabify.proofs.Laws.Ways.{answer-counts}
 use borrow.Author.Needs.{needs}
 use Rattle.syllabify.proofs.main.Statement.{statement}
 use Rattle.syllabify.proofs.main.Tie as tie

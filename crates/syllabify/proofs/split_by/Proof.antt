@@ -1,7 +1,7 @@
 -- The class sheet is refused, or the text is split by the code and the classes.
 use borrow.Author.Needs.{needs}
 use mathlib.Core.Path.{refl}
-use Rattle.syllabify.specs.Ways.{classes-next, splits-given}
+use Rattle.syllabify.proofs.Laws.Ways.{classes-next, splits-given}
 use Rattle.syllabify.proofs.split_by.Statement.{statement}
 use Rattle.syllabify.proofs.split_by.Tie as tie
 

@@ -1,6 +1,6 @@
 -- The code sheet is refused, or its code is used.
 use borrow.Author.Needs.{needs}
-use Rattle.syllabify.specs.Ways.{sheet-first, code-accepted}
+use Rattle.syllabify.proofs.Laws.Ways.{sheet-first, code-accepted}
 use Rattle.syllabify.proofs.split_given.Statement.{statement}
 use Rattle.syllabify.proofs.split_given.Tie as tie
 

@@ -1,6 +1,6 @@
 -- `split` meets its contract: a lemma for each refusal, in their order, and for the output where none holds.
 use borrow.Author.Needs.{needs}
-use Rattle.text_split.specs.Public.{zero-same, way-8, way-8-classes, way-11, way-13, split-rooms, way-split}
+use Rattle.text_split.proofs.Laws.Public.{zero-same, way-8, way-8-classes, way-11, way-13, split-rooms, way-split}
 use Rattle.text_split.proofs.split.Statement.{statement}
 use Rattle.text_split.proofs.split.Tie as tie
 

@@ -4,7 +4,7 @@ use Prim.Native.Nat.{_-_}
 use lib.ListN.{length}
 use mathlib.Core.Path.{refl}
 use borrow.Author.Needs.{needs}
-use Rattle.text_syllables.specs.Turns.{Going, going-start, going-length, going-end, turn-fits, turn-room, going-next}
+use Rattle.text_syllables.proofs.Laws.Turns.{Going, going-start, going-length, going-end, turn-fits, turn-room, going-next}
 use Rattle.text_syllables.proofs.put_syllables.Statement.{statement}
 use Rattle.text_syllables.proofs.put_syllables.Tie as tie
 

@@ -4,7 +4,7 @@ use native.Mathlib.Omega.{arith}
 use lib.ListN.{length}
 use borrow.Author.Needs.{needs}
 use Rattle.turkish.specs.Types.{types}
-use Rattle.turkish.specs.Making.{Made, made-none, entries-long, made-more, made-all}
+use Rattle.turkish.proofs.Laws.Making.{Made, made-none, entries-long, made-more, made-all}
 use Rattle.turkish.proofs.twelve.Statement.{statement}
 use Rattle.turkish.proofs.twelve.Tie as tie
 

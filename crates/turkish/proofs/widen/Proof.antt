@@ -4,7 +4,7 @@ use Prim.Native.Nat.{_-_, _≤_}
 use lib.ListN.{length}
 use borrow.Author.Needs.{needs}
 use Rattle.code.specs.Definitions.Sheets.{limits}
-use Rattle.turkish.specs.Padding.{Padding, padding-none, padding-next, padding-all}
+use Rattle.turkish.proofs.Laws.Padding.{Padding, padding-none, padding-next, padding-all}
 use Rattle.turkish.proofs.widen.Statement.{statement}
 use Rattle.turkish.proofs.widen.Tie as tie
 

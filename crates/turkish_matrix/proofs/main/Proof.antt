@@ -1,6 +1,6 @@
 -- The buffer has room for the printed table, and what is written is at its start.
-use Rattle.printing.specs.Starts.{starts-counts}
-use Rattle.turkish_matrix.specs.Lines.{printed-long}
+use Rattle.printing.proofs.Laws.Starts.{starts-counts}
+use Rattle.turkish_matrix.proofs.Laws.Lines.{printed-long}
 use borrow.Author.Needs.{needs}
 use Rattle.turkish_matrix.proofs.main.Statement.{statement}
 use Rattle.turkish_matrix.proofs.main.Tie as tie

@@ -1,5 +1,5 @@
 -- What opens the table, its lines, and what closes it.
-use Rattle.turkish_matrix.specs.Lines.{opening-fits, lines-fit, closing-fits, table-put}
+use Rattle.turkish_matrix.proofs.Laws.Lines.{opening-fits, lines-fit, closing-fits, table-put}
 use borrow.Author.Needs.{needs}
 use Rattle.turkish_matrix.proofs.print_table.Statement.{statement}
 use Rattle.turkish_matrix.proofs.print_table.Tie as tie

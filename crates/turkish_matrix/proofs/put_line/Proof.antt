@@ -1,5 +1,5 @@
 -- What stands before the entries, the entries, and what ends the line.
-use Rattle.turkish_matrix.specs.Printing.{second-fits, third-fits, three-put}
+use Rattle.turkish_matrix.proofs.Laws.Printing.{second-fits, third-fits, three-put}
 use borrow.Author.Needs.{needs}
 use Rattle.turkish_matrix.proofs.put_line.Statement.{statement}
 use Rattle.turkish_matrix.proofs.put_line.Tie as tie

@@ -6,7 +6,7 @@ use lib.ListN.{length}
 use Rattle.writing.specs.Fields.{fieldsTo, none-put}
 use Rattle.writing.specs.Puts.{Puts, puts-length}
 use Rattle.turkish.specs.Types.{types}
-use Rattle.turkish_matrix.specs.Lines.{allLines, line-fits, line-more, lines-all}
+use Rattle.turkish_matrix.proofs.Laws.Lines.{allLines, line-fits, line-more, lines-all}
 use borrow.Author.Needs.{needs}
 use Rattle.turkish_matrix.proofs.put_lines.Statement.{statement}
 use Rattle.turkish_matrix.proofs.put_lines.Tie as tie

@@ -1,5 +1,5 @@
 -- What the judgement shows is printed.
-use Rattle.verdict.specs.Showing.{answers}
+use Rattle.verdict.proofs.Laws.Showing.{answers}
 use borrow.Author.Needs.{needs}
 use Rattle.verdict.proofs.answer.Statement.{statement}
 use Rattle.verdict.proofs.answer.Tie as tie

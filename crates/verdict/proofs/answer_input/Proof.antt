@@ -1,5 +1,5 @@
 -- Parts of the input and of the file are answered, and a full buffer is refused.
-use Rattle.verdict.specs.Inputs.{input-answered}
+use Rattle.verdict.proofs.Laws.Inputs.{input-answered}
 use borrow.Author.Needs.{needs}
 use Rattle.verdict.proofs.answer_input.Statement.{statement}
 use Rattle.verdict.proofs.answer_input.Tie as tie

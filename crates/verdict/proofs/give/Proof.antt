@@ -1,5 +1,5 @@
 -- The refusal of the sheet, or what enlarging its table gives.
-use Rattle.verdict.specs.Showing.{gives-refused, gives-accepted}
+use Rattle.verdict.proofs.Laws.Showing.{gives-refused, gives-accepted}
 use borrow.Author.Needs.{needs}
 use Rattle.verdict.proofs.give.Statement.{statement}
 use Rattle.verdict.proofs.give.Tie as tie

@@ -1,7 +1,7 @@
 -- The sheet or the list is refused, or the verdict on what they give is shown.
 use mathlib.Core.Path.{refl}
 use native.Mathlib.Omega.{arith}
-use Rattle.verdict.specs.Showing.{shows-refused, shows-judged}
+use Rattle.verdict.proofs.Laws.Showing.{shows-refused, shows-judged}
 use borrow.Author.Needs.{needs}
 use Rattle.verdict.proofs.judge.Statement.{statement}
 use Rattle.verdict.proofs.judge.Tie as tie

@@ -1,6 +1,6 @@
 -- What was read lies within its buffer, and the bytes answered within the output buffer.
 use Rattle.streams.specs.Inputs.{holds-bytes}
-use Rattle.verdict.specs.Showing.{answer-counts}
+use Rattle.verdict.proofs.Laws.Showing.{answer-counts}
 use borrow.Author.Needs.{needs}
 use Rattle.verdict.proofs.main.Statement.{statement}
 use Rattle.verdict.proofs.main.Tie as tie

@@ -7,7 +7,7 @@ use Rattle.code.specs.Definitions.ClassSheets.{differentBytes}
 use Rattle.code.specs.Definitions.Texts.{other, classOf, isLetter}
 use Rattle.code.specs.Laws.Below.{someBelow, Some, none-yet}
 use Rattle.code.specs.Laws.Exactly.{Exactly, exactly-and, exactly-le, exactly-none, exactly-more}
-use Rattle.well_classed.specs.Tested.{SmallAt, exactly-some, some-more}
+use Rattle.well_classed.proofs.Laws.Tested.{SmallAt, exactly-some, some-more}
 use Rattle.well_classed.proofs.entries_fit.Statement.{statement}
 use Rattle.well_classed.proofs.entries_fit.Tie as tie
 

@@ -1,7 +1,7 @@
 -- `some_sign_letter` looks at each of the signs.
 use borrow.Author.Needs.{needs}
 use Rattle.code.specs.Definitions.Texts.{isLetter}
-use Rattle.class_sheet.specs.Signs.{signs-tested}
+use Rattle.class_sheet.proofs.Laws.Signs.{signs-tested}
 use Rattle.well_classed.proofs.some_sign_letter.Statement.{statement}
 use Rattle.well_classed.proofs.some_sign_letter.Tie as tie
 

@@ -4,7 +4,7 @@ use lib.ListN.{length}
 use borrow.Author.Needs.{needs}
 use Rattle.code.specs.Definitions.ClassSheets.{differentBytes}
 use Rattle.code.specs.Laws.Exactly.{exactly-iff}
-use Rattle.well_classed.specs.Tested.{classes-tested}
+use Rattle.well_classed.proofs.Laws.Tested.{classes-tested}
 use Rattle.well_classed.specs.Round.{well-classed}
 use Rattle.well_classed.proofs.well_classed.Statement.{statement}
 use Rattle.well_classed.proofs.well_classed.Tie as tie

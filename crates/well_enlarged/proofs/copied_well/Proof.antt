@@ -1,6 +1,6 @@
 -- `copied_well` says exactly whether the value is well-enlarged, with copies and without.
 use borrow.Author.Needs.{needs}
-use Rattle.well_enlarged.specs.Tested.{none-tested, value-tested}
+use Rattle.well_enlarged.proofs.Laws.Tested.{none-tested, value-tested}
 use Rattle.well_enlarged.proofs.copied_well.Statement.{statement}
 use Rattle.well_enlarged.proofs.copied_well.Tie as tie
 

@@ -5,7 +5,7 @@ use native.Mathlib.Omega.{arith}
 use borrow.Author.Needs.{needs}
 use Rattle.code.specs.Laws.Exactly.{Exactly, exactly-true, exactly-more}
 use Rattle.well_enlarged.specs.Tests.{valueOf, IfCopyFits}
-use Rattle.well_enlarged.specs.Tested.{copy-if}
+use Rattle.well_enlarged.proofs.Laws.Tested.{copy-if}
 use Rattle.well_enlarged.proofs.copies_fit.Statement.{statement}
 use Rattle.well_enlarged.proofs.copies_fit.Tie as tie
 

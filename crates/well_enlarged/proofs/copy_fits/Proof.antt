@@ -5,7 +5,7 @@ use native.Mathlib.Omega.{arith}
 use borrow.Author.Needs.{needs}
 use Rattle.code.specs.Definitions.Sheets.{limits}
 use Rattle.well_enlarged.specs.Tests.{valueOf}
-use Rattle.well_enlarged.specs.Tested.{lent, copy-tested}
+use Rattle.well_enlarged.proofs.Laws.Tested.{lent, copy-tested}
 use Rattle.well_enlarged.proofs.copy_fits.Statement.{statement}
 use Rattle.well_enlarged.proofs.copy_fits.Tie as tie
 

@@ -2,7 +2,7 @@
 use native.Mathlib.Omega.{arith}
 use borrow.Author.Needs.{needs}
 use borrow.Author.Tests.{not-true, not-false}
-use Rattle.well_enlarged.specs.Tested.{entry-zero, entry-new, entry-one}
+use Rattle.well_enlarged.proofs.Laws.Tested.{entry-zero, entry-new, entry-one}
 use Rattle.well_enlarged.proofs.entry_fits.Statement.{statement}
 use Rattle.well_enlarged.proofs.entry_fits.Tie as tie
 

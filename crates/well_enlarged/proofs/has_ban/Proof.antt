@@ -8,7 +8,7 @@ use borrow.Author.Needs.{needs}
 use Rattle.code.specs.Definitions.Sheets.{limits}
 use Rattle.well_enlarged.specs.WellEnlarged.{barred}
 use Rattle.well_enlarged.specs.Tests.{valueOf}
-use Rattle.well_enlarged.specs.Tested.{barred-entry, ban-found, ban-none, next-low}
+use Rattle.well_enlarged.proofs.Laws.Tested.{barred-entry, ban-found, ban-none, next-low}
 use Rattle.well_enlarged.proofs.has_ban.Statement.{statement}
 use Rattle.well_enlarged.proofs.has_ban.Tie as tie
 

@@ -5,7 +5,7 @@ use native.Mathlib.Omega.{arith}
 use borrow.Author.Needs.{needs}
 use Rattle.code.specs.Laws.Exactly.{Exactly, exactly-none, exactly-more}
 use Rattle.well_enlarged.specs.Tests.{valueOf, RowFits}
-use Rattle.well_enlarged.specs.Tested.{lent}
+use Rattle.well_enlarged.proofs.Laws.Tested.{lent}
 use Rattle.well_enlarged.proofs.matrix_fits.Statement.{statement}
 use Rattle.well_enlarged.proofs.matrix_fits.Tie as tie
 

@@ -4,7 +4,7 @@ use Prim.Native.Nat.{ℕ, _≤_, _<_, _-_}
 use native.Mathlib.Omega.{arith}
 use borrow.Author.Count.{below-more}
 use borrow.Author.Needs.{needs}
-use Rattle.well_enlarged.specs.Tested.{Other, next-found, next-none}
+use Rattle.well_enlarged.proofs.Laws.Tested.{Other, next-found, next-none}
 use Rattle.well_enlarged.proofs.next_word.Statement.{statement}
 use Rattle.well_enlarged.proofs.next_word.Tie as tie
 

@@ -1,6 +1,6 @@
 -- `number_fits` says exactly whether a number fits, in the three cases that it is one of a word, of a copy, or of neither.
 use borrow.Author.Needs.{needs}
-use Rattle.well_enlarged.specs.Tested.{number-word, number-copy, number-past}
+use Rattle.well_enlarged.proofs.Laws.Tested.{number-word, number-copy, number-past}
 use Rattle.well_enlarged.proofs.number_fits.Statement.{statement}
 use Rattle.well_enlarged.proofs.number_fits.Tie as tie
 

@@ -1,6 +1,6 @@
 -- `numbered` says exactly whether the numbers fit: it asks for words, and for no fewer numbers than words, before it looks at them.
 use borrow.Author.Needs.{needs}
-use Rattle.well_enlarged.specs.Tested.{none-original, few-words, bounded}
+use Rattle.well_enlarged.proofs.Laws.Tested.{none-original, few-words, bounded}
 use Rattle.well_enlarged.proofs.numbered.Statement.{statement}
 use Rattle.well_enlarged.proofs.numbered.Tie as tie
 

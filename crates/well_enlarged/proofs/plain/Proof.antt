@@ -4,7 +4,7 @@ use borrow.Author.Needs.{needs}
 use Rattle.code.specs.Definitions.Enlarged.{plainOf}
 use Rattle.code.specs.Definitions.Lists.{tabulate}
 use Rattle.code.specs.Definitions.Sheets.{limits}
-use Rattle.well_enlarged.specs.Plain.{OwnTo, own-none, own-more, own-all}
+use Rattle.well_enlarged.proofs.Laws.Plain.{OwnTo, own-none, own-more, own-all}
 use Rattle.well_enlarged.proofs.plain.Statement.{statement}
 use Rattle.well_enlarged.proofs.plain.Tie as tie
 

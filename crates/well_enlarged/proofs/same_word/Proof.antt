@@ -3,7 +3,7 @@ use mathlib.Core.Path.{_≡_, sym, _∙_}
 use lib.ListN.{length}
 use borrow.Author.Needs.{needs}
 use Rattle.code.specs.Definitions.Sheets.{limits}
-use Rattle.well_enlarged.specs.Tested.{words-same}
+use Rattle.well_enlarged.proofs.Laws.Tested.{words-same}
 use Rattle.well_enlarged.proofs.same_word.Statement.{statement}
 use Rattle.well_enlarged.proofs.same_word.Tie as tie
 

@@ -8,7 +8,7 @@ use Rattle.code.specs.Definitions.Sheets.{limits}
 use Rattle.well_formed.specs.Given.{well}
 use Rattle.well_formed.specs.Round.{from-sheet}
 use Rattle.well_enlarged.specs.Listed.{lists-tested}
-use Rattle.well_enlarged.specs.Tested.{not-code, not-numbered}
+use Rattle.well_enlarged.proofs.Laws.Tested.{not-code, not-numbered}
 use Rattle.well_enlarged.proofs.well_enlarged.Statement.{statement}
 use Rattle.well_enlarged.proofs.well_enlarged.Tie as tie
 

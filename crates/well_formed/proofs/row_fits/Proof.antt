@@ -4,7 +4,7 @@ use native.Mathlib.Omega.{arith}
 use lib.ListN.{length}
 use borrow.Author.Needs.{needs}
 use Rattle.code.specs.Definitions.Sheets.{limits}
-use Rattle.well_formed.specs.Tested.{row-used, row-unused}
+use Rattle.well_formed.proofs.Laws.Tested.{row-used, row-unused}
 use Rattle.well_formed.proofs.row_fits.Statement.{statement}
 use Rattle.well_formed.proofs.row_fits.Tie as tie
 

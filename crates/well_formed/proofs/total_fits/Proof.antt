@@ -6,7 +6,7 @@ use native.Mathlib.Omega.{arith}
 use borrow.Author.Needs.{needs}
 use Rattle.code.specs.Definitions.Lists.{tabulate, sum}
 use Rattle.code.specs.Laws.WellFormed.{lenOf}
-use Rattle.well_formed.specs.Tested.{room-more, room-left}
+use Rattle.well_formed.proofs.Laws.Tested.{room-more, room-left}
 use Rattle.well_formed.proofs.total_fits.Statement.{statement}
 use Rattle.well_formed.proofs.total_fits.Tie as tie
 

@@ -5,7 +5,7 @@ use lib.ListN.{length, length-map}
 use borrow.Author.Needs.{needs}
 use Rattle.code.specs.Definitions.Sheets.{limits}
 use Rattle.code.specs.Laws.Exactly.{exactly-iff}
-use Rattle.well_formed.specs.Tested.{table-tested}
+use Rattle.well_formed.proofs.Laws.Tested.{table-tested}
 use Rattle.well_formed.specs.Round.{well-formed}
 use Rattle.well_formed.proofs.well_formed.Statement.{statement}
 use Rattle.well_formed.proofs.well_formed.Tie as tie

@@ -5,7 +5,7 @@ use native.Mathlib.Omega.{arith}
 use lib.ListN.{length}
 use borrow.Author.Needs.{needs}
 use Rattle.code.specs.Definitions.Sheets.{limits}
-use Rattle.well_formed.specs.Tested.{word-unused, word-long, word-used}
+use Rattle.well_formed.proofs.Laws.Tested.{word-unused, word-long, word-used}
 use Rattle.well_formed.proofs.word_fits.Statement.{statement}
 use Rattle.well_formed.proofs.word_fits.Tie as tie
 

@@ -4,7 +4,7 @@ use native.Mathlib.Omega.{arith}
 use Rattle.code.specs.Definitions.Sheets.{limits}
 use Rattle.ban_theory.specs.Triples.{bansFrom}
 use Rattle.ban_copies.specs.Held.{held-own, held-again}
-use Rattle.ban_copies.specs.Filling.{Filled, filled-none, filled-more, filled-all}
+use Rattle.ban_copies.proofs.Laws.Filling.{Filled, filled-none, filled-more, filled-all}
 use borrow.Author.Needs.{needs}
 use Rattle.ban_copies.proofs.filling.fill.Statement.{statement}
 use Rattle.ban_copies.proofs.filling.fill.Tie as tie

@@ -9,7 +9,7 @@ use Rattle.code.specs.Definitions.Sheets.{limits}
 use Rattle.code.specs.Laws.Filling.{fill-next}
 use Rattle.ban_theory.specs.Triples.{bansFrom}
 use Rattle.ban_copies.specs.Coming.{entryBy, asked}
-use Rattle.ban_copies.specs.Filling.{entry-next, row-filled}
+use Rattle.ban_copies.proofs.Laws.Filling.{entry-next, row-filled}
 use borrow.Author.Needs.{needs}
 use Rattle.ban_copies.proofs.filling.fill_row.Statement.{statement}
 use Rattle.ban_copies.proofs.filling.fill_row.Tie as tie

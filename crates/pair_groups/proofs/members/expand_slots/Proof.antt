@@ -9,8 +9,8 @@ use Rattle.pair_storage.specs.Entries.{nodeAt, entriesIn}
 use Rattle.pair_storage.specs.Marks.{marks}
 use Rattle.pair_groups.specs.Contracts.{Expanding}
 use Rattle.pair_groups.specs.Parts.{space}
-use Rattle.pair_groups.specs.Steps.{same-number}
-use Rattle.pair_groups.specs.Straights.{slot-next, slot-goal, slots-ended}
+use Rattle.pair_groups.proofs.Laws.Steps.{same-number}
+use Rattle.pair_groups.proofs.Laws.Straights.{slot-next, slot-goal, slots-ended}
 use Rattle.pair_groups.proofs.members.expand_slots.Statement.{statement}
 use Rattle.pair_groups.proofs.members.expand_slots.Tie as tie
 

@@ -11,8 +11,8 @@ use Rattle.pair_slots.specs.Contracts.{Turned}
 use Rattle.pair_slots.specs.Words.{leastBehind}
 use Rattle.pair_groups.specs.Contracts.{Expanding}
 use Rattle.pair_groups.specs.Parts.{space}
-use Rattle.pair_groups.specs.Steps.{still-turned}
-use Rattle.pair_groups.specs.Words.{leads-comes, word-over, word-begun, words-ordered, word-next, word-goal, word-ended}
+use Rattle.pair_groups.proofs.Laws.Steps.{still-turned}
+use Rattle.pair_groups.proofs.Laws.Words.{leads-comes, word-over, word-begun, words-ordered, word-next, word-goal, word-ended}
 use Rattle.pair_groups.proofs.members.expand_word.Statement.{statement}
 use Rattle.pair_groups.proofs.members.expand_word.Tie as tie
 

@@ -10,7 +10,7 @@ use Rattle.pair_storage.specs.Marks.{marks}
 use Rattle.pair_slots.specs.Contracts.{Turned}
 use Rattle.pair_groups.specs.Contracts.{Expanding}
 use Rattle.pair_groups.specs.Parts.{goal-again, expanding-next}
-use Rattle.pair_groups.specs.Words.{words-ended}
+use Rattle.pair_groups.proofs.Laws.Words.{words-ended}
 use Rattle.pair_groups.proofs.members.expand_words.Statement.{statement}
 use Rattle.pair_groups.proofs.members.expand_words.Tie as tie
 

@@ -1,6 +1,6 @@
 -- `meet` by what stands at the pair: nothing new, a goal, or a pair that is marked and queued.
 use borrow.Author.Needs.{needs}
-use Rattle.pair_slots.specs.Arrivals.{above-fits, fresh-low, meets-known, meets-goal, meets-fresh}
+use Rattle.pair_slots.proofs.Laws.Arrivals.{above-fits, fresh-low, meets-known, meets-goal, meets-fresh}
 use Rattle.pair_slots.proofs.meeting.meet.Statement.{statement}
 use Rattle.pair_slots.proofs.meeting.meet.Tie as tie
 

@@ -1,7 +1,7 @@
 -- Each test that fails refutes the bound; the last one is the bound, with the numbers counted in fours.
 use native.Mathlib.Omega.{arith}
 use Rattle.code.specs.Laws.Exactly.{exactly-false}
-use Rattle.printing.specs.Rooms.{numbers-fit}
+use Rattle.printing.proofs.Laws.Rooms.{numbers-fit}
 use Rattle.printing.proofs.Lengths.fit.Statement.{statement}
 use Rattle.printing.proofs.Lengths.fit.Tie as tie
 

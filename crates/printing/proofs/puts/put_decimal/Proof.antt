@@ -1,6 +1,6 @@
 -- The digits that `io` writes are the fewest, so they are `decimal`.
 use mathlib.Core.Path.{_∙_}
-use Rattle.printing.specs.Decimals.{fewest-digits}
+use Rattle.printing.proofs.Laws.Decimals.{fewest-digits}
 use borrow.Author.Needs.{needs}
 use Rattle.printing.proofs.puts.put_decimal.Statement.{statement}
 use Rattle.printing.proofs.puts.put_decimal.Tie as tie

@@ -1,6 +1,6 @@
 -- The digits of the number are a field like any other.
 use mathlib.Core.Path.{_∙_}
-use Rattle.printing.specs.Decimals.{fewest-digits}
+use Rattle.printing.proofs.Laws.Decimals.{fewest-digits}
 use borrow.Author.Needs.{needs}
 use Rattle.printing.proofs.puts.put_number.Statement.{statement}
 use Rattle.printing.proofs.puts.put_number.Tie as tie

@@ -8,7 +8,7 @@ use lib.ListN.{length, length-map}
 use Rattle.printing.specs.Printed.{decimal}
 use Rattle.writing.specs.Puts.{Puts}
 use Rattle.writing.specs.Fields.{fieldsTo, none-put, field-fits, field-put, all-put}
-use Rattle.printing.specs.Numbers.{number-at}
+use Rattle.printing.proofs.Laws.Numbers.{number-at}
 use Rattle.printing.proofs.puts.put_numbers.Statement.{statement}
 use Rattle.printing.proofs.puts.put_numbers.Tie as tie
 

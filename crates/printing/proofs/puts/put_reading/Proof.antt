@@ -1,7 +1,7 @@
 -- The numbers take at most four bytes each, a comma included, since a byte has at most three digits; then CR LF.
 use borrow.Author.Needs.{needs}
 use native.Mathlib.Omega.{arith}
-use Rattle.printing.specs.Lengths.{length-numbers}
+use Rattle.printing.proofs.Laws.Lengths.{length-numbers}
 use Rattle.writing.specs.Puts.{puts-then, puts-length}
 use Rattle.printing.proofs.puts.put_reading.Statement.{statement}
 use Rattle.printing.proofs.puts.put_reading.Tie as tie

@@ -3,7 +3,7 @@ use borrow.Author.Needs.{needs}
 use Prim.Native.Nat.{_-_}
 use native.Mathlib.Omega.{arith}
 use Rattle.renumbering.specs.Reordering.{Filled, filled-none}
-use Rattle.renumbering.specs.Naming.{nameAt, unnamed, named-more, named-all}
+use Rattle.renumbering.proofs.Laws.Naming.{nameAt, unnamed, named-more, named-all}
 use Rattle.renumbering.proofs.origins.rename.Statement.{statement}
 use Rattle.renumbering.proofs.origins.rename.Tie as tie
 

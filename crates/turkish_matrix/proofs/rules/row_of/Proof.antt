@@ -3,8 +3,8 @@ use mathlib.Core.Path.{refl}
 use Prim.Native.Nat.{_-_, _≤_}
 use lib.ListN.{length}
 use Rattle.turkish.specs.Types.{types}
-use Rattle.turkish.specs.Padding.{Padding, padding-none, padding-next}
-use Rattle.turkish_matrix.specs.Rows.{entriesOf, word-spelt, entry-is, row-filled}
+use Rattle.turkish.proofs.Laws.Padding.{Padding, padding-none, padding-next}
+use Rattle.turkish_matrix.proofs.Laws.Rows.{entriesOf, word-spelt, entry-is, row-filled}
 use borrow.Author.Needs.{needs}
 use Rattle.turkish_matrix.proofs.rules.row_of.Statement.{statement}
 use Rattle.turkish_matrix.proofs.rules.row_of.Tie as tie

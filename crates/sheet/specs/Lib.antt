@@ -1,3 +1,0 @@
-pub mod Judging
-pub mod Taking
-pub mod Either
