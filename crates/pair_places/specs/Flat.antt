@@ -129,7 +129,7 @@ module _ (f : List ℕ) where
   unfolding rivalsAt
   firstNode x y = if rivalsAt x y then pairNode (firstAt x) (firstAt y) else cellCount
 
-  -- The pairs as a graph: node `cell p q` is the pair p, q. 01: "A pair of two ends means ambiguous."
+  -- The pairs as a graph, 000's testing graph: node `cell p q` is the pair p, q. 01: "A pair of two ends means ambiguous."
   abbrev pub pairGraph : Graph
   pairGraph = record {
     nodes = cellCount;

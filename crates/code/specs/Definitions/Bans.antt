@@ -7,7 +7,7 @@ use lib.ListN.{length, getD}
 use Rattle.code.specs.Definitions.Lists.{if_then_else_, any}
 use Rattle.code.specs.Definitions.Tables.{Table, size, word}
 
--- 02, request 2: "X never follows Y then Z"
+-- 02, request 2: "X never follows Y then Z"; in 000, section 4, a second-order constraint
 pub record Ban : Type 0 where
   pub x : ℕ
   pub y : ℕ
