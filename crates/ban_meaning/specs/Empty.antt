@@ -114,4 +114,4 @@ empty-gives given e = enlarges-unique e (empty-list given)
 
 -- So the value without copies of a sheet's code is one that a sheet and a list give.
 pub plain-lists : {l : Limits} {c : Code} → FromSheet l c → FromLists l (plainOf l c)
-plain-lists {c = c} given = record { tabulate = c; given = given; list = []; gives = empty-list given }
+plain-lists {c = c} given = record { table = c; given = given; list = []; gives = empty-list given }

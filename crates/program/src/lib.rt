@@ -1,5 +1,7 @@
-// What the programs share: a word of help, the files that their arguments name, standard input and standard output. Where one of these fails, a line on
-// standard error tells it: `what`, which names the program and what it could not do, then the file and the system's reason.
+// What the programs share: a word of help, the files that their arguments name, standard input and standard output, and refusals told in words. Where a file
+// or a stream fails, a line on standard error tells it: `what`, which names the program and what it could not do, then the file and the system's reason.
+
+pub mod refusals;
 
 use libc::STDERR_FILENO;
 use libc::STDIN_FILENO;

@@ -16,6 +16,8 @@ use printing::put_refused;
 use program::asks_help;
 use program::read_named;
 use program::read_standard;
+use program::refusals::tell_answer;
+use program::refusals::tell_refusal;
 use program::write_standard;
 use streams::Input;
 use well_enlarged::plain;
@@ -63,12 +65,21 @@ fn give_classes(lettered: bool, sheet: &[u8]) -> TakenClasses
     }
 }
 
+// Tells the refusal of a text.
+fn tell_text(s: Splitting) {
+    match s {
+        Splitting::Split(_) => {}
+        Splitting::Refused(refusal) => tell_refusal(b"syllabify: the text", refusal),
+    }
+}
+
 // The refusal of the class sheet, or the text split by an accepted code and its classes.
 fn split_by(code: Code, letters: TakenClasses, text: &[u8], out: &mut [u8]) -> Splitting
     requires { ⌜ FromSheet limits code × (letters .answer ≡ Accepted → FromClassSheet limits (letters .classes)) × (length (now out) ≡ outputRoom) ⌝ }
     ensures { λ r. ⌜ SplitsGiven (record { answer = Accepted; code = code }) letters (now (text .entry)) (now (out .entry)) (now (out .exit)) r ⌝ }
 {
     let answer = letters.answer;
+    tell_answer(b"syllabify: the class sheet", answer);
     match answer {
         SheetAnswer::Refused(r) => Splitting::Refused(r),
         SheetAnswer::Accepted => {
@@ -77,7 +88,7 @@ fn split_by(code: Code, letters: TakenClasses, text: &[u8], out: &mut [u8]) -> S
             let mut first = [0u8; Text::BYTES];
             let mut second = [0u8; Text::BYTES];
             let mut work = [0u64; Text::BYTES + 1];
-            text_split::split(
+            let split = text_split::split(
                 value,
                 letters.classes,
                 text,
@@ -86,7 +97,9 @@ fn split_by(code: Code, letters: TakenClasses, text: &[u8], out: &mut [u8]) -> S
                 &mut first,
                 &mut second,
                 &mut work,
-            )
+            );
+            tell_text(split);
+            split
         }
     }
 }
@@ -97,6 +110,7 @@ fn split_given(given: Taken, letters: TakenClasses, text: &[u8], out: &mut [u8])
     ensures { λ r. ⌜ SplitsGiven given letters (now (text .entry)) (now (out .entry)) (now (out .exit)) r ⌝ }
 {
     let answer = given.answer;
+    tell_answer(b"syllabify: the code sheet", answer);
     match answer {
         SheetAnswer::Refused(refusal) => Splitting::Refused(refusal),
         SheetAnswer::Accepted => split_by(given.code, letters, text, out),

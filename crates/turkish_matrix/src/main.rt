@@ -4,6 +4,8 @@ mod rules;
 
 use libc::STDOUT_FILENO;
 use printing::puts::put_numbers;
+use program::asks_help;
+use program::write_standard;
 use rules::row_of;
 use turkish::Types;
 use writing::put;
@@ -66,9 +68,17 @@ fn print_table(out: &mut [u8]) -> usize
 }
 
 fn main() {
+    if asks_help(os::arg_count()) {
+        io::write_all(
+            STDOUT_FILENO,
+            b"usage: turkish_matrix\nPrints which of the twelve Turkish syllable types may follow which, worked out from two rules, as a constant of the source.\n",
+        );
+        return;
+    }
     let mut out = [0u8; Output::BYTES];
     let length = print_table(&mut out);
-    if !io::write_all(STDOUT_FILENO, &out[..length]) {
-        os::fail(b"turkish_matrix: cannot write standard output");
-    }
+    write_standard(
+        b"turkish_matrix: cannot write standard output",
+        &out[..length],
+    );
 }

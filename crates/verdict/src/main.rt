@@ -11,6 +11,7 @@ use printing::Lengths;
 use program::asks_help;
 use program::read_named;
 use program::read_standard;
+use program::refusals::tell_answer;
 use program::write_standard;
 use streams::Input;
 ghost use Prim.Native.Nat.{_<_};
@@ -36,13 +37,19 @@ fn give(sheet: &[u8], list: &[u8]) -> Enlargement
 {
     let taken = sheet::take_in(sheet);
     let answer = taken.answer;
+    tell_answer(b"verdict: the sheet", answer);
     let value = well_enlarged::plain(taken.code);
     match answer {
         SheetAnswer::Refused(_) => Enlargement {
             answer: answer,
             enlarged: value,
         },
-        SheetAnswer::Accepted => ban_enlarge::enlarge(value, list),
+        SheetAnswer::Accepted => {
+            let given = ban_enlarge::enlarge(value, list);
+            let listed = given.answer;
+            tell_answer(b"verdict: the ban list", listed);
+            given
+        }
     }
 }
 

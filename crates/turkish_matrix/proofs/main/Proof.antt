@@ -9,21 +9,24 @@ print-table-requires : tie.Need-print-table-requires
 print-table-requires c κs = search (needs, printed-long)
 
 array-share-prefix-out : tie.Need-array-share-prefix-out
-array-share-prefix-out c = starts-counts (c .before .print-table .ensures) .0
+array-share-prefix-out c = starts-counts (c .before .before .print-table .ensures) .0
 
-slice-aggregate-write-all : tie.Need-slice-aggregate-write-all
-slice-aggregate-write-all c = starts-counts (c .before .before .print-table .ensures) .1
+slice-aggregate-write-standard-2 : tie.Need-slice-aggregate-write-standard-2
+slice-aggregate-write-standard-2 c = starts-counts (c .before .before .before .print-table .ensures) .1
 
 pub main-spec : {M : Type 1} → statement M
 main-spec =
     tie.close
     (tie.spec
+    (λ c κs. search needs)
+    (λ c κs. search needs)
+    (λ c. search needs)
+    (λ c κs. search needs)
+    (λ c. search needs)
     (λ c. search needs)
     print-table-requires
+    (λ c. search needs)
     array-share-prefix-out
-    slice-aggregate-write-all
+    slice-aggregate-write-standard-2
     (λ c κs. search needs)
-    (λ c. search needs)
-    (λ c κs. search needs)
-    (λ c. search needs)
     (λ c. search needs))
