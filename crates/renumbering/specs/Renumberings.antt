@@ -14,10 +14,10 @@ use Rattle.code.specs.declared.Limits.{Limits}
 use Rattle.code.specs.Definitions.Lists.{tabulate}
 use Rattle.code.specs.Definitions.Tables.{size, word, symbolsOf, noWord, noRow, entryOf, tableOf}
 use Rattle.code.specs.Definitions.Renumbering.{numberAt, oldNumber, reordered, reorderedRow, renumberedCode}
-use Rattle.code.specs.Laws.Lists.{length-tabulate, getD-tabulate, getD-tabulate-past}
+use Rattle.code.specs.Laws.Lists.{length-tabulate, getD-tabulate}
 use Rattle.ban_theory.specs.CoversSame.{Agrees}
 use Rattle.ban_theory.specs.Renumbered.{Order, renumbered}
-use Rattle.code.specs.Laws.WellFormed.{CellsFit, lenOf, WordFits, RowFits, WellFormed}
+use Rattle.code.specs.Laws.WellFormed.{CellsFit, tabulate-cells, lenOf, WordFits, RowFits, WellFormed}
 use Rattle.code.specs.Laws.Words.{size-count, word-symbols}
 use Rattle.renumbering.specs.Sums.{sumOf, sum-same, sum-order}
 
@@ -70,19 +70,6 @@ module _ (l : Limits) (old : List ℕ) (c : Code) where
   unfolding renumberedCode
   mark-there i h = getD-tabulate (λ k. getD (c .begins) (formerly old c k) 0) (l .words) i 0 h
 
--- The list of f 0 to f (n - 1), each below the bound, and zero past those in use.
-module _ (bound used : ℕ) (f : ℕ → ℕ) (n : ℕ) where
-  below-at : ((k : ℕ) → f k < bound) → (k : ℕ) → Dec (k < n) → getD (tabulate f n) k 0 < bound
-  below-at below k (yes h) = rw (getD-tabulate f n k 0 h) (below k)
-  below-at below k (no h) = rw (getD-tabulate-past f n k 0 (omega arith)) (omega (arith, below k))
-
-  zero-at : ((k : ℕ) → used ≤ k → f k ≡ 0) → (k : ℕ) → used ≤ k → Dec (k < n) → getD (tabulate f n) k 0 ≡ 0
-  zero-at none k h (yes d) = getD-tabulate f n k 0 d ∙ none k h
-  zero-at none k h (no d) = getD-tabulate-past f n k 0 (omega arith)
-
-  cells-tabulate : ((k : ℕ) → f k < bound) → ((k : ℕ) → used ≤ k → f k ≡ 0) → CellsFit bound used (tabulate f n)
-  cells-tabulate below none = record { below = λ k. below-at below k (decLt k n); zero = λ k h. zero-at none k h (decLt k n) }
-
 module _ {l : Limits} (old : List ℕ) {c : Code} (well : WellFormed l c) {new : ℕ → ℕ} (o : Order (c .count) (λ i. getD old i 0) new) where
   all-numbers : Order (l .words) (formerly old c) (numberAt (c .count) new)
   all-numbers = number-order (well .most) o
@@ -98,7 +85,7 @@ module _ {l : Limits} (old : List ℕ) {c : Code} (well : WellFormed l c) {new :
 
   cells-kept : (bound : ℕ) (a : List ℕ) → CellsFit bound (c .count) a → CellsFit bound (c .count) (reordered l old (c .count) 0 a)
   cells-kept bound a fits =
-      cells-tabulate bound (c .count) (λ i. getD a (formerly old c i) 0) (l .words) (λ k. fits .below (formerly old c k)) (λ k h. fits .zero (formerly old c k) (rw (past k h) h))
+      tabulate-cells bound (c .count) (l .words) (λ i. getD a (formerly old c i) 0) (omega (arith, fits .below 0)) (λ k. fits .below (formerly old c k)) (λ k h. fits .zero (formerly old c k) (rw (past k h) h))
 
   word-fits : (k : ℕ) → k < l .words → WordFits l (c .count) k (getD (renumberedCode l old c .words) k noWord)
   word-fits k h =

@@ -16,11 +16,10 @@ use Rattle.code.specs.Definitions.Lists.{if_then_else_, tabulate}
 use Rattle.code.specs.Definitions.Tables.{noWord, noRow, entryOf, tableOf}
 use Rattle.code.specs.Definitions.Bans.{nextWord}
 use Rattle.code.specs.Definitions.Enlarged.{copiesIn}
-use Rattle.code.specs.Laws.Lists.{length-tabulate, getD-tabulate, sum-bound}
+use Rattle.code.specs.Laws.Lists.{length-tabulate, getD-tabulate, tabulate-cell, sum-bound}
 use Rattle.code.specs.Laws.WellFormed.{lenOf, WordFits, RowFits, WellFormed}
 use Rattle.well_enlarged.specs.WellEnlarged.{WellEnlarged}
 use Rattle.well_enlarged.specs.Numbers.{next-within}
-use Rattle.well_enlarged.specs.Made.{tabulate-cell}
 
 abbrev pub blankWord : Limits → Word
 blankWord l = record { symbols = tabulate (λ p. 0) (l .symbols); len = 0 }

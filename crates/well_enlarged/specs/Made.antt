@@ -18,7 +18,7 @@ use Rattle.code.specs.Definitions.Tables.{noWord, noRow, entryOf, tableOf}
 use Rattle.code.specs.Definitions.Bans.{Ban, Copy, noCopy, bannedBy, copiesOf, copyAt, origin, nextWord, mayCome, enlarged}
 use Rattle.code.specs.Definitions.Enlarged.{enlargedCount, enlargedWord, enlargedEntry, behindOf, enlargedCode, refused17, copiesIn}
 use Rattle.code.specs.Laws.Below.{Some}
-use Rattle.code.specs.Laws.Lists.{or-neither, length-tabulate, getD-tabulate, getD-tabulate-past, tabulate-list, tabulate-same, sum-past}
+use Rattle.code.specs.Laws.Lists.{or-neither, length-tabulate, getD-tabulate, tabulate-list, tabulate-same, tabulate-cell, sum-past}
 use Rattle.ban_theory.specs.CopyLists.{origin-word, origin-copy, origin-known, next-of, next-known}
 use Rattle.ban_theory.specs.Copies.{Serves, comes, unbanned-copy}
 use Rattle.ban_theory.specs.BanLists.{Known, banned-known, all-copies, copies-serve}
@@ -29,14 +29,6 @@ use Rattle.well_enlarged.specs.WellEnlarged.{NumberFits, Numbered, CopyF
 use Rattle.well_enlarged.specs.Numbers.{copyIn}
 use Rattle.well_enlarged.specs.FromBans.{FromBans}
 use Rattle.well_enlarged.specs.Totals.{table-serves, enlarged-lengths}
-
--- What holds of the numbers of a table, and of 0, holds of whatever is read from it.
-pub tabulate-cell : (P : ℕ → Type 0) (f : ℕ → ℕ) (n p : ℕ) → (p < n → P (f p)) → P 0 → P (getD (tabulate f n) p 0)
-tabulate-cell P f n p here past = go (decLt p n)
-  where
-    go : Dec (p < n) → P (getD (tabulate f n) p 0)
-    go (yes h) = subst P (sym (getD-tabulate f n p 0 h)) (here h)
-    go (no h) = subst P (sym (getD-tabulate-past f n p 0 (omega arith))) past
 
 bit : (m : Bool) → (if m then 1 else 0) < 2
 bit true = omega arith

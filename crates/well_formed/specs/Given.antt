@@ -15,25 +15,13 @@ use Rattle.code.specs.declared.Limits.{Limits}
 use Rattle.code.specs.Definitions.Lists.{if_then_else_, tabulate, sum}
 use Rattle.code.specs.Definitions.Tables.{noWord, noRow}
 use Rattle.code.specs.Definitions.Sheets.{isDigit, valueOf, body, grid, firstField, wordLength, hasStarts, rowPlace, badEntry, badRow, startField, badWord, wordOf, rowOf, beginsOf, codeOf, refused4, FromSheet}
-use Rattle.code.specs.Laws.Lists.{length-tabulate, getD-tabulate, getD-tabulate-past, tabulate-same, tabulate-map, any-at, sum-past, or-neither}
+use Rattle.code.specs.Laws.Lists.{length-tabulate, getD-tabulate, tabulate-same, tabulate-map, any-at, sum-past, or-neither}
 use Rattle.code.specs.Laws.Clean.{clean-body, records-some}
 use Rattle.code.specs.Laws.Fits.{Fits}
 use Rattle.code.specs.Laws.Records.{entry-byte, place-some, wide-at, begins-past, width, bits}
-use Rattle.code.specs.Laws.WellFormed.{lenOf, CellsFit, WordFits, RowFits, WellFormed}
+use Rattle.code.specs.Laws.WellFormed.{lenOf, tabulate-cells, CellsFit, WordFits, RowFits, WellFormed}
 use Rattle.well_formed.specs.Accepts.{accepts}
 use Rattle.csv.specs.Digits.{value-symbol, entryValue, first-digits}
-
--- The cells of a table, from the function that it is made of.
-tabulate-cell : (f : ℕ → ℕ) (m p : ℕ) (P : ℕ → Type 0) → P (f p) → P 0 → Dec (p < m) → P (getD (tabulate f m) p 0)
-tabulate-cell f m p P inside past (yes h) = rw (getD-tabulate f m p 0 h) inside
-tabulate-cell f m p P inside past (no h) = rw (getD-tabulate-past f m p 0 (omega arith)) past
-
-module _ (bound used m : ℕ) (f : ℕ → ℕ) (some : 0 < bound) (below : (p : ℕ) → f p < bound) (zero : (p : ℕ) → used ≤ p → f p ≡ 0) where
-  tabulate-cells : CellsFit bound used (tabulate f m)
-  tabulate-cells = record {
-    below = λ p. tabulate-cell f m p (λ v. v < bound) (below p) some (decLt p m);
-    zero = λ p h. tabulate-cell f m p (λ v. v ≡ 0) (zero p h) refl (decLt p m);
-  }
 
 module _ (l : Limits) (g : List (List (List ℕ))) where
   nothing : (k : ℕ) → length g ≤ k → getD g k [] ≡ []
