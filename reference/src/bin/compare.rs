@@ -74,7 +74,12 @@ fn kind(printed: &[u8]) -> String {
 /// What the program prints for a sheet on its standard input; the path of a ban list, if there is one, is its argument.
 fn printed(program: &str, sheet: &[u8], list: Option<impl AsRef<Path>>) -> io::Result<Vec<u8>> {
     let arguments = list.iter().map(|path| path.as_ref());
-    let mut child = Command::new(program).args(arguments).stdin(Stdio::piped()).stdout(Stdio::piped()).spawn()?;
+    let mut child = Command::new(program)
+        .args(arguments)
+        .stdin(Stdio::piped())
+        .stdout(Stdio::piped())
+        .stderr(Stdio::null())
+        .spawn()?;
     let mut input = child.stdin.take().expect("its standard input is a pipe");
     // A program that stops reading a sheet too long for it is in its right.
     let _ = input.write_all(sheet);
