@@ -9,7 +9,7 @@ use std::io::{self, Write};
 fn main() -> io::Result<()> {
     let arguments: Vec<_> = std::env::args_os().skip(1).collect();
     if arguments.len() > 1 {
-        eprintln!("usage: reference [BANS.csv] < SHEET.csv");
+        eprintln!("usage: reference [LIST.bans] < SHEET.csv");
         return Ok(());
     }
     let sheet = read(io::stdin(), Code::MAX_SHEET_BYTES)?;

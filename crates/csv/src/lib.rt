@@ -1,4 +1,5 @@
-// The bytes of an RFC 4180 file of digits, a code sheet or another: which may stand in it, where it ends, and how far a field goes.
+// The bytes of an RFC 4180 file of digits, a code sheet or another: which may stand in it, where it ends, and how far a field goes. In specs/ also how such a file
+// is written, and that it is read back.
 
 use code::bools::or;
 ghost use mathlib.Core.Path.{_≡_};

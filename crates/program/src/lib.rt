@@ -26,14 +26,28 @@ fn is_same(a: &[u8], b: &[u8]) -> bool {
     true
 }
 
-// Whether the first argument asks for help, of a program that has so many arguments, its own name among them.
-pub fn asks_help(arguments: usize) -> bool {
+// Whether the first of so many arguments asks for help; the program's own name is one of them.
+fn asks_help(arguments: usize) -> bool {
     if arguments < 2 {
         return false;
     }
     let mut word = io::buffer();
     let n = os::arg(1, &mut word);
     is_same(&word[..n], b"--help")
+}
+
+// Whether a program that takes so many arguments at the most goes on. Help that is asked for is written on standard output; that there are too many arguments
+// is told by its usage on standard error.
+pub fn goes_on(arguments: usize, most: usize, help: &[u8], usage: &[u8]) -> bool {
+    if asks_help(arguments) {
+        io::write_all(STDOUT_FILENO, help);
+        return false;
+    }
+    if most < arguments {
+        io::write_all(STDERR_FILENO, usage);
+        return false;
+    }
+    true
 }
 
 fn is_failed(read: Input) -> bool {

@@ -14,7 +14,7 @@ use Rattle.code.specs.declared.Limits.{Limits}
 use Rattle.code.specs.Definitions.Lists.{tabulate}
 use Rattle.code.specs.Definitions.Tables.{size, word, symbolsOf, noWord, noRow, entryOf, tableOf}
 use Rattle.code.specs.Definitions.Renumbering.{numberAt, oldNumber, reordered, reorderedRow, renumberedCode}
-use Rattle.code.specs.Laws.Lists.{length-tabulate, getD-tabulate}
+use Rattle.code.specs.Laws.Lists.{length-tabulate, getD-tabulate, tabulate-cell}
 use Rattle.ban_theory.specs.CoversSame.{Agrees}
 use Rattle.ban_theory.specs.Renumbered.{Order, renumbered}
 use Rattle.code.specs.Laws.WellFormed.{CellsFit, tabulate-cells, lenOf, WordFits, RowFits, WellFormed}
@@ -101,7 +101,7 @@ module _ {l : Limits} (old : List ℕ) {c : Code} (well : WellFormed l c) {new :
       record {
         array = length-tabulate f (l .words);
         entries = cells-kept 2 (getD (c .rows) (formerly old c x) noRow .entries) (r .entries);
-        unused = λ g y. zero-at 2 0 f (l .words) (λ k i. r .unused (rw (past x g) g) (formerly old c k)) y (omega arith) (decLt y (l .words));
+        unused = λ g y. tabulate-cell (λ v. v ≡ 0) f (l .words) y (λ i. r .unused (rw (past x g) g) (formerly old c y)) refl;
       }
 
   same-total : sumOf (lenOf (renumberedCode l old c)) (l .words) ≡ sumOf (lenOf c) (l .words)

@@ -10,10 +10,8 @@ use code::Splitting;
 use code::Taken;
 use code::TakenClasses;
 use code::Text;
-use libc::STDERR_FILENO;
-use libc::STDOUT_FILENO;
 use printing::put_refused;
-use program::asks_help;
+use program::goes_on;
 use program::read_named;
 use program::read_standard;
 use program::refusals::tell_answer;
@@ -166,22 +164,31 @@ fn answer_input(
     answer(named, &file[..k], lettered, &classes[..j], &input[..n], out)
 }
 
-// The answer to standard input on standard output. What cannot be read or written is told on standard error, and a sheet, a class sheet or a text that was not
-// read whole gets no answer.
+// The answer to standard input on standard output, by the sheets at the start of their buffers.
+fn answer_standard(named: bool, file: &[u8], k: usize, lettered: bool, classes: &[u8], j: usize)
+    requires { ⌜ Counts k (now file) × Counts j (now classes) × (limits .bytes < length (now file)) × (limits .classes < length (now classes)) ⌝ }
+{
+    let mut input = [0u8; Text::BYTES + 1];
+    let read = read_standard(b"syllabify: cannot read standard input", &mut input);
+    let Input::Bytes(n) = read else {
+        return;
+    };
+    let mut out = [0u8; Output::BYTES];
+    let length = answer_input(named, file, k, lettered, classes, j, &input, n, &mut out);
+    write_standard(b"syllabify: cannot write standard output", &out[..length]);
+}
+
+// Splits standard input by the files that the arguments name. What cannot be read or written is told on standard error, and a sheet, a class sheet or a text
+// that was not read whole gets no answer.
 fn main() {
     let arguments = os::arg_count();
-    if asks_help(arguments) {
-        io::write_all(
-            STDOUT_FILENO,
-            b"usage: syllabify [SHEET.csv [CLASSES.classes]] < TEXT\nSplits the words of a text into syllables: by the Turkish types and letters, or by those of a code sheet and a class sheet. docs/GUIDE.md has their form, and what each refusal means.\n",
-        );
-        return;
-    }
-    if 3 < arguments {
-        io::write_all(
-            STDERR_FILENO,
-            b"syllabify takes at most two arguments; usage: syllabify [SHEET.csv [CLASSES.classes]] < TEXT\n",
-        );
+    let goes = goes_on(
+        arguments,
+        3,
+        b"usage: syllabify [SHEET.csv [CLASSES.classes]] < TEXT\nSplits the words of a text into syllables: by the Turkish types and letters, or by those of a code sheet and a class sheet. docs/GUIDE.md has their form, and what each refusal means.\n",
+        b"syllabify takes at most two arguments; usage: syllabify [SHEET.csv [CLASSES.classes]] < TEXT\n",
+    );
+    if !goes {
         return;
     }
     let mut file = [0u8; Sheet::BYTES + 1];
@@ -204,22 +211,5 @@ fn main() {
     let Input::Bytes(j) = classed else {
         return;
     };
-    let mut input = [0u8; Text::BYTES + 1];
-    let read = read_standard(b"syllabify: cannot read standard input", &mut input);
-    let Input::Bytes(n) = read else {
-        return;
-    };
-    let mut out = [0u8; Output::BYTES];
-    let length = answer_input(
-        1 < arguments,
-        &file,
-        k,
-        2 < arguments,
-        &classes,
-        j,
-        &input,
-        n,
-        &mut out,
-    );
-    write_standard(b"syllabify: cannot write standard output", &out[..length]);
+    answer_standard(1 < arguments, &file, k, 2 < arguments, &classes, j);
 }

@@ -2,9 +2,8 @@
 
 mod rules;
 
-use libc::STDOUT_FILENO;
 use printing::puts::put_numbers;
-use program::asks_help;
+use program::goes_on;
 use program::write_standard;
 use rules::row_of;
 use turkish::Types;
@@ -68,11 +67,13 @@ fn print_table(out: &mut [u8]) -> usize
 }
 
 fn main() {
-    if asks_help(os::arg_count()) {
-        io::write_all(
-            STDOUT_FILENO,
-            b"usage: turkish_matrix\nPrints which of the twelve Turkish syllable types may follow which, worked out from two rules, as a constant of the source.\n",
-        );
+    let goes = goes_on(
+        os::arg_count(),
+        1,
+        b"usage: turkish_matrix\nPrints which of the twelve Turkish syllable types may follow which, worked out from two rules, as a constant of the source.\n",
+        b"turkish_matrix takes no argument; usage: turkish_matrix\n",
+    );
+    if !goes {
         return;
     }
     let mut out = [0u8; Output::BYTES];

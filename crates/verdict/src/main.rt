@@ -5,10 +5,8 @@ use code::Judgement;
 use code::Sheet;
 use code::SheetAnswer;
 use decipher::Pairs;
-use libc::STDERR_FILENO;
-use libc::STDOUT_FILENO;
 use printing::Lengths;
-use program::asks_help;
+use program::goes_on;
 use program::read_named;
 use program::read_standard;
 use program::refusals::tell_answer;
@@ -99,18 +97,13 @@ fn answer_input(input: &[u8], n: usize, file: &[u8], k: usize, out: &mut [u8]) -
 // sheet or a list that was not read whole gets no answer.
 fn main() {
     let arguments = os::arg_count();
-    if asks_help(arguments) {
-        io::write_all(
-            STDOUT_FILENO,
-            b"usage: verdict [BANS.csv] < SHEET.csv\nSays whether the code of a sheet is ambiguous, or decipherable with which delay. docs/GUIDE.md has the form of a sheet and of a ban list, and what each refusal means.\n",
-        );
-        return;
-    }
-    if 2 < arguments {
-        io::write_all(
-            STDERR_FILENO,
-            b"verdict takes at most one argument; usage: verdict [BANS.csv] < SHEET.csv\n",
-        );
+    let goes = goes_on(
+        arguments,
+        2,
+        b"usage: verdict [LIST.bans] < SHEET.csv\nSays whether the code of a sheet is ambiguous, or decipherable with which delay. docs/GUIDE.md has the form of a sheet and of a ban list, and what each refusal means.\n",
+        b"verdict takes at most one argument; usage: verdict [LIST.bans] < SHEET.csv\n",
+    );
+    if !goes {
         return;
     }
     let mut file = [0u8; Sheet::BYTES + 1];

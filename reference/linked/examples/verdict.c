@@ -52,7 +52,7 @@ static size_t read_file(FILE *file, const char *name, uint8_t *buffer, size_t ro
 
 int main(int count, char **arguments) {
     if (count > 2) {
-        fprintf(stderr, "usage: %s [BANS.csv] < SHEET.csv\n", arguments[0]);
+        fprintf(stderr, "usage: %s [LIST.bans] < SHEET.csv\n", arguments[0]);
         return 2;
     }
     size_t length = read_file(stdin, "standard input", sheet, sizeof sheet);

@@ -1,34 +1,22 @@
--- What was read lies within its buffer, and the bytes answered within the output buffer.
+-- What was read of the two sheets lies within their buffers.
 use Rattle.streams.specs.Inputs.{holds-bytes}
-use Rattle.syllabify.proofs.Laws.Ways.{answer-counts}
 use borrow.Author.Needs.{needs}
 use Rattle.syllabify.proofs.main.Statement.{statement}
 use Rattle.syllabify.proofs.main.Tie as tie
 
-answer-input-requires : tie.Need-answer-input-requires
-answer-input-requires c κs =
-    let told = c .before .before .before .before .before in
-    let counts = holds-bytes _ (told .read .given .1) (told .before .before .before .read-standard .ensures) in
-    let classes-told = told .before .before .before .before .before .before .before in
+answer-standard-requires : tie.Need-answer-standard-requires
+answer-standard-requires c κs =
+    let classes-told = c .before .before .before in
     let classes-counts = holds-bytes _ (classes-told .classed .given .1) (classes-told .before .before .before .read-named2 .ensures .holds) in
     let sheet-told = classes-told .before .before .before .before .before .before .before in
     let sheet-counts = holds-bytes _ (sheet-told .listed .given .1) (sheet-told .before .before .before .read-named .ensures .holds) in
-    search (needs, counts, classes-counts, sheet-counts)
-
-array-share-prefix-out : tie.Need-array-share-prefix-out
-array-share-prefix-out c = answer-counts (c .before .before .answer-input .ensures .answers) .0
-
-slice-aggregate-write-standard-2 : tie.Need-slice-aggregate-write-standard-2
-slice-aggregate-write-standard-2 c = answer-counts (c .before .before .before .answer-input .ensures .answers) .1
+    search (needs, classes-counts, sheet-counts)
 
 pub main-spec : {M : Type 1} → statement M
 main-spec =
     tie.close
     (tie.spec
     (λ c κs. search needs)
-    (λ c κs. search needs)
-    (λ c. search needs)
-    (λ c κs. search needs)
     (λ c. search needs)
     (λ c. search needs)
     (λ c κs. search needs)
@@ -47,17 +35,5 @@ main-spec =
     (λ c. search needs)
     (λ c. search needs)
     (λ c. search needs)
-    (λ c κs. search needs)
-    (λ c. search needs)
-    (λ c. search needs)
-    (λ c. search needs)
-    (λ c. search needs)
-    (λ c. search needs)
-    (λ c. search needs)
-    (λ c. search needs)
-    answer-input-requires
-    (λ c. search needs)
-    array-share-prefix-out
-    slice-aggregate-write-standard-2
-    (λ c κs. search needs)
+    answer-standard-requires
     (λ c. search needs))
