@@ -13,31 +13,18 @@ use Rattle.code.specs.declared.SheetAnswer.the-variants.{Refused}
 use Rattle.code.specs.Definitions.BanLists.{bansOf}
 use Rattle.code.specs.Definitions.Enlarged.{blankEnlarged}
 use Rattle.code.specs.Definitions.Operations.{Condition, Lowest, NoneHolds, banConditions, Enlarges, refused, enlarged}
+use Rattle.code.specs.Laws.Conditions.{lowest-unique, lowest-none}
 use Rattle.ban_meaning.specs.SameBans.{SameRecords, records-bans}
 use Rattle.ban_meaning.specs.Wrong.{refused16-same}
 use Rattle.ban_meaning.specs.Copied.{refused17-same}
-
--- The lowest refusal is unique,
-lowest-once : (cs : List Condition) (r i : Refusal) → Lowest cs r → Lowest cs i → r ≡ i
-lowest-once [] r i a b = absurd a
-lowest-once (c ∷ cs) r i (inl a) (inl b) = a .1 ∙ sym (b .1)
-lowest-once (c ∷ cs) r i (inl a) (inr b) = absurd (b .0 (a .0))
-lowest-once (c ∷ cs) r i (inr a) (inl b) = absurd (a .0 (b .0))
-lowest-once (c ∷ cs) r i (inr a) (inr b) = lowest-once cs r i (a .1) (b .1)
-
--- and there is none where none holds.
-lowest-some : (cs : List Condition) (r : Refusal) → Lowest cs r → NoneHolds cs → ⊥
-lowest-some [] r a n = a
-lowest-some (c ∷ cs) r (inl a) n = n .0 (a .0)
-lowest-some (c ∷ cs) r (inr a) n = lowest-some cs r (a .1) (n .1)
 
 module _ {l : Limits} {e : Enlarged} where
   -- Enlarging has at most one answer.
   pub enlarges-unique : {s : List ℕ} {x y : Enlargement} → Enlarges l e s x → Enlarges l e s y → x ≡ y
   enlarges-unique {s} (refused {r} h p) (refused {r = i} k q) =
-      p ∙ ap (λ (j : Refusal). record { answer = Refused j; enlarged = blankEnlarged l }) (lowest-once (banConditions l e s) r i h k) ∙ sym q
-  enlarges-unique {s} (refused {r} h p) (enlarged k q) = absurd (lowest-some (banConditions l e s) r h k)
-  enlarges-unique {s} (enlarged h p) (refused {r} k q) = absurd (lowest-some (banConditions l e s) r k h)
+      p ∙ ap (λ (j : Refusal). record { answer = Refused j; enlarged = blankEnlarged l }) (lowest-unique (banConditions l e s) r i h k) ∙ sym q
+  enlarges-unique {s} (refused {r} h p) (enlarged k q) = absurd (lowest-none (banConditions l e s) r h k)
+  enlarges-unique {s} (enlarged h p) (refused {r} k q) = absurd (lowest-none (banConditions l e s) r k h)
   enlarges-unique (enlarged h p) (enlarged k q) = p ∙ sym q
 
 -- The conditions of the two lists hold for the same refusals.
@@ -86,8 +73,8 @@ module _ (l : Limits) (e : Enlarged) (s u : List ℕ) (s-short : length s ≤ l 
   pub answers-same : {x y : Enlargement} → Enlarges l e s x → Enlarges l e u y → x .answer ≡ y .answer
   answers-same (refused {r} h p) (refused {r = i} k q) =
       ap (λ (z : Enlargement). z .answer) p
-      ∙ ap (λ (j : Refusal). Refused j) (lowest-once (banConditions l e u) r i (lowest-same (banConditions l e s) (banConditions l e u) conditions-same r h) k)
+      ∙ ap (λ (j : Refusal). Refused j) (lowest-unique (banConditions l e u) r i (lowest-same (banConditions l e s) (banConditions l e u) conditions-same r h) k)
       ∙ sym (ap (λ (z : Enlargement). z .answer) q)
-  answers-same (refused {r} h p) (enlarged k q) = absurd (lowest-some (banConditions l e u) r (lowest-same (banConditions l e s) (banConditions l e u) conditions-same r h) k)
-  answers-same (enlarged h p) (refused {r} k q) = absurd (lowest-some (banConditions l e u) r k (none-same (banConditions l e s) (banConditions l e u) conditions-same h))
+  answers-same (refused {r} h p) (enlarged k q) = absurd (lowest-none (banConditions l e u) r (lowest-same (banConditions l e s) (banConditions l e u) conditions-same r h) k)
+  answers-same (enlarged h p) (refused {r} k q) = absurd (lowest-none (banConditions l e u) r k (none-same (banConditions l e s) (banConditions l e u) conditions-same h))
   answers-same (enlarged h p) (enlarged k q) = ap (λ (z : Enlargement). z .answer) p ∙ sym (ap (λ (z : Enlargement). z .answer) q)

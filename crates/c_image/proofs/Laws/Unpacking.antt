@@ -1,4 +1,4 @@
--- A code read from bytes: each array is filled from its front until it is the table of its elements.
+-- A code read from bytes: each array is filled from its front until it is what its elements tabulate.
 use mathlib.Core.Path.{_≡_, _∙_}
 use mathlib.Core.List.{List, _++_, append-nil}
 use Prim.Native.Nat.{ℕ, _+_, _≤_, _<_}

@@ -1,0 +1,1 @@
+// Each public contract leaves one answer: theorems alone, in specs/. Nothing is built on them.
