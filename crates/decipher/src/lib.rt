@@ -24,8 +24,8 @@ ghost use Rattle.decipher.specs.Lent.{Searchable};
 pub struct Pairs {}
 
 impl Pairs {
-    // How many there are at most, whichever place comes first. The shortest ambiguous message has no more symbols.
-    pub const UNORDERED: usize = Code::SYMBOLS * (Code::SYMBOLS + 1) / 2;
+    // How many there are at most, whichever place comes first: half of n * (n + 1), by a shift. The shortest ambiguous message has no more symbols.
+    pub const UNORDERED: usize = (Code::SYMBOLS * (Code::SYMBOLS + 1)) >> 1;
     // Entries of a verdict's message buffer and of each reading buffer: as many, and one for each place, for the shared opening.
     pub const ROOM: usize = Pairs::UNORDERED + Code::SYMBOLS;
     // How many marks a search over them has at most: one for each place with each place.

@@ -68,9 +68,10 @@ enlarge-call-unique (EnlargeCall.unread h k c) (EnlargeCall.unread i j d) = (c �
 enlarge-call-unique {t} (EnlargeCall.unread h k c) (EnlargeCall.answered i j d) = absurd (apart t imageLength h i)
 enlarge-call-unique {t} (EnlargeCall.answered i j d) (EnlargeCall.unread h k c) = absurd (apart t imageLength h i)
 enlarge-call-unique {t} {b = b} (EnlargeCall.answered h x c) (EnlargeCall.answered i y d) =
-    let z = enlarges-unique x y in
-    (c .buffer ∙ ap (λ (w : Enlargement). afterSheet (w .answer) imageLength (imageOf (w .enlarged)) b) z ∙ sym (d .buffer),
-    c .number ∙ ap (λ (w : Enlargement). sheetNumber (w .answer) imageLength b) z ∙ sym (d .number))
+    let z = enlarges-unique x y in (
+      c .buffer ∙ ap (λ (w : Enlargement). afterSheet (w .answer) imageLength (imageOf (w .enlarged)) b) z ∙ sym (d .buffer),
+      c .number ∙ ap (λ (w : Enlargement). sheetNumber (w .answer) imageLength b) z ∙ sym (d .number),
+    )
 
 pub read-call-unique : {t m f g w a f1 g1 w1 a1 f2 g2 w2 a2 : List ℕ} {r q : ℕ} → ReadCall t m f g w a f1 g1 w1 a1 r → ReadCall t m f g w a f2 g2 w2 a2 q
     → (f1 ≡ f2) × (g1 ≡ g2) × (w1 ≡ w2) × (a1 ≡ a2) × (r ≡ q)
