@@ -16,15 +16,15 @@ pub struct Ban {
 /// lowest refusal that fits the list.
 pub fn take_in(list: &[u8], words: usize) -> Result<Vec<Ban>, Refusal> {
     if list.len() > Code::MAX_BANS_BYTES {
-        return Err(Refusal::SheetSize);
+        return Err(Refusal::SheetLength);
     }
     if list.is_empty() {
         return Ok(Vec::new());
     }
     if !bytes_fit(list, |byte| byte.is_ascii_digit()) {
-        return Err(Refusal::WrongBan);
+        return Err(Refusal::BanRecord);
     }
-    records(list).iter().map(|record| ban(record, words).ok_or(Refusal::WrongBan)).collect()
+    records(list).iter().map(|record| ban(record, words).ok_or(Refusal::BanRecord)).collect()
 }
 
 /// The ban of a record; none where it is not three words of the code, or its second and third are one word.

@@ -90,15 +90,15 @@ pub fn limit_sheets() -> Vec<(Vec<u8>, Option<Refusal>)> {
     let longer = [words(31, 4), words(1, 5)].concat();
     vec![
         (sheet_of(&words(32, 1)), None),
-        (sheet_of(&words(33, 1)), Some(Refusal::TooManyRecords)),
+        (sheet_of(&words(33, 1)), Some(Refusal::RecordCount)),
         (sheet_of(&words(32, 4)), None),
         (sheet_of(&words(8, 16)), None),
-        (sheet_of(&longer), Some(Refusal::TooManySymbols)),
+        (sheet_of(&longer), Some(Refusal::CodeLength)),
         (sheet_of(&words(1, 16)), None),
         (sheet_of(&words(1, 17)), Some(Refusal::WordLength)),
         (b"\r\n".to_vec(), Some(Refusal::WordLength)),
         (vec![b'0'; 4096], Some(Refusal::WordLength)),
-        (vec![b'0'; 4097], Some(Refusal::SheetSize)),
+        (vec![b'0'; 4097], Some(Refusal::SheetLength)),
     ]
 }
 
@@ -249,11 +249,11 @@ pub fn refused_lists() -> Vec<RefusedList> {
     };
     let lines = |list: &str| list.split_whitespace().map(|ban| format!("{ban}\r\n")).collect::<String>();
     let too_long = "10,0,1\r\n".repeat(2) + &"0,0,1\r\n".repeat(583);
-    let wrong = |name, list| refused(name, code_t(), list, Refusal::WrongBan);
+    let wrong = |name, list| refused(name, code_t(), list, Refusal::BanRecord);
     let many_words = lines(&(round_of_bans(16) + " 0,0,2"));
     let many_symbols = lines(&round_of_bans(4));
     vec![
-        refused("bans-refusal-1-too-long", turkish_twelve(), &too_long, Refusal::SheetSize),
+        refused("bans-refusal-1-too-long", turkish_twelve(), &too_long, Refusal::SheetLength),
         wrong("bans-refusal-16-byte", "0,0,1\r\n0,1;2\r\n"),
         wrong("bans-refusal-16-line-ends", "0,0,1\n0,1,2\n"),
         wrong("bans-refusal-16-blank-line", "0,0,1\r\n\r\n"),
@@ -261,9 +261,9 @@ pub fn refused_lists() -> Vec<RefusedList> {
         wrong("bans-refusal-16-leading-zero", "0,0,1\r\n0,01,2\r\n"),
         wrong("bans-refusal-16-y-equals-z", "0,0,1\r\n0,2,2\r\n"),
         wrong("bans-refusal-16-fields", "0,0,1\r\n1,2\r\n"),
-        refused("bans-refusal-17-words", sixteen_symbols(), &many_words, Refusal::TooManyCopies),
-        refused("bans-refusal-17-symbols", runs(&[16, 16, 16, 16, 1]), &many_symbols, Refusal::TooManyCopies),
-        refused("bans-refusal-several", sixteen_symbols(), &(many_words.clone() + "0,16,1\r\n"), Refusal::WrongBan),
+        refused("bans-refusal-17-words", sixteen_symbols(), &many_words, Refusal::BanLimit),
+        refused("bans-refusal-17-symbols", runs(&[16, 16, 16, 16, 1]), &many_symbols, Refusal::BanLimit),
+        refused("bans-refusal-several", sixteen_symbols(), &(many_words.clone() + "0,16,1\r\n"), Refusal::BanRecord),
         RefusedList {
             name: "bans-refusal-sheet-first",
             sheet: b"0,1,1\r\n1,1,2\r\n".to_vec(),
@@ -306,7 +306,7 @@ pub fn class_sheets() -> Vec<(Vec<u8>, Option<Refusal>)> {
         62,61,0/63,63,0/63,63,0 63,63,0/63,63,0/62,61,0 62,61,0/62,61,0 61,7A,1/65,61,0";
     let twice = "61,61,0/61,61,0 61,61,0/61,61,1 61,65,0/65,70,1 65,70,1/61,65,0 61,7A,1/65,65,0 65,65,0/61,7A,1 \
         00,00,0/FF,FF,0/00,00,0 41,5A,0/61,61,0/5E,B6,1";
-    let (size, wrong) = (Some(Refusal::SheetSize), Some(Refusal::ClassRecord));
+    let (size, wrong) = (Some(Refusal::SheetLength), Some(Refusal::ClassRecord));
     let (range, overlap) = (Some(Refusal::ClassRange), Some(Refusal::ClassOverlap));
     let lists = [
         (accepted, None),

@@ -77,7 +77,7 @@ impl Record {
 /// Each refusal is tested over the whole sheet before the next one.
 pub fn take_in(sheet: &[u8]) -> Result<Classes, Refusal> {
     if sheet.is_empty() || sheet.len() > MAX_SHEET_BYTES {
-        return Err(Refusal::SheetSize);
+        return Err(Refusal::SheetLength);
     }
     if !bytes_fit(sheet, is_digit) {
         return Err(Refusal::ClassRecord);

@@ -20,7 +20,7 @@ pub fn enlarge(code: &Code, bans: &[Ban]) -> Result<Code, Refusal> {
     let starts = code.starts.iter().copied().chain(copies.iter().map(|_| false)).collect();
     let mut enlarged = Code { words, starts, rows: vec![vec![false; count]; count], copies };
     if count > Code::MAX_WORDS || enlarged.symbols() > Code::MAX_SYMBOLS {
-        return Err(Refusal::TooManyCopies);
+        return Err(Refusal::BanLimit);
     }
     for last in 0..count {
         let y = enlarged.original(last);

@@ -23,14 +23,14 @@ pub fn joined(code: &Code, sequence: &[u8]) -> Vec<u8> {
 /// The message of a sequence, or refusal 9, 10 or 11, the lowest first.
 pub fn encode(code: &Code, sequence: &[u8]) -> Result<Vec<u8>, Refusal> {
     if sequence.iter().any(|&word| word as usize >= code.originals()) {
-        return Err(Refusal::WordNumber);
+        return Err(Refusal::UnknownWord);
     }
     if !permitted(code, sequence) {
-        return Err(Refusal::PairNotPermitted);
+        return Err(Refusal::ForbiddenPair);
     }
     let length: usize = sequence.iter().map(|&word| code.words[word as usize].len()).sum();
     if length > Code::MAX_MESSAGE_SYMBOLS {
-        return Err(Refusal::MessageTooLong);
+        return Err(Refusal::MessageLength);
     }
     Ok(joined(code, sequence))
 }

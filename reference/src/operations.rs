@@ -104,7 +104,7 @@ impl Operations for Reference {
         let code = table.code().ok_or(Refusal::NotFromSheet)?;
         let joined = crate::encode::encode(&code, sequence)?;
         if message.len() < joined.len() {
-            return Err(Refusal::BufferTooShort);
+            return Err(Refusal::ShortBuffer);
         }
         Ok(put(&joined, message))
     }
@@ -116,8 +116,8 @@ impl Operations for Reference {
             || buffers.second.len() < message.len()
             || buffers.working.len() < message.len() + 1;
         match readings {
-            Err(refusal) if refusal < Refusal::BufferTooShort => return Err(refusal),
-            _ if too_short => return Err(Refusal::BufferTooShort),
+            Err(refusal) if refusal < Refusal::ShortBuffer => return Err(refusal),
+            _ if too_short => return Err(Refusal::ShortBuffer),
             _ => buffers.working.fill(0),
         }
         Ok(match readings? {
@@ -145,7 +145,7 @@ impl Operations for Reference {
             || bytes.iter().any(|buffer| buffer.len() < text.len())
             || working.len() < text.len() + 1;
         if too_short {
-            return Err(Refusal::BufferTooShort);
+            return Err(Refusal::ShortBuffer);
         }
         bytes.into_iter().for_each(|buffer| buffer.fill(0));
         working.fill(0);
@@ -156,7 +156,7 @@ impl Operations for Reference {
         let code: Code = table.code().ok_or(Refusal::NotFromSheet)?;
         let entries = [&buffers.message, &buffers.first, &buffers.second];
         if entries.iter().any(|buffer| buffer.len() < VERDICT_ENTRIES) || buffers.working.len() < VERDICT_WORKING {
-            return Err(Refusal::BufferTooShort);
+            return Err(Refusal::ShortBuffer);
         }
         buffers.working.fill(0);
         Ok(match verdict::verdict(&code) {
@@ -174,7 +174,7 @@ impl Operations for Reference {
 /// The code in a table, enlarged; or refusal 1, 8, 16 or 17, the lowest first.
 fn enlarged(table: &Table, list: &[u8]) -> Result<Code, Refusal> {
     if list.len() > Code::MAX_BANS_BYTES {
-        return Err(Refusal::SheetSize);
+        return Err(Refusal::SheetLength);
     }
     let code = table.code().filter(|code| code.copies.is_empty()).ok_or(Refusal::NotFromSheet)?;
     copies::enlarge(&code, &bans::take_in(list, code.words.len())?)

@@ -11,7 +11,7 @@ pub enum Readings {
 /// The readings of a message, or refusal 11, 12 or 14, the lowest first.
 pub fn read(code: &Code, message: &[u8]) -> Result<Readings, Refusal> {
     if message.len() > Code::MAX_MESSAGE_SYMBOLS {
-        return Err(Refusal::MessageTooLong);
+        return Err(Refusal::MessageLength);
     }
     if message.iter().any(|&symbol| symbol > 15) {
         return Err(Refusal::MessageSymbol);

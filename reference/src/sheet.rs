@@ -6,22 +6,22 @@ use crate::code::{Code, Refusal};
 /// Each refusal is tested over the whole sheet before the next one.
 pub fn take_in(sheet: &[u8]) -> Result<Code, Refusal> {
     if sheet.is_empty() || sheet.len() > Code::MAX_SHEET_BYTES {
-        return Err(Refusal::SheetSize);
+        return Err(Refusal::SheetLength);
     }
     if !bytes_fit(sheet, is_digit) {
-        return Err(Refusal::SheetByte);
+        return Err(Refusal::SheetBytes);
     }
     let records = records(sheet);
     let n = records.len();
     if n > Code::MAX_WORDS {
-        return Err(Refusal::TooManyRecords);
+        return Err(Refusal::RecordCount);
     }
     let word_fits = |word: &[u8]| (1..=Code::MAX_WORD_SYMBOLS).contains(&word.len());
     if !records.iter().all(|record| word_fits(record[0])) {
         return Err(Refusal::WordLength);
     }
     if records.iter().map(|record| record[0].len()).sum::<usize>() > Code::MAX_SYMBOLS {
-        return Err(Refusal::TooManySymbols);
+        return Err(Refusal::CodeLength);
     }
     let every_record_has = |fields: usize| records.iter().all(|record| record.len() == fields);
     let marked = every_record_has(n + 2);

@@ -54,7 +54,7 @@ pub fn words(code: &Code, classes: &Classes, text: &[u8]) -> Vec<Word> {
 /// The text with its words split, or refusal 11.
 pub fn split(code: &Code, classes: &Classes, text: &[u8]) -> Result<Vec<u8>, Refusal> {
     if text.len() > MAX_TEXT_BYTES {
-        return Err(Refusal::MessageTooLong);
+        return Err(Refusal::MessageLength);
     }
     let mut output = Vec::with_capacity(2 * text.len() + 1);
     let mut end = 0;

@@ -196,7 +196,7 @@ fn what_is_encoded_is_read_again() {
         let length = random.below(12);
         let sequence: Vec<u8> = (0..length).map(|_| random.below(code.words.len()) as u8).collect();
         if !permitted(&code, &sequence) {
-            assert_eq!(encode(&code, &sequence), Err(Refusal::PairNotPermitted));
+            assert_eq!(encode(&code, &sequence), Err(Refusal::ForbiddenPair));
             continue;
         }
         let message = encode(&code, &sequence).unwrap();

@@ -189,11 +189,11 @@ fn what_is_permitted_is_encoded() {
             assert_eq!(encode(&enlarged, &sequence), Ok(joined(&code, &sequence)), "{code:?} {bans:?} {sequence:?}");
             encoded += 1;
         } else {
-            assert_eq!(encode(&enlarged, &sequence), Err(Refusal::PairNotPermitted), "{code:?} {bans:?} {sequence:?}");
+            assert_eq!(encode(&enlarged, &sequence), Err(Refusal::ForbiddenPair), "{code:?} {bans:?} {sequence:?}");
             banned += usize::from(encode(&code, &sequence).is_ok());
         }
         let copy = code.words.len() as u8;
-        assert_eq!(encode(&enlarged, &[&sequence[..], &[copy]].concat()), Err(Refusal::WordNumber));
+        assert_eq!(encode(&enlarged, &[&sequence[..], &[copy]].concat()), Err(Refusal::UnknownWord));
     }
     println!("{encoded} encoded, {banned} refused for a ban");
     assert!(encoded > 3_000 && banned > 300);

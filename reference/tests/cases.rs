@@ -138,12 +138,12 @@ fn openings_in_readings_and_sequences() {
     assert_eq!(read(&code, &[0, 1]), Err(Refusal::NoReading));
     assert!(readings(&code, &[], &[0, 1]).is_empty());
     assert_eq!(encode(&code, &[]), Ok(vec![]));
-    assert_eq!(encode(&code, &[2, 0]), Err(Refusal::PairNotPermitted));
+    assert_eq!(encode(&code, &[2, 0]), Err(Refusal::ForbiddenPair));
     assert_eq!(encode(&code, &[0, 2, 0]), Ok(vec![0, 0, 1, 0]));
-    assert_eq!(encode(&code, &[2, 4]), Err(Refusal::WordNumber));
+    assert_eq!(encode(&code, &[2, 4]), Err(Refusal::UnknownWord));
     let long = [vec![2], vec![3; 6_000]].concat();
-    assert_eq!(encode(&code, &long), Err(Refusal::PairNotPermitted));
-    assert_eq!(encode(&code, &long[1..]), Err(Refusal::MessageTooLong));
+    assert_eq!(encode(&code, &long), Err(Refusal::ForbiddenPair));
+    assert_eq!(encode(&code, &long[1..]), Err(Refusal::MessageLength));
 }
 
 #[test]
@@ -151,7 +151,7 @@ fn nothing_begins() {
     let code = Code::free(&["0", "01"]).with_starts("00");
     reads(&code, &[], &[]);
     assert_eq!(read(&code, &[0]), Err(Refusal::NoReading));
-    assert_eq!(encode(&code, &[0]), Err(Refusal::PairNotPermitted));
+    assert_eq!(encode(&code, &[0]), Err(Refusal::ForbiddenPair));
 }
 
 #[test]
@@ -241,10 +241,10 @@ fn ban_lists_in_readings_and_sequences() {
     assert_eq!(encode(&enlarged, &[0, 1]), Ok(vec![0, 1]));
     assert_eq!(encode(&enlarged, &[0, 1, 1, 0]), Ok(vec![0, 1, 1, 0]));
     assert_eq!(encode(&enlarged, &[1, 1, 0]), Ok(vec![1, 1, 0]));
-    assert_eq!(encode(&enlarged, &[0, 1, 0]), Err(Refusal::PairNotPermitted));
-    assert_eq!(encode(&enlarged, &[0, 0, 1, 2]), Err(Refusal::PairNotPermitted));
+    assert_eq!(encode(&enlarged, &[0, 1, 0]), Err(Refusal::ForbiddenPair));
+    assert_eq!(encode(&enlarged, &[0, 0, 1, 2]), Err(Refusal::ForbiddenPair));
     // The number of the copy is no word's.
-    assert_eq!(encode(&enlarged, &[0, 3]), Err(Refusal::WordNumber));
+    assert_eq!(encode(&enlarged, &[0, 3]), Err(Refusal::UnknownWord));
 }
 
 /// By the copies' numbers the reading 0,1 would stand after the two others.

@@ -166,19 +166,19 @@ impl Operations for Wrong {
         let (refusal, mut enlarged) = Reference.enlarge(table, list);
         match (self.0, refusal) {
             (Slip::TableOfRefusedList, Some(_)) => enlarged = table.clone(),
-            (Slip::LeadingZeroAccepted, Some(Refusal::WrongBan)) => {
+            (Slip::LeadingZeroAccepted, Some(Refusal::BanRecord)) => {
                 return Reference.enlarge(table, &without_leading_zeros(list))
             }
-            (Slip::LastBlankLineAccepted, Some(Refusal::WrongBan)) if list.ends_with(b"\r\n\r\n") => {
+            (Slip::LastBlankLineAccepted, Some(Refusal::BanRecord)) if list.ends_with(b"\r\n\r\n") => {
                 return Reference.enlarge(table, &list[..list.len() - 2])
             }
-            (Slip::EqualYAndZAccepted, Some(Refusal::WrongBan)) => {
+            (Slip::EqualYAndZAccepted, Some(Refusal::BanRecord)) => {
                 return Reference.enlarge(table, &without_equal_y_and_z(list))
             }
-            (Slip::ListOneByteLonger, Some(Refusal::SheetSize)) if list.len() == 4_097 && list.ends_with(b"\r\n") => {
+            (Slip::ListOneByteLonger, Some(Refusal::SheetLength)) if list.len() == 4_097 && list.ends_with(b"\r\n") => {
                 return Reference.enlarge(table, &list[..list.len() - 2])
             }
-            (Slip::LimitBeforeBans, Some(Refusal::WrongBan)) => {
+            (Slip::LimitBeforeBans, Some(Refusal::BanRecord)) => {
                 let sound: Vec<&[u8]> = list.split(|&byte| byte == b'\n').collect();
                 return (Reference.enlarge(table, sound[0]).0.or(refusal), enlarged);
             }
@@ -223,8 +223,8 @@ impl Operations for Wrong {
         let mended = match (self.0, answer) {
             (Slip::CopyWithoutBanAccepted, Err(Refusal::NotFromSheet)) => without_idle_copies(table),
             (Slip::CopyOfAnotherWordAccepted, Err(Refusal::NotFromSheet)) => with_the_words_copied(table),
-            (Slip::CopyNumbersEncoded, Err(Refusal::WordNumber)) => named_as_words(table),
-            (Slip::BannedThreeEncoded, Err(Refusal::PairNotPermitted)) => without_bans(table),
+            (Slip::CopyNumbersEncoded, Err(Refusal::UnknownWord)) => named_as_words(table),
+            (Slip::BannedThreeEncoded, Err(Refusal::ForbiddenPair)) => without_bans(table),
             _ => None,
         };
         if let Some(mended) = mended {
@@ -290,7 +290,7 @@ impl Operations for Wrong {
                 let words = without_bans(table).unwrap_or_else(|| table.clone());
                 return Reference.split(&words, classes, text, output, buffers);
             }
-            Slip::LongTextBeforeTable if text.len() > MAX_TEXT_BYTES => return Err(Refusal::MessageTooLong),
+            Slip::LongTextBeforeTable if text.len() > MAX_TEXT_BYTES => return Err(Refusal::MessageLength),
             _ if table.code().is_some() => {
                 if let Some(result) = by_other_classes(self.0, table, classes, text, output, buffers) {
                     return result;
@@ -301,17 +301,17 @@ impl Operations for Wrong {
         let before = (output.to_vec(), buffers.clone());
         let answer = Reference.split(table, classes, text, output, buffers);
         match (self.0, answer) {
-            (Slip::ClearedBeforeRefusal, Err(Refusal::BufferTooShort)) => buffers.message.fill(0),
-            (Slip::TextOneByteLonger, Err(Refusal::MessageTooLong)) if text.len() == MAX_TEXT_BYTES + 1 => {
+            (Slip::ClearedBeforeRefusal, Err(Refusal::ShortBuffer)) => buffers.message.fill(0),
+            (Slip::TextOneByteLonger, Err(Refusal::MessageLength)) if text.len() == MAX_TEXT_BYTES + 1 => {
                 return Reference.split(table, classes, &text[..MAX_TEXT_BYTES], output, buffers)
             }
-            (Slip::ShortBufferBeforeLongText, Err(Refusal::MessageTooLong)) if output.len() <= 2 * text.len() => {
-                return Err(Refusal::BufferTooShort)
+            (Slip::ShortBufferBeforeLongText, Err(Refusal::MessageLength)) if output.len() <= 2 * text.len() => {
+                return Err(Refusal::ShortBuffer)
             }
-            (Slip::OutputAsLongAsWritten, Err(Refusal::BufferTooShort)) => {
+            (Slip::OutputAsLongAsWritten, Err(Refusal::ShortBuffer)) => {
                 let mut longer = vec![0; 2 * text.len() + 1];
                 let length = Reference.split(table, classes, text, &mut longer, buffers)?;
-                let room = output.get_mut(..length).ok_or(Refusal::BufferTooShort)?;
+                let room = output.get_mut(..length).ok_or(Refusal::ShortBuffer)?;
                 room.copy_from_slice(&longer[..length]);
                 return Ok(length);
             }
@@ -412,9 +412,9 @@ fn by_other_classes(
             let free = (0..=255).find(|byte| !text.contains(byte) && !RESERVED.contains(byte))?;
             taken[free as usize] = 0;
         }
-        Slip::LongTextBeforeClasses if text.len() > MAX_TEXT_BYTES => return Some(Err(Refusal::MessageTooLong)),
+        Slip::LongTextBeforeClasses if text.len() > MAX_TEXT_BYTES => return Some(Err(Refusal::MessageLength)),
         Slip::ShortBufferBeforeClasses if !given && output.len() <= 2 * text.len() => {
-            return Some(Err(Refusal::BufferTooShort))
+            return Some(Err(Refusal::ShortBuffer))
         }
         _ => return None,
     }
@@ -429,7 +429,7 @@ fn taken_with(slip: Slip, sheet: &[u8]) -> Result<Entries, Refusal> {
         _ => 4_096,
     };
     if sheet.len() > most || sheet.is_empty() && slip != Slip::EmptyClassSheetAccepted {
-        return Err(Refusal::SheetSize);
+        return Err(Refusal::SheetLength);
     }
     let mut text = String::from_utf8_lossy(sheet).into_owned();
     match slip {
@@ -622,7 +622,7 @@ fn enlarged_by_ban(table: &Table, list: &[u8]) -> (Option<Refusal>, Table) {
     bans.dedup();
     let (refusal, mut enlarged) = Reference.enlarge(table, list);
     if table.count + bans.len() > Code::MAX_WORDS {
-        return (Some(Refusal::TooManyCopies), Table::BLANK);
+        return (Some(Refusal::BanLimit), Table::BLANK);
     }
     enlarged.count = table.count + bans.len();
     (refusal, enlarged)

@@ -112,7 +112,7 @@ fn lists_as_long_as_may_be() {
         longest += usize::from(list.len() == 4_096);
         longest_accepted += usize::from(list.len() == 4_096 && taken.is_ok());
         too_long += usize::from(list.len() == 4_097);
-        assert_eq!(taken == Err(Refusal::SheetSize), list.len() > 4_096);
+        assert_eq!(taken == Err(Refusal::SheetLength), list.len() > 4_096);
     }
     println!("4,096 bytes {longest}, of these accepted {longest_accepted}, 4,097 bytes {too_long}");
     assert!([longest, longest_accepted, too_long].iter().all(|&times| times >= 20));
@@ -187,7 +187,7 @@ fn buffers_of_splitting() {
         dirty[4] += usize::from(buffers.working.iter().any(|&entry| entry != 0));
         let short = lengths.iter().zip(&needed).any(|(length, needed)| length < needed);
         let refused = Reference.split(&table, &classes, text, &mut output, &mut buffers).err();
-        assert_eq!(refused, short.then_some(Refusal::BufferTooShort));
+        assert_eq!(refused, short.then_some(Refusal::ShortBuffer));
     }
     assert!(met.iter().flatten().all(|&times| times >= 100), "{met:?}");
     assert!(dirty.iter().all(|&times| times > 9_000), "{dirty:?}");
@@ -260,7 +260,7 @@ fn kinds(sheet: &[u8], taken: &Result<Classes, Refusal>) -> Vec<&'static str> {
                 ("Turkish letters", *classes == *TURKISH),
             ]
         }
-        Err(Refusal::SheetSize) => &[("0 bytes", sheet.is_empty()), ("4,097 bytes", sheet.len() == 4_097)],
+        Err(Refusal::SheetLength) => &[("0 bytes", sheet.is_empty()), ("4,097 bytes", sheet.len() == 4_097)],
         Err(Refusal::ClassRecord) => &[
             ("18, 4,096 bytes", sheet.len() == 4_096),
             ("18, lower-case digit", sheet.iter().any(|byte| (b'a'..=b'f').contains(byte))),

@@ -205,13 +205,13 @@ fn refusals_are_printed() {
 fn sequences() {
     let code = Code::of(&["0", "1111111111111111"], &["11", "01"]);
     assert_eq!(encode(&code, &[]), Ok(vec![]));
-    assert_eq!(encode(&code, &[0, 1, 2]), Err(Refusal::WordNumber));
-    assert_eq!(encode(&code, &[0, 1]), Err(Refusal::PairNotPermitted));
+    assert_eq!(encode(&code, &[0, 1, 2]), Err(Refusal::UnknownWord));
+    assert_eq!(encode(&code, &[0, 1]), Err(Refusal::ForbiddenPair));
     assert_eq!(encode(&code, &[1, 0]).map(|message| message.len()), Ok(17));
     assert_eq!(encode(&code, &[1; 1024]), Ok(vec![1; 16_384]));
-    assert_eq!(encode(&code, &[1; 1025]), Err(Refusal::MessageTooLong));
+    assert_eq!(encode(&code, &[1; 1025]), Err(Refusal::MessageLength));
     let long_and_banned = [vec![1; 1025], vec![0, 1]].concat();
-    assert_eq!(encode(&code, &long_and_banned), Err(Refusal::PairNotPermitted));
+    assert_eq!(encode(&code, &long_and_banned), Err(Refusal::ForbiddenPair));
 }
 
 #[test]
@@ -219,7 +219,7 @@ fn messages() {
     let code = Code::free(&["0", "11"]);
     assert!(read(&code, &[1; 16_384]).is_ok());
     assert_eq!(read(&code, &[1; 16_383]), Err(Refusal::NoReading));
-    assert_eq!(read(&code, &[16; 16_385]), Err(Refusal::MessageTooLong));
+    assert_eq!(read(&code, &[16; 16_385]), Err(Refusal::MessageLength));
     assert_eq!(read(&code, &[1, 16]), Err(Refusal::MessageSymbol));
     assert_eq!(read(&code, &[1]), Err(Refusal::NoReading));
     assert_eq!(read(&code, &[15]), Err(Refusal::NoReading));

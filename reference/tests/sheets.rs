@@ -73,7 +73,7 @@ fn a_type_that_occurs_only_inside() {
     let (cv, inside) = (7, 12);
     assert_eq!(read(&code, &[1, 2, 3, 2, 1]), Ok(Readings::One(vec![cv, inside])));
     assert_eq!(read(&code, &[3, 2, 1]), Err(Refusal::NoReading));
-    assert_eq!(encode(&code, &[inside]), Err(Refusal::PairNotPermitted));
+    assert_eq!(encode(&code, &[inside]), Err(Refusal::ForbiddenPair));
 }
 
 #[test]

@@ -496,9 +496,9 @@ fn refusals() {
             assert_eq!(refused(table, &classes, text, b""), Refusal::NotFromSheet);
         }
     }
-    assert_eq!(refused(&table, &letters, &too_long, &too_long), Refusal::MessageTooLong);
-    assert_eq!(refused(&table, &letters, &too_long, b""), Refusal::MessageTooLong);
-    assert_eq!(refused(&table, &letters, &long, &long[1..]), Refusal::BufferTooShort);
+    assert_eq!(refused(&table, &letters, &too_long, &too_long), Refusal::MessageLength);
+    assert_eq!(refused(&table, &letters, &too_long, b""), Refusal::MessageLength);
+    assert_eq!(refused(&table, &letters, &long, &long[1..]), Refusal::ShortBuffer);
     let (mut output, mut buffers) = lent(&long);
     assert_eq!(Reference.split(&table, &letters, &long, &mut output, &mut buffers), Ok(2 * MAX_TEXT_BYTES - 1));
 }
@@ -520,7 +520,7 @@ fn short_buffers() {
             let before = (output.clone(), buffers.clone());
             assert_eq!(
                 Reference.split(&table, &TURKISH.entries(), text, &mut output, &mut buffers),
-                Err(Refusal::BufferTooShort)
+                Err(Refusal::ShortBuffer)
             );
             assert_eq!((output, buffers), before, "{short}");
         }
@@ -531,7 +531,7 @@ fn short_buffers() {
         lent_output.truncate(output);
         buffers.working.truncate(working);
         let answer = Reference.split(&table, &TURKISH.entries(), b"", &mut lent_output, &mut buffers);
-        assert_eq!(answer, Err(Refusal::BufferTooShort));
+        assert_eq!(answer, Err(Refusal::ShortBuffer));
     }
 }
 

@@ -30,7 +30,7 @@ fn main() {
     println!("its message: refusal {refused}, symbols {:?}", &message[..answer[0] as usize]);
 
     let refused = furlazon::encode(&table, &[2, 0], &mut message, &mut answer);
-    let forbidden = refused == u64::from(Refusal::PairNotPermitted.number());
+    let forbidden = refused == u64::from(Refusal::ForbiddenPair.number());
     println!("word 0 after word 2: {}", if forbidden { "forbidden" } else { "not forbidden" });
 
     let refused = furlazon::read(&table, &[], &mut [], &mut [], &mut work[..1], &mut answer);
@@ -45,7 +45,7 @@ fn main() {
     let symbols = message[..answer[0] as usize].to_vec();
     println!("words 2, 1, 0: refusal {refused}, symbols {symbols:?}");
     let refused = furlazon::encode(&enlarged, &[2, 1, 0], &mut message, &mut answer);
-    let forbidden = refused == u64::from(Refusal::PairNotPermitted.number());
+    let forbidden = refused == u64::from(Refusal::ForbiddenPair.number());
     println!("words 2, 1, 0 with the ban: {}", if forbidden { "forbidden" } else { "not forbidden" });
     let refused = furlazon::read(&enlarged, &symbols, &mut first, &mut second, &mut work, &mut answer);
     let none = refused == u64::from(Refusal::NoReading.number());

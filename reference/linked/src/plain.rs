@@ -14,7 +14,7 @@ pub fn on_table(table: &Table, buffers: &mut Buffers) -> Result<VerdictLengths, 
     let code = table.code().ok_or(Refusal::NotFromSheet)?;
     let entries = [&buffers.message, &buffers.first, &buffers.second];
     if entries.iter().any(|buffer| buffer.len() < VERDICT_ENTRIES) || buffers.working.len() < VERDICT_WORKING {
-        return Err(Refusal::BufferTooShort);
+        return Err(Refusal::ShortBuffer);
     }
     buffers.working.fill(0);
     Ok(match verdict(&code) {

@@ -54,23 +54,23 @@ fn limits_of_the_header() {
 #[test]
 fn refusals_of_the_header() {
     let names = [
-        ("SHEET_LENGTH", Refusal::SheetSize),
-        ("SHEET_BYTES", Refusal::SheetByte),
-        ("RECORD_COUNT", Refusal::TooManyRecords),
+        ("SHEET_LENGTH", Refusal::SheetLength),
+        ("SHEET_BYTES", Refusal::SheetBytes),
+        ("RECORD_COUNT", Refusal::RecordCount),
         ("WORD_LENGTH", Refusal::WordLength),
-        ("CODE_LENGTH", Refusal::TooManySymbols),
+        ("CODE_LENGTH", Refusal::CodeLength),
         ("FIELD_COUNT", Refusal::FieldCount),
         ("ROW_ENTRY", Refusal::RowEntry),
         ("NOT_FROM_SHEET", Refusal::NotFromSheet),
-        ("UNKNOWN_WORD", Refusal::WordNumber),
-        ("FORBIDDEN_PAIR", Refusal::PairNotPermitted),
-        ("MESSAGE_LENGTH", Refusal::MessageTooLong),
+        ("UNKNOWN_WORD", Refusal::UnknownWord),
+        ("FORBIDDEN_PAIR", Refusal::ForbiddenPair),
+        ("MESSAGE_LENGTH", Refusal::MessageLength),
         ("MESSAGE_SYMBOL", Refusal::MessageSymbol),
-        ("SHORT_BUFFER", Refusal::BufferTooShort),
+        ("SHORT_BUFFER", Refusal::ShortBuffer),
         ("NO_READING", Refusal::NoReading),
         ("START_FIELD", Refusal::StartField),
-        ("BAN", Refusal::WrongBan),
-        ("COPIES", Refusal::TooManyCopies),
+        ("BAN", Refusal::BanRecord),
+        ("COPIES", Refusal::BanLimit),
         ("CLASS_RECORD", Refusal::ClassRecord),
         ("CLASS_RANGE", Refusal::ClassRange),
         ("CLASS_OVERLAP", Refusal::ClassOverlap),
@@ -152,7 +152,7 @@ fn room_for_the_turkish_types() {
         let mut table = vec![MARK; room];
         let mut expected = table.clone();
         let written = expected.get_mut(..TABLE_BYTES).map(|start| start.copy_from_slice(&image));
-        let short = written.is_none().then_some(Refusal::BufferTooShort);
+        let short = written.is_none().then_some(Refusal::ShortBuffer);
         assert_eq!(refusal(furlazon::turkish(&mut table)), short, "room of {room}");
         assert_eq!(table, expected, "room of {room}");
     }
@@ -188,19 +188,19 @@ fn short_images_of_enlarging() {
     let too_long = [b'0'; 4_097];
     let mut full = vec![0; TABLE_BYTES];
     assert_eq!(furlazon::take_in(&write(&Code::free(&["0"; 32])), &mut full), 0);
-    let (short, number) = (Refusal::BufferTooShort, |refusal: Refusal| u64::from(refusal.number()));
+    let (short, number) = (Refusal::ShortBuffer, |refusal: Refusal| u64::from(refusal.number()));
     // The image, the list, the refusal with room for the enlarged image if there is one, and that without room.
     type Case<'a> = (&'a [u8], &'a [u8], Option<Refusal>, Refusal);
     let cases: [Case; 12] = [
         (&table, b"", None, short),
         (&table, b"0,0,1\r\n", None, short),
-        (&table, &too_long, Some(Refusal::SheetSize), Refusal::SheetSize),
+        (&table, &too_long, Some(Refusal::SheetLength), Refusal::SheetLength),
         (&none, b"0,0,1", Some(Refusal::NotFromSheet), Refusal::NotFromSheet),
-        (&none, &too_long, Some(Refusal::SheetSize), Refusal::SheetSize),
+        (&none, &too_long, Some(Refusal::SheetLength), Refusal::SheetLength),
         (&with_copies, b"", Some(Refusal::NotFromSheet), Refusal::NotFromSheet),
         (&with_copies, b"0,0,1", Some(Refusal::NotFromSheet), Refusal::NotFromSheet),
-        (&table, b"0,0,0", Some(Refusal::WrongBan), short),
-        (&full, b"0,0,1", Some(Refusal::TooManyCopies), short),
+        (&table, b"0,0,0", Some(Refusal::BanRecord), short),
+        (&full, b"0,0,1", Some(Refusal::BanLimit), short),
         (&table[..TABLE_BYTES - 1], b"", Some(short), short),
         (&table[..TABLE_BYTES - 1], &too_long, Some(short), short),
         (&[], &too_long, Some(short), short),
@@ -237,7 +237,7 @@ fn classes_left(room: usize, entries: Option<&[u8; CLASSES_BYTES]>) -> Vec<u8> {
 fn room_for_classes() {
     for (sheet, own) in class_sheets() {
         for room in ROOMS {
-            let short = (room < CLASSES_BYTES).then_some(Refusal::BufferTooShort);
+            let short = (room < CLASSES_BYTES).then_some(Refusal::ShortBuffer);
             let expected = own.into_iter().chain(short).min();
             let mut buffer = vec![MARK; room];
             let refused = refusal(furlazon::take_classes(&sheet, &mut buffer));
@@ -286,7 +286,7 @@ fn places_of_classes() {
 fn room_for_the_turkish_letters() {
     let entries = Reference.turkish_classes();
     for room in ROOMS {
-        let short = (room < CLASSES_BYTES).then_some(Refusal::BufferTooShort);
+        let short = (room < CLASSES_BYTES).then_some(Refusal::ShortBuffer);
         let mut buffer = vec![MARK; room];
         assert_eq!(refusal(furlazon::turkish_classes(&mut buffer)), short, "room of {room}");
         assert_eq!(buffer, classes_left(room, short.is_none().then_some(&entries)), "room of {room}");
@@ -328,12 +328,12 @@ fn short_answers() {
             let mut work = vec![WORD_MARK; 2 * room];
             let encodings: [(&[u8], &[u8], Refusal); 7] = [
                 (&none, &[9], Refusal::NotFromSheet),
-                (&table, &[2, 0, 9], Refusal::WordNumber),
-                (&table, &[2, 0], Refusal::PairNotPermitted),
-                (&table, &long, Refusal::MessageTooLong),
-                (&table, &[2, 3], Refusal::BufferTooShort),
-                (&table, &[], Refusal::BufferTooShort),
-                (&table[..TABLE_BYTES - 1], &[9], Refusal::BufferTooShort),
+                (&table, &[2, 0, 9], Refusal::UnknownWord),
+                (&table, &[2, 0], Refusal::ForbiddenPair),
+                (&table, &long, Refusal::MessageLength),
+                (&table, &[2, 3], Refusal::ShortBuffer),
+                (&table, &[], Refusal::ShortBuffer),
+                (&table[..TABLE_BYTES - 1], &[9], Refusal::ShortBuffer),
             ];
             for (table, words, expected) in encodings {
                 let refused = furlazon::encode(table, words, &mut message, &mut answer);
@@ -341,12 +341,12 @@ fn short_answers() {
             }
             let readings: [(&[u8], &[u8], Refusal); 7] = [
                 (&none, &[16], Refusal::NotFromSheet),
-                (&table, &too_long, Refusal::MessageTooLong),
+                (&table, &too_long, Refusal::MessageLength),
                 (&table, &[16], Refusal::MessageSymbol),
-                (&table, &[1], Refusal::BufferTooShort),
-                (&table, &[0, 1], Refusal::BufferTooShort),
-                (&table, &[], Refusal::BufferTooShort),
-                (&table[..TABLE_BYTES - 1], &[16], Refusal::BufferTooShort),
+                (&table, &[1], Refusal::ShortBuffer),
+                (&table, &[0, 1], Refusal::ShortBuffer),
+                (&table, &[], Refusal::ShortBuffer),
+                (&table[..TABLE_BYTES - 1], &[16], Refusal::ShortBuffer),
             ];
             for (table, symbols, expected) in readings {
                 let refused = furlazon::read(table, symbols, &mut first, &mut second, &mut work, &mut answer);
@@ -357,12 +357,12 @@ fn short_answers() {
                 (&none, &letters, &too_long, Refusal::NotFromSheet),
                 (&table, &no_letters, b"a", Refusal::NotFromSheet),
                 (&table, &no_letters, &too_long, Refusal::NotFromSheet),
-                (&table, &letters, &too_long, Refusal::MessageTooLong),
-                (&table, &letters, b"a", Refusal::BufferTooShort),
-                (&table, &letters, b"", Refusal::BufferTooShort),
-                (&table[..TABLE_BYTES - 1], &letters, &too_long, Refusal::BufferTooShort),
-                (&table, &letters[1..], &too_long, Refusal::BufferTooShort),
-                (&none, &no_letters[1..], b"a", Refusal::BufferTooShort),
+                (&table, &letters, &too_long, Refusal::MessageLength),
+                (&table, &letters, b"a", Refusal::ShortBuffer),
+                (&table, &letters, b"", Refusal::ShortBuffer),
+                (&table[..TABLE_BYTES - 1], &letters, &too_long, Refusal::ShortBuffer),
+                (&table, &letters[1..], &too_long, Refusal::ShortBuffer),
+                (&none, &no_letters[1..], b"a", Refusal::ShortBuffer),
             ];
             let mut out = vec![MARK; room];
             for (table, classes, text, expected) in splittings {
@@ -381,8 +381,8 @@ fn short_answers() {
             }
             let verdicts: [(&[u8], Refusal); 3] = [
                 (&none, Refusal::NotFromSheet),
-                (&table, Refusal::BufferTooShort),
-                (&none[..TABLE_BYTES - 1], Refusal::BufferTooShort),
+                (&table, Refusal::ShortBuffer),
+                (&none[..TABLE_BYTES - 1], Refusal::ShortBuffer),
             ];
             for (table, expected) in verdicts {
                 let refused = furlazon::verdict(table, &mut message, &mut first, &mut second, &mut work, &mut answer);
@@ -488,11 +488,11 @@ fn short_buffers_of_splitting() {
                 continue;
             }
             let before = lent.clone();
-            assert_eq!(lent.split(&table, &classes, &text), Some(Refusal::BufferTooShort), "buffer {buffer}");
+            assert_eq!(lent.split(&table, &classes, &text), Some(Refusal::ShortBuffer), "buffer {buffer}");
             assert_eq!(lent, before, "buffer {buffer}");
         }
         let mut none = Lent { bytes: [(); 4].map(|()| Vec::new()), work: Vec::new(), answer: Vec::new() };
-        assert_eq!(none.split(&table, &classes, &text), Some(Refusal::BufferTooShort));
+        assert_eq!(none.split(&table, &classes, &text), Some(Refusal::ShortBuffer));
     }
 }
 
@@ -523,17 +523,17 @@ fn order_of_the_refusals_of_splitting() {
         (&none, &letters, &too_long, Refusal::NotFromSheet),
         (&wrong_copies, &letters, b"1", Refusal::NotFromSheet),
         (&wrong_copies, &letters, &too_long, Refusal::NotFromSheet),
-        (&table, &letters, &too_long, Refusal::MessageTooLong),
-        (&copies, &letters, &too_long, Refusal::MessageTooLong),
-        (short_image, &letters, b"", Refusal::BufferTooShort),
-        (short_image, &letters, &too_long, Refusal::BufferTooShort),
-        (short_image, &no_classes[0], &too_long, Refusal::BufferTooShort),
-        (&[], &letters, &too_long, Refusal::BufferTooShort),
-        (&table, &letters[1..], b"", Refusal::BufferTooShort),
-        (&table, &letters[1..], &too_long, Refusal::BufferTooShort),
-        (&none, &letters[1..], b"baba", Refusal::BufferTooShort),
-        (&none, &no_classes[0][1..], &too_long, Refusal::BufferTooShort),
-        (&none, &[], b"", Refusal::BufferTooShort),
+        (&table, &letters, &too_long, Refusal::MessageLength),
+        (&copies, &letters, &too_long, Refusal::MessageLength),
+        (short_image, &letters, b"", Refusal::ShortBuffer),
+        (short_image, &letters, &too_long, Refusal::ShortBuffer),
+        (short_image, &no_classes[0], &too_long, Refusal::ShortBuffer),
+        (&[], &letters, &too_long, Refusal::ShortBuffer),
+        (&table, &letters[1..], b"", Refusal::ShortBuffer),
+        (&table, &letters[1..], &too_long, Refusal::ShortBuffer),
+        (&none, &letters[1..], b"baba", Refusal::ShortBuffer),
+        (&none, &no_classes[0][1..], &too_long, Refusal::ShortBuffer),
+        (&none, &[], b"", Refusal::ShortBuffer),
     ];
     for classes in &no_classes {
         let text: &[u8] = if classes[0xFF] == OTHER { &too_long } else { b"baba" };
@@ -573,7 +573,7 @@ fn the_longest_text() {
             let mut lent = Lent::new(text.len(), 0);
             lent.shorten(buffer);
             let before = lent.clone();
-            assert_eq!(lent.split(&table, &classes, &text), Some(Refusal::BufferTooShort));
+            assert_eq!(lent.split(&table, &classes, &text), Some(Refusal::ShortBuffer));
             assert!(lent == before, "buffer {buffer}");
         }
     }

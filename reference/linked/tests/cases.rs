@@ -135,8 +135,8 @@ fn does_not_read(table: &Table, message: &[u8]) {
 /// Both refuse the sequence as one that is not permitted.
 fn does_not_encode(table: &Table, sequence: &[u8]) {
     let mut message = vec![MARK; Code::MAX_WORD_SYMBOLS * sequence.len()];
-    assert_eq!(Linked.encode(table, sequence, &mut message), Err(Refusal::PairNotPermitted));
-    assert_eq!(Reference.encode(table, sequence, &mut message), Err(Refusal::PairNotPermitted));
+    assert_eq!(Linked.encode(table, sequence, &mut message), Err(Refusal::ForbiddenPair));
+    assert_eq!(Reference.encode(table, sequence, &mut message), Err(Refusal::ForbiddenPair));
     assert!(message.iter().all(|&entry| entry == MARK));
 }
 
@@ -268,7 +268,7 @@ fn ban_lists_in_readings_and_sequences() {
     does_not_encode(&table, &[0, 1, 0]);
     does_not_encode(&table, &[0, 0, 1, 2]);
     let mut message = [MARK; 8];
-    assert_eq!(Linked.encode(&table, &[0, 3], &mut message), Err(Refusal::WordNumber));
+    assert_eq!(Linked.encode(&table, &[0, 3], &mut message), Err(Refusal::UnknownWord));
     assert_eq!(message, [MARK; 8]);
 }
 

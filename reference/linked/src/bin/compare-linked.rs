@@ -126,7 +126,7 @@ fn short_buffers(start: u64, rounds: usize) -> Result<(), String> {
 /// What a sheet is refused with where there is no room for what it gives: of
 /// its own refusal and that of the short buffer the lower.
 fn sheet_number(refused: Option<Refusal>) -> u64 {
-    let short = Refusal::BufferTooShort;
+    let short = Refusal::ShortBuffer;
     u64::from(refused.map_or(short, |refused| refused.min(short)).number())
 }
 
@@ -134,10 +134,10 @@ fn sheet_number(refused: Option<Refusal>) -> u64 {
 /// are too short. Without the image and the classes nothing can be tested.
 fn text_number(image: &[u8], classes: &[u8], text: &[u8]) -> u64 {
     let refusal = match classes.try_into().ok().filter(|_| image.len() == TABLE_BYTES).map(Classes::given) {
-        None => Refusal::BufferTooShort,
+        None => Refusal::ShortBuffer,
         Some(None) => Refusal::NotFromSheet,
-        Some(_) if text.len() > MAX_TEXT_BYTES => Refusal::MessageTooLong,
-        _ => Refusal::BufferTooShort,
+        Some(_) if text.len() > MAX_TEXT_BYTES => Refusal::MessageLength,
+        _ => Refusal::ShortBuffer,
     };
     u64::from(refusal.number())
 }
@@ -180,7 +180,7 @@ impl Lent {
             if random.one_in(2) { generate::class_sheet(random) } else { generate::damaged_class_sheet(random) };
         let [message, first, second, out] = &mut self.bytes;
         let (work, answer) = (&mut self.work, &mut self.answer[..answer]);
-        let short = u64::from(Refusal::BufferTooShort.number());
+        let short = u64::from(Refusal::ShortBuffer.number());
         let numbers = [
             furlazon::encode(image, &sequence, message, answer),
             furlazon::read(image, &joined, first, second, work, answer),
