@@ -7,9 +7,10 @@
  * the pointer may be NULL: nothing is read or written through it, and the buffer is an empty one.
  * docs/LINKING.md tells how to link them.
  *
- * Every function returns 0 for a result and otherwise the number of a refusal, the lowest that holds. A `table` that is too short
- * to be read is refused FURLAZON_REFUSED_SHORT_BUFFER by itself, since nothing can be tested without it, and so are `classes` that are
- * too short to be read; every other buffer that is too short, `answer` too, gets that number in its place among the others.
+ * Every function returns 0 for a result and otherwise the number of a refusal, the lowest that holds. But a function that reads
+ * `table`, or `table` and `classes`, tests their lengths before everything else: where one of them is too short, the number is
+ * FURLAZON_REFUSED_SHORT_BUFFER, whatever else holds. Every other buffer that is too short, `answer` too, gets that number in its
+ * place among the others.
  *
  * A refusal changes no buffer, except that FURLAZON_REFUSED_NO_READING leaves `work` all zero. A result leaves the whole of `work`
  * zero, and in every other buffer what stands past the written part as it was; but splitting leaves `message`, `first` and `second`
@@ -30,6 +31,15 @@
 extern "C" {
 #endif
 
+/* Version of this file and of the library that it came with. The second number is that of the last change request that is in, and
+ * docs/notes has a page for each; the third rises where this file changes without a request, and begins at 0 with the next one. The
+ * first stays 0 as long as a request may change a declaration, a macro or an image. The library does not tell its version: use it with
+ * the header of the same build. */
+#define FURLAZON_VERSION_MAJOR 0
+#define FURLAZON_VERSION_MINOR 6
+#define FURLAZON_VERSION_PATCH 0
+#define FURLAZON_VERSION "0.6.0"
+
 /* Limits. */
 #define FURLAZON_ALPHABET 16            /* a symbol is a number below it */
 #define FURLAZON_CODE_WORDS 32          /* words of a code */
@@ -41,7 +51,7 @@ extern "C" {
 #define FURLAZON_MESSAGE_SYMBOLS 16384  /* symbols of a message, for encoding and reading */
 #define FURLAZON_TEXT_BYTES 16384       /* bytes of a text, for splitting */
 
-/* Refusals. */
+/* Refusals, under the names that they have in the source. */
 #define FURLAZON_REFUSED_SHEET_LENGTH 1    /* a sheet of 0 bytes or over FURLAZON_SHEET_BYTES, a class sheet of 0 bytes or over
                                               FURLAZON_CLASS_SHEET_BYTES, a ban list over FURLAZON_BANS_BYTES */
 #define FURLAZON_REFUSED_SHEET_BYTES 2     /* a byte other than 0-9, A-F, comma, CR, LF; a CR without LF next; an LF without CR before */
@@ -59,8 +69,8 @@ extern "C" {
 #define FURLAZON_REFUSED_SHORT_BUFFER 13   /* a buffer that is too short */
 #define FURLAZON_REFUSED_NO_READING 14     /* no permitted sequence has this message */
 #define FURLAZON_REFUSED_START_FIELD 15    /* a start field other than the single digit 0 or 1 */
-#define FURLAZON_REFUSED_BAN 16            /* a byte other than 0-9, comma, CR, LF; CR and LF not together; a record that is no ban */
-#define FURLAZON_REFUSED_COPIES 17         /* over FURLAZON_CODE_WORDS words or FURLAZON_CODE_SYMBOLS symbols with the copies */
+#define FURLAZON_REFUSED_BAN_RECORD 16     /* a byte other than 0-9, comma, CR, LF; CR and LF not together; a record that is no ban */
+#define FURLAZON_REFUSED_BAN_LIMIT 17      /* over FURLAZON_CODE_WORDS words or FURLAZON_CODE_SYMBOLS symbols with the copies */
 #define FURLAZON_REFUSED_CLASS_RECORD 18   /* wrong bytes as for 2; a record that is not three fields of two, two and one digit; a record
                                               that takes in B7, 28, 29, 5B or 5D (hexadecimal) */
 #define FURLAZON_REFUSED_CLASS_RANGE 19    /* a record whose lowest byte is above its highest */
@@ -84,6 +94,15 @@ extern "C" {
 /* Entries that a verdict needs: in `message`, `first` and `second` each, and in `work`. */
 #define FURLAZON_VERDICT_ENTRIES 8384
 #define FURLAZON_VERDICT_WORK 16384
+
+/* Entries that reading a message of n symbols needs: in `first` and `second` each, and in `work`. */
+#define FURLAZON_READ_ENTRIES(n) (n)
+#define FURLAZON_READ_WORK(n) ((n) + 1)
+
+/* Entries that splitting a text of n bytes needs: in `out`, in `message`, `first` and `second` each, and in `work`. */
+#define FURLAZON_SPLIT_OUT(n) (2 * (n) + 1)
+#define FURLAZON_SPLIT_ENTRIES(n) (n)
+#define FURLAZON_SPLIT_WORK(n) ((n) + 1)
 
 /* answer[0] of a reading: the message has one reading, or several. */
 #define FURLAZON_ONE_READING 1
@@ -123,8 +142,8 @@ uint64_t furlazon_encode(const uint8_t *table, size_t table_length,
                          uint64_t *answer, size_t answer_length);
 
 /* Reads a message.
- * Needs: `table` of FURLAZON_TABLE_BYTES; `first` and `second` as long as the message; `work` one entry longer; `answer` of
- * FURLAZON_ANSWER_ENTRIES. Refusals: 8, 11, 12, 13, 14.
+ * Needs, for a message of n symbols: `table` of FURLAZON_TABLE_BYTES; `first` and `second` of FURLAZON_READ_ENTRIES(n) each; `work` of
+ * FURLAZON_READ_WORK(n); `answer` of FURLAZON_ANSWER_ENTRIES. Refusals: 8, 11, 12, 13, 14.
  * Result: the only reading stands at the start of `first`; answer = { FURLAZON_ONE_READING, its length in words, 0, 0 }.
  * Or the first two readings in word order stand in `first` and `second`; answer = { FURLAZON_SEVERAL_READINGS, the length of
  * the first in words, that of the second, 0 }. */
@@ -149,8 +168,9 @@ uint64_t furlazon_turkish_classes(uint8_t *classes, size_t classes_length);
 
 /* Splits the words of a text of any bytes into syllables. The classes say which bytes are letters and for which symbols they stand.
  * A word is a longest run of letters and has the readings of the message that they stand for.
- * Needs: `table` of FURLAZON_TABLE_BYTES; `classes` of FURLAZON_CLASSES_BYTES; `out` of twice the text's length and one byte more;
- * `message`, `first` and `second` as long as the text; `work` one entry longer; `answer` of FURLAZON_ANSWER_ENTRIES.
+ * Needs, for a text of n bytes: `table` of FURLAZON_TABLE_BYTES; `classes` of FURLAZON_CLASSES_BYTES; `out` of FURLAZON_SPLIT_OUT(n);
+ * `message`, `first` and `second` of FURLAZON_SPLIT_ENTRIES(n) each; `work` of FURLAZON_SPLIT_WORK(n); `answer` of
+ * FURLAZON_ANSWER_ENTRIES.
  * Refusals: 8, for the table or for the classes, 11, 13.
  * Result: the text stands at the start of `out`, a word with one reading with the byte B7 (hexadecimal) between its syllables, a
  * word without a reading between ( and ), a word with several between [ and ], and every other byte as it is; answer = { the length

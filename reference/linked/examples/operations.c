@@ -2,7 +2,7 @@
  * refused, and the empty message. Then the same code with a ban on 0 after 01 and 10: its verdict, and what the ban forbids. Then the
  * built-in code of the twelve Turkish types: its verdict, with the message and both readings, and words that it splits. Last a class
  * sheet that tells r from the other consonants, words split by it, and a class sheet that is refused. Prints what
- * examples/operations.rs prints. */
+ * binding/examples/operations.rs prints. */
 #include "furlazon.h"
 
 #include <inttypes.h>
@@ -25,7 +25,7 @@ static uint8_t table[FURLAZON_TABLE_BYTES];
 static uint8_t enlarged[FURLAZON_TABLE_BYTES];
 static uint8_t classes[FURLAZON_CLASSES_BYTES];
 static uint8_t message[FURLAZON_VERDICT_ENTRIES];
-static uint8_t out[2 * (sizeof text - 1) + 1];
+static uint8_t out[FURLAZON_SPLIT_OUT(sizeof text - 1)];
 static uint8_t first[FURLAZON_VERDICT_ENTRIES];
 static uint8_t second[FURLAZON_VERDICT_ENTRIES];
 static uint64_t work[FURLAZON_VERDICT_WORK];
@@ -57,6 +57,13 @@ static void print_text(const uint8_t *bytes, uint64_t count) {
     printf("\n");
 }
 
+/* Splits a text of n bytes, no longer than `text`, with no more of the buffers than that needs. */
+static uint64_t split(const char *bytes, size_t n) {
+    return furlazon_split(table, sizeof table, classes, sizeof classes, (const uint8_t *)bytes, n, out, FURLAZON_SPLIT_OUT(n), message,
+                          FURLAZON_SPLIT_ENTRIES(n), first, FURLAZON_SPLIT_ENTRIES(n), second, FURLAZON_SPLIT_ENTRIES(n), work,
+                          FURLAZON_SPLIT_WORK(n), answer, FURLAZON_ANSWER_ENTRIES);
+}
+
 int main(void) {
     if (furlazon_take_in((const uint8_t *)sheet, sizeof sheet - 1, table, sizeof table) != 0) {
         return 1;
@@ -66,9 +73,11 @@ int main(void) {
     print_answer("verdict", refused);
     printf("\n");
 
+    /* No more of the buffers than reading a message of five symbols needs. */
     const uint8_t symbols[] = {0, 1, 1, 0, 1};
-    refused = furlazon_read(table, sizeof table, symbols, sizeof symbols, first, sizeof first, second, sizeof second, work,
-                            FURLAZON_VERDICT_WORK, answer, FURLAZON_ANSWER_ENTRIES);
+    refused = furlazon_read(table, sizeof table, symbols, sizeof symbols, first, FURLAZON_READ_ENTRIES(sizeof symbols), second,
+                            FURLAZON_READ_ENTRIES(sizeof symbols), work, FURLAZON_READ_WORK(sizeof symbols), answer,
+                            FURLAZON_ANSWER_ENTRIES);
     print_answer("reading of 01101", refused);
     print_entries("words", first, answer[1]);
 
@@ -81,7 +90,8 @@ int main(void) {
     printf("word 0 after word 2: %s\n", refused == FURLAZON_REFUSED_FORBIDDEN_PAIR ? "forbidden" : "not forbidden");
 
     /* An empty buffer may be NULL. */
-    refused = furlazon_read(table, sizeof table, NULL, 0, NULL, 0, NULL, 0, work, 1, answer, FURLAZON_ANSWER_ENTRIES);
+    refused = furlazon_read(table, sizeof table, NULL, 0, NULL, 0, NULL, 0, work, FURLAZON_READ_WORK(0), answer,
+                            FURLAZON_ANSWER_ENTRIES);
     print_answer("reading of the empty message", refused);
     printf("\n");
 
@@ -119,9 +129,7 @@ int main(void) {
     if (furlazon_turkish_classes(classes, sizeof classes) != 0) {
         return 1;
     }
-    refused = furlazon_split(table, sizeof table, classes, sizeof classes, (const uint8_t *)text, sizeof text - 1, out, sizeof out,
-                             message, sizeof message, first, sizeof first, second, sizeof second, work, FURLAZON_VERDICT_WORK, answer,
-                             FURLAZON_ANSWER_ENTRIES);
+    refused = split(text, sizeof text - 1);
     print_answer("text split by the Turkish types", refused);
     printf(": ");
     print_text(out, answer[0]);
@@ -133,9 +141,7 @@ int main(void) {
     if (furlazon_take_in((const uint8_t *)syllables, sizeof syllables - 1, table, sizeof table) != 0) {
         return 1;
     }
-    refused = furlazon_split(table, sizeof table, classes, sizeof classes, (const uint8_t *)other_text, sizeof other_text - 1, out,
-                             sizeof out, message, sizeof message, first, sizeof first, second, sizeof second, work,
-                             FURLAZON_VERDICT_WORK, answer, FURLAZON_ANSWER_ENTRIES);
+    refused = split(other_text, sizeof other_text - 1);
     print_answer("text split by three classes", refused);
     printf(": ");
     print_text(out, answer[0]);

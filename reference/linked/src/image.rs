@@ -4,7 +4,7 @@
 //! the 32 words the one that it is a copy of, then the one after which it
 //! stands.
 
-use crate::TABLE_BYTES;
+use furlazon::TABLE_BYTES;
 use reference::code::Code;
 use reference::table::Table;
 

@@ -1,11 +1,11 @@
-//! What belongs to the boundary alone: the numbers of the header, the image of
-//! a table, that of the built-in code, a table too short to be read, an
-//! enlarged one too short to be written, and an answer too short to be told;
-//! classes with room for them and without; and splitting with buffers of every
-//! length.
+//! What belongs to the boundary alone: the image of a table, that of the
+//! built-in code, a table too short to be read, an enlarged one too short to be
+//! written, and an answer too short to be told; classes with room for them and
+//! without; and splitting with buffers of every length.
 
-use furlazon::linked::refusal;
-use furlazon::{image, ANSWER_ENTRIES, CLASSES_BYTES, TABLE_BYTES};
+use furlazon::{split_entries, split_out, split_work, AMBIGUOUS, ANSWER_ENTRIES, CLASSES_BYTES, TABLE_BYTES};
+use linked::image;
+use linked::operations::refusal;
 use reference::cases::{class_sheets, TURKISH_CLASSES};
 use reference::classes::{self, OTHER};
 use reference::code::{Code, Refusal};
@@ -17,70 +17,6 @@ use reference::split::MAX_TEXT_BYTES;
 const MARK: u8 = 0x5A;
 const WORD_MARK: u64 = 0x5A5A;
 const SHEET: &[u8] = b"0,1,1,0,0\r\n10,1,1,1,1\r\n01,1,1,0,0\r\n101,1,1,1,1\r\n";
-
-/// The number that the header gives a name.
-fn defined(name: &str) -> u64 {
-    let header = include_str!("../../../include/furlazon.h");
-    let mut found = header.lines().filter_map(|line| {
-        let mut fields = line.strip_prefix("#define FURLAZON_")?.split_whitespace();
-        (fields.next()? == name).then(|| fields.next().expect("a value").parse().expect("a number"))
-    });
-    found.next().unwrap_or_else(|| panic!("{name} is not in the header"))
-}
-
-#[test]
-fn limits_of_the_header() {
-    for (name, number) in [
-        ("ALPHABET", 16),
-        ("CODE_WORDS", Code::MAX_WORDS),
-        ("WORD_SYMBOLS", Code::MAX_WORD_SYMBOLS),
-        ("CODE_SYMBOLS", Code::MAX_SYMBOLS),
-        ("SHEET_BYTES", Code::MAX_SHEET_BYTES),
-        ("BANS_BYTES", Code::MAX_BANS_BYTES),
-        ("CLASS_SHEET_BYTES", classes::MAX_SHEET_BYTES),
-        ("MESSAGE_SYMBOLS", Code::MAX_MESSAGE_SYMBOLS),
-        ("TEXT_BYTES", MAX_TEXT_BYTES),
-        ("TABLE_BYTES", TABLE_BYTES),
-        ("CLASSES_BYTES", CLASSES_BYTES),
-        ("OTHER", OTHER as usize),
-        ("ANSWER_ENTRIES", ANSWER_ENTRIES),
-        ("VERDICT_ENTRIES", VERDICT_ENTRIES),
-        ("VERDICT_WORK", VERDICT_WORKING),
-    ] {
-        assert_eq!(defined(name), number as u64, "{name}");
-    }
-}
-
-#[test]
-fn refusals_of_the_header() {
-    let names = [
-        ("SHEET_LENGTH", Refusal::SheetLength),
-        ("SHEET_BYTES", Refusal::SheetBytes),
-        ("RECORD_COUNT", Refusal::RecordCount),
-        ("WORD_LENGTH", Refusal::WordLength),
-        ("CODE_LENGTH", Refusal::CodeLength),
-        ("FIELD_COUNT", Refusal::FieldCount),
-        ("ROW_ENTRY", Refusal::RowEntry),
-        ("NOT_FROM_SHEET", Refusal::NotFromSheet),
-        ("UNKNOWN_WORD", Refusal::UnknownWord),
-        ("FORBIDDEN_PAIR", Refusal::ForbiddenPair),
-        ("MESSAGE_LENGTH", Refusal::MessageLength),
-        ("MESSAGE_SYMBOL", Refusal::MessageSymbol),
-        ("SHORT_BUFFER", Refusal::ShortBuffer),
-        ("NO_READING", Refusal::NoReading),
-        ("START_FIELD", Refusal::StartField),
-        ("BAN", Refusal::BanRecord),
-        ("COPIES", Refusal::BanLimit),
-        ("CLASS_RECORD", Refusal::ClassRecord),
-        ("CLASS_RANGE", Refusal::ClassRange),
-        ("CLASS_OVERLAP", Refusal::ClassOverlap),
-    ];
-    for (name, refusal) in names {
-        assert_eq!(defined(&format!("REFUSED_{name}")), u64::from(refusal.number()), "{name}");
-    }
-    let header = include_str!("../../../include/furlazon.h");
-    assert_eq!(header.matches("#define FURLAZON_REFUSED_").count(), names.len());
-}
 
 /// Where a word, its length, a row entry, a start mark and the counts stand in the image.
 #[test]
@@ -169,7 +105,7 @@ fn the_turkish_types_are_a_table() {
     let [mut message, mut first, mut second] = [(); 3].map(|()| vec![MARK; VERDICT_ENTRIES]);
     let (mut work, mut answer) = (vec![WORD_MARK; VERDICT_WORKING], [WORD_MARK; ANSWER_ENTRIES]);
     assert_eq!(furlazon::verdict(&table, &mut message, &mut first, &mut second, &mut work, &mut answer), 0);
-    assert_eq!(answer, [defined("AMBIGUOUS"), 5, 2, 2]);
+    assert_eq!(answer, [AMBIGUOUS, 5, 2, 2]);
     assert_eq!((&message[..5], &first[..2], &second[..2]), (&[0, 1, 1, 1, 0][..], &[2, 6][..], &[4, 1][..]));
 
     assert_eq!(furlazon::enlarge(&table, b"0,0,1", &mut enlarged), 0);
@@ -406,10 +342,11 @@ struct Lent {
 impl Lent {
     /// As many entries as a text of this length needs, and so many more.
     fn new(length: usize, more: usize) -> Lent {
-        let needed = [2 * length + 1, length, length, length];
+        let entries = split_entries(length);
+        let needed = [split_out(length), entries, entries, entries];
         Lent {
             bytes: needed.map(|entries| vec![MARK; entries + more]),
-            work: vec![WORD_MARK; length + 1 + more],
+            work: vec![WORD_MARK; split_work(length) + more],
             answer: vec![WORD_MARK; ANSWER_ENTRIES + more],
         }
     }

@@ -3,8 +3,9 @@
 //! splits, run by the proved library and by the reference: both give the same,
 //! lent buffers included, and it is what the papers say.
 
-use furlazon::linked::Linked;
-use furlazon::{image, TABLE_BYTES};
+use furlazon::TABLE_BYTES;
+use linked::image;
+use linked::operations::Linked;
 use reference::bans;
 use reference::cases::{
     banned, class_sheets, code_t, code_u, codes_for_the_empty_message, figure_2, limit_sheets, openings, refused_lists,

@@ -1,6 +1,6 @@
 //! The baseline of the benchmarks gives the verdicts of the reference.
 
-use furlazon::plain;
+use linked::plain;
 use reference::operations::{Operations, Reference};
 use reference::random::Random;
 use reference::{generate, verdict};

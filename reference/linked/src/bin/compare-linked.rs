@@ -2,8 +2,9 @@
 //! `compare-linked [START [ROUNDS]]`. Any difference ends the run with a
 //! failure.
 
-use furlazon::linked::Linked;
-use furlazon::{image, ANSWER_ENTRIES, CLASSES_BYTES, TABLE_BYTES};
+use furlazon::{ANSWER_ENTRIES, CLASSES_BYTES, TABLE_BYTES};
+use linked::image;
+use linked::operations::Linked;
 use reference::classes::Classes;
 use reference::code::{Code, Refusal};
 use reference::compare::{compare, on_list, on_table, Met};
@@ -131,7 +132,7 @@ fn sheet_number(refused: Option<Refusal>) -> u64 {
 }
 
 /// What splitting is refused with where the image, the classes or the answer
-/// are too short. Without the image and the classes nothing can be tested.
+/// are too short. The lengths of the image and of the classes come before all else.
 fn text_number(image: &[u8], classes: &[u8], text: &[u8]) -> u64 {
     let refusal = match classes.try_into().ok().filter(|_| image.len() == TABLE_BYTES).map(Classes::given) {
         None => Refusal::ShortBuffer,
@@ -143,7 +144,7 @@ fn text_number(image: &[u8], classes: &[u8], text: &[u8]) -> u64 {
 }
 
 /// What enlarging is refused with where there is no room for the image that it
-/// would write. A short image cannot be tested.
+/// would write. The length of the image that is read comes before all else.
 fn list_number(image: &[u8], list: &[u8]) -> u64 {
     sheet_number(image.try_into().ok().and_then(|image| Reference.enlarge(&image::unpack(image), list).0))
 }

@@ -5,7 +5,8 @@
 //! system interrupts does not count. The medians of the runs are printed, and
 //! their quotient; for splitting also the bytes of the text in a second.
 
-use furlazon::{image, plain, ANSWER_ENTRIES, CLASSES_BYTES, TABLE_BYTES};
+use furlazon::{split_out, ANSWER_ENTRIES, CLASSES_BYTES, TABLE_BYTES};
+use linked::{image, plain};
 use reference::cases::{largest_class_sheet, turkish_six_with_r, AMBIGUOUS_WORDS, SPLIT_WORDS, UNREAD_WORDS};
 use reference::classes::{self, Classes};
 use reference::code::Code;
@@ -161,7 +162,7 @@ fn clear(buffers: &mut Buffers) {
 fn splitting(text: &[u8]) -> (Vec<u8>, Buffers) {
     let mut buffers = Buffers { message: vec![0; text.len()], ..cleared() };
     cut(&mut buffers, text.len());
-    (vec![0; 2 * text.len() + 1], buffers)
+    (vec![0; split_out(text.len())], buffers)
 }
 
 /// Buffers of a reading, no longer than it needs.

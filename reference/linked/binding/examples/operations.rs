@@ -7,9 +7,10 @@
 //! words split by it, and a class sheet that is refused. Prints what
 //! `operations.c` prints.
 
-use furlazon::{ANSWER_ENTRIES, CLASSES_BYTES, TABLE_BYTES};
-use reference::code::Refusal;
-use reference::operations::{VERDICT_ENTRIES, VERDICT_WORKING};
+use furlazon::{
+    read_entries, read_work, split_entries, split_out, split_work, ANSWER_ENTRIES, CLASSES_BYTES,
+    REFUSED_CLASS_OVERLAP, REFUSED_FORBIDDEN_PAIR, REFUSED_NO_READING, TABLE_BYTES, VERDICT_ENTRIES, VERDICT_WORK,
+};
 
 fn main() {
     let sheet = b"0,1,1,0,0\r\n10,1,1,1,1\r\n01,1,1,0,0\r\n101,1,1,1,1\r\n";
@@ -18,11 +19,20 @@ fn main() {
 
     let mut answer = [0; ANSWER_ENTRIES];
     let [mut message, mut first, mut second] = [(); 3].map(|()| vec![0; VERDICT_ENTRIES]);
-    let mut work = vec![0; VERDICT_WORKING];
+    let mut work = vec![0; VERDICT_WORK];
     let refused = furlazon::verdict(&table, &mut message, &mut first, &mut second, &mut work, &mut answer);
     println!("verdict: refusal {refused}, answer {answer:?}");
 
-    let refused = furlazon::read(&table, &[0, 1, 1, 0, 1], &mut first, &mut second, &mut work, &mut answer);
+    // No more of the buffers than reading a message of five symbols needs.
+    let symbols = [0, 1, 1, 0, 1];
+    let refused = furlazon::read(
+        &table,
+        &symbols,
+        &mut first[..read_entries(symbols.len())],
+        &mut second[..read_entries(symbols.len())],
+        &mut work[..read_work(symbols.len())],
+        &mut answer,
+    );
     let reading = first[..answer[1] as usize].to_vec();
     println!("reading of 01101: refusal {refused}, answer {answer:?}, words {reading:?}");
 
@@ -30,10 +40,10 @@ fn main() {
     println!("its message: refusal {refused}, symbols {:?}", &message[..answer[0] as usize]);
 
     let refused = furlazon::encode(&table, &[2, 0], &mut message, &mut answer);
-    let forbidden = refused == u64::from(Refusal::ForbiddenPair.number());
+    let forbidden = refused == REFUSED_FORBIDDEN_PAIR;
     println!("word 0 after word 2: {}", if forbidden { "forbidden" } else { "not forbidden" });
 
-    let refused = furlazon::read(&table, &[], &mut [], &mut [], &mut work[..1], &mut answer);
+    let refused = furlazon::read(&table, &[], &mut [], &mut [], &mut work[..read_work(0)], &mut answer);
     println!("reading of the empty message: refusal {refused}, answer {answer:?}");
 
     let mut enlarged = [0; TABLE_BYTES];
@@ -45,10 +55,10 @@ fn main() {
     let symbols = message[..answer[0] as usize].to_vec();
     println!("words 2, 1, 0: refusal {refused}, symbols {symbols:?}");
     let refused = furlazon::encode(&enlarged, &[2, 1, 0], &mut message, &mut answer);
-    let forbidden = refused == u64::from(Refusal::ForbiddenPair.number());
+    let forbidden = refused == REFUSED_FORBIDDEN_PAIR;
     println!("words 2, 1, 0 with the ban: {}", if forbidden { "forbidden" } else { "not forbidden" });
     let refused = furlazon::read(&enlarged, &symbols, &mut first, &mut second, &mut work, &mut answer);
-    let none = refused == u64::from(Refusal::NoReading.number());
+    let none = refused == REFUSED_NO_READING;
     println!("reading of that message with the ban: {}", if none { "none" } else { "some" });
 
     assert_eq!(furlazon::turkish(&mut table), 0);
@@ -62,16 +72,17 @@ fn main() {
     let text = b"krali\xE7e, kongre, bb";
     let mut classes = [0; CLASSES_BYTES];
     assert_eq!(furlazon::turkish_classes(&mut classes), 0);
-    let mut out = vec![0; 2 * text.len() + 1];
+    let n = text.len();
+    let mut out = vec![0; split_out(n)];
     let refused = furlazon::split(
         &table,
         &classes,
         text,
         &mut out,
-        &mut message,
-        &mut first,
-        &mut second,
-        &mut work,
+        &mut message[..split_entries(n)],
+        &mut first[..split_entries(n)],
+        &mut second[..split_entries(n)],
+        &mut work[..split_work(n)],
         &mut answer,
     );
     println!("text split by the Turkish types: refusal {refused}, answer {answer:?}: {}", shown(&out, answer[0]));
@@ -87,22 +98,23 @@ fn main() {
         1201,1,1,1,1,1,1\r\n20,1,1,1,1,1,1\r\n201,1,1,1,1,1,1\r\n";
     assert_eq!(furlazon::take_in(sheet, &mut table), 0);
     let text = b"kongre, matris, bb";
-    let mut out = vec![0; 2 * text.len() + 1];
+    let n = text.len();
+    let mut out = vec![0; split_out(n)];
     let refused = furlazon::split(
         &table,
         &classes,
         text,
         &mut out,
-        &mut message,
-        &mut first,
-        &mut second,
-        &mut work,
+        &mut message[..split_entries(n)],
+        &mut first[..split_entries(n)],
+        &mut second[..split_entries(n)],
+        &mut work[..split_work(n)],
         &mut answer,
     );
     println!("text split by three classes: refusal {refused}, answer {answer:?}: {}", shown(&out, answer[0]));
 
     let refused = furlazon::take_classes(b"61,7A,1\r\n65,65,0\r\n", &mut classes);
-    let overlap = refused == u64::from(Refusal::ClassOverlap.number());
+    let overlap = refused == REFUSED_CLASS_OVERLAP;
     println!("class sheet with e in two records: {}", if overlap { "refused" } else { "not refused for that" });
 }
 

@@ -1,7 +1,10 @@
 //! The proved library behind the trait of the reference, so that both can be
 //! held against each other.
 
-use crate::{image, ANSWER_ENTRIES, CLASSES_BYTES, TABLE_BYTES};
+use crate::image;
+use furlazon::{
+    AMBIGUOUS, ANSWER_ENTRIES, CLASSES_BYTES, DELAY, ONE_READING, SEVERAL_READINGS, TABLE_BYTES, WITHOUT_BOUND,
+};
 use reference::classes::{Entries, OTHER};
 use reference::code::Refusal;
 use reference::operations::{Buffers, Operations, ReadingLengths, VerdictLengths};
@@ -45,14 +48,14 @@ const MARK: u64 = 0x5A5A_5A5A_5A5A_5A5A;
 
 /// Runs a call with an answer buffer longer than needed. A refusal must leave
 /// it as it was, a result must leave the entries past the answer as they were.
-fn answer(call: impl FnOnce(&mut [u64]) -> u64) -> Result<[usize; ANSWER_ENTRIES], Refusal> {
+fn answer(call: impl FnOnce(&mut [u64]) -> u64) -> Result<[u64; ANSWER_ENTRIES], Refusal> {
     let mut entries = [MARK; ANSWER_ENTRIES + 2];
     let refused = refusal(call(&mut entries));
     let unchanged = if refused.is_some() { 0 } else { ANSWER_ENTRIES };
     assert!(entries[unchanged..].iter().all(|&entry| entry == MARK), "entries changed: {entries:?}, {refused:?}");
     match refused {
         Some(refusal) => Err(refusal),
-        None => Ok(std::array::from_fn(|at| entries[at] as usize)),
+        None => Ok(*entries.first_chunk().expect("an answer")),
     }
 }
 
@@ -83,11 +86,11 @@ fn classes(call: impl FnOnce(&mut [u8]) -> u64) -> (Option<Refusal>, Entries) {
 
 impl Operations for Linked {
     fn take_in(&mut self, sheet: &[u8]) -> (Option<Refusal>, Table) {
-        table(|image| crate::take_in(sheet, image))
+        table(|image| furlazon::take_in(sheet, image))
     }
 
     fn turkish(&mut self) -> Table {
-        match table(crate::turkish) {
+        match table(furlazon::turkish) {
             (None, table) => table,
             other => panic!("not the built-in code: {other:?}"),
         }
@@ -95,15 +98,15 @@ impl Operations for Linked {
 
     fn enlarge(&mut self, words: &Table, list: &[u8]) -> (Option<Refusal>, Table) {
         let words = image::pack(words);
-        table(|image| crate::enlarge(&words, list, image))
+        table(|image| furlazon::enlarge(&words, list, image))
     }
 
     fn take_classes(&mut self, sheet: &[u8]) -> (Option<Refusal>, Entries) {
-        classes(|entries| crate::take_classes(sheet, entries))
+        classes(|entries| furlazon::take_classes(sheet, entries))
     }
 
     fn turkish_classes(&mut self) -> Entries {
-        match classes(crate::turkish_classes) {
+        match classes(furlazon::turkish_classes) {
             (None, entries) => entries,
             other => panic!("not the built-in classes: {other:?}"),
         }
@@ -111,8 +114,8 @@ impl Operations for Linked {
 
     fn encode(&mut self, table: &Table, sequence: &[u8], message: &mut [u8]) -> Result<usize, Refusal> {
         let table = image::pack(table);
-        match answer(|entries| crate::encode(&table, sequence, message, entries))? {
-            [length, 0, 0, 0] => Ok(length),
+        match answer(|entries| furlazon::encode(&table, sequence, message, entries))? {
+            [length, 0, 0, 0] => Ok(length as usize),
             other => panic!("not the answer to an encoding: {other:?}"),
         }
     }
@@ -120,9 +123,9 @@ impl Operations for Linked {
     fn read(&mut self, table: &Table, message: &[u8], buffers: &mut Buffers) -> Result<ReadingLengths, Refusal> {
         let table = image::pack(table);
         let Buffers { first, second, working, .. } = buffers;
-        match answer(|entries| crate::read(&table, message, first, second, working, entries))? {
-            [1, length, 0, 0] => Ok(ReadingLengths::One(length)),
-            [2, first, second, 0] => Ok(ReadingLengths::Two(first, second)),
+        match answer(|entries| furlazon::read(&table, message, first, second, working, entries))? {
+            [ONE_READING, length, 0, 0] => Ok(ReadingLengths::One(length as usize)),
+            [SEVERAL_READINGS, first, second, 0] => Ok(ReadingLengths::Two(first as usize, second as usize)),
             other => panic!("not the answer to a reading: {other:?}"),
         }
     }
@@ -137,8 +140,10 @@ impl Operations for Linked {
     ) -> Result<usize, Refusal> {
         let table = image::pack(table);
         let Buffers { message, first, second, working } = buffers;
-        match answer(|entries| crate::split(&table, classes, text, output, message, first, second, working, entries))? {
-            [length, 0, 0, 0] => Ok(length),
+        match answer(|entries| {
+            furlazon::split(&table, classes, text, output, message, first, second, working, entries)
+        })? {
+            [length, 0, 0, 0] => Ok(length as usize),
             other => panic!("not the answer to a splitting: {other:?}"),
         }
     }
@@ -146,10 +151,13 @@ impl Operations for Linked {
     fn verdict(&mut self, table: &Table, buffers: &mut Buffers) -> Result<VerdictLengths, Refusal> {
         let table = image::pack(table);
         let Buffers { message, first, second, working } = buffers;
-        match answer(|entries| crate::verdict(&table, message, first, second, working, entries))? {
-            [1, message, first, second] => Ok(VerdictLengths::Ambiguous { message, first, second }),
-            [2, delay, 0, 0] => Ok(VerdictLengths::Delay(delay)),
-            [3, 0, 0, 0] => Ok(VerdictLengths::Unbounded),
+        match answer(|entries| furlazon::verdict(&table, message, first, second, working, entries))? {
+            [AMBIGUOUS, lengths @ ..] => {
+                let [message, first, second] = lengths.map(|length| length as usize);
+                Ok(VerdictLengths::Ambiguous { message, first, second })
+            }
+            [DELAY, delay, 0, 0] => Ok(VerdictLengths::Delay(delay as usize)),
+            [WITHOUT_BOUND, 0, 0, 0] => Ok(VerdictLengths::Unbounded),
             other => panic!("not a verdict: {other:?}"),
         }
     }
