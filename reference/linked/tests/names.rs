@@ -11,6 +11,7 @@ use std::path::Path;
 
 const HEADER: &str = include_str!("../../../include/furlazon.h");
 const BINDING: &str = include_str!("../binding/src/lib.rs");
+const PYTHON: &str = include_str!("../examples/verdict.py");
 const SECOND: &str = include_str!("../../src/code.rs");
 const CODE: &str = include_str!("../../../crates/code/src/lib.rt");
 const C_IMAGE: &str = include_str!("../../../crates/c_image/src/lib.rt");
@@ -80,7 +81,10 @@ fn refusals_have_one_name() {
     });
     let source: Numbers = arms.collect();
     assert_eq!(source.iter().map(|refusal| refusal.0.clone()).collect::<Vec<_>>(), names, "a refusal without a number");
-    assert_eq!(source.iter().map(|refusal| refusal.1).collect::<Vec<_>>(), (1..=20).collect::<Vec<_>>());
+    assert_eq!(
+        source.iter().map(|refusal| refusal.1).collect::<Vec<_>>(),
+        (1..=names.len() as u64).collect::<Vec<_>>()
+    );
 
     let second = block(SECOND, "pub enum Refusal").map(|line| {
         let (name, value) = line.trim_end_matches(',').split_once(" = ").expect("a number");
@@ -98,6 +102,20 @@ fn the_binding_has_the_numbers_of_the_header() {
     // Every macro is one of these, of the version, of the needs below, or the guard.
     let macros = HEADER.lines().filter(|line| line.starts_with("#define ")).count();
     assert_eq!(macros, header.len() + 4 + needs_of_the_header().len() + 1);
+}
+
+/// The example in Python has those that it needs.
+#[test]
+fn the_python_example_has_numbers_of_the_header() {
+    let assigned = |line: &str| {
+        let (name, value) = line.split_once(" = ")?;
+        Some((name.to_string(), number(value)?))
+    };
+    let (header, python) = (header_numbers(), PYTHON.lines().filter_map(assigned).collect::<Numbers>());
+    assert_eq!(python.len(), 9);
+    for constant in python {
+        assert!(header.contains(&constant), "{constant:?}");
+    }
 }
 
 /// The needs of the header that depend on a length n, each as it is worked out.
