@@ -100,7 +100,7 @@ fn bits(digits: &str) -> Vec<bool> {
     digits.chars().map(|digit| digit == '1').collect()
 }
 
-/// The refusals, by their numbers.
+/// The refusals, by their numbers, under the names of the verified source.
 #[derive(Clone, Copy, PartialEq, Eq, PartialOrd, Ord, Debug)]
 #[repr(u8)]
 pub enum Refusal {
