@@ -17,7 +17,8 @@
  * zero, each whole.
  *
  * A ban says that word X never follows word Y and then word Z. A code with such bans has copies of words; a table with copies is
- * taken wherever one without is. Words are always named by their original numbers, never by the number of a copy.
+ * taken wherever one without is, but not enlarged again. Words are always named by their original numbers, never by the number of a
+ * copy.
  *
  * Classes say for each byte of a text which symbol it stands for, or that it is no letter.
  */
