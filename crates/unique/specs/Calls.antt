@@ -1,5 +1,5 @@
 -- Each contract of a function for C leaves one number only, and one content of each buffer.
-use mathlib.Core.Path.{_≡_, refl, sym, ap, ap₂, _∙_}
+use mathlib.Core.Path.{_≡_, sym, ap, _∙_}
 use mathlib.Core.List.{List, [], _∷_, _++_}
 use mathlib.Core.Logic.{_⊎_, inl, inr}
 use Prim.Native.Nat.{ℕ, _<_, _≤_}
@@ -18,7 +18,7 @@ use Rattle.code.specs.Definitions.Sheets.{limits}
 use Rattle.c_answers.specs.Answers.{answerLength, encodingNumber, encodingEntries, readingNumber, readingEntries, judgementNumber, judgementEntries, splittingNumber, splittingEntries}
 use Rattle.c_image.specs.Image.{imageLength, enlargedIn, imageOf}
 use Rattle.c_short_answers.specs.Untold.{Untold, noAnswer}
-use Rattle.c_results.specs.Given.{Answered, classesIn, sheetNumber, afterSheet}
+use Rattle.c_results.specs.Given.{Answered, sheetNumber, afterSheet}
 use Rattle.code.specs.Laws.Conditions.{lowest-unique}
 use Rattle.ban_meaning.specs.Answered.{enlarges-unique}
 use Rattle.furlazon.specs.Calls.{EnlargeCall, EncodeCall, ReadCall, VerdictCall, SplitCall}
