@@ -36,11 +36,11 @@ fn asks_help(arguments: usize) -> bool {
     is_same(&word[..n], b"--help")
 }
 
-// Whether a program that takes so many arguments at the most goes on. Help that is asked for is written on standard output; that there are too many arguments
-// is told by its usage on standard error.
-pub fn goes_on(arguments: usize, most: usize, help: &[u8], usage: &[u8]) -> bool {
+// Whether a program that takes so many arguments at the most goes on. Help that is asked for is written on standard output, and `what` tells that it could not
+// be; that there are too many arguments is told by its usage on standard error.
+pub fn goes_on(arguments: usize, most: usize, what: &[u8], help: &[u8], usage: &[u8]) -> bool {
     if asks_help(arguments) {
-        io::write_all(STDOUT_FILENO, help);
+        write_standard(what, help);
         return false;
     }
     if most < arguments {

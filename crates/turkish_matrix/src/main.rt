@@ -70,6 +70,7 @@ fn main() {
     let goes = goes_on(
         os::arg_count(),
         1,
+        b"turkish_matrix: cannot write standard output",
         b"usage: turkish_matrix\nPrints which of the twelve Turkish syllable types may follow which, worked out from two rules, as a constant of the source.\n",
         b"turkish_matrix takes no argument; usage: turkish_matrix\n",
     );

@@ -100,6 +100,7 @@ fn main() {
     let goes = goes_on(
         arguments,
         2,
+        b"verdict: cannot write standard output",
         b"usage: verdict [LIST.bans] < SHEET.csv\nSays whether the code of a sheet is ambiguous, or decipherable with which delay. docs/GUIDE.md has the form of a sheet and of a ban list, and what each refusal means.\n",
         b"verdict takes at most one argument; usage: verdict [LIST.bans] < SHEET.csv\n",
     );
