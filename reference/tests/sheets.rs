@@ -41,8 +41,8 @@ fn stored_results() {
     for stored in &sheets {
         assert_eq!(result(&stored.sheet, &stored.list), stored.result, "{}", stored.name);
     }
-    assert_eq!(sheets.len(), 74);
-    assert_eq!(sheets.iter().filter(|stored| !stored.list.is_empty()).count(), 25);
+    assert_eq!(sheets.len(), 75);
+    assert_eq!(sheets.iter().filter(|stored| !stored.list.is_empty()).count(), 26);
 }
 
 /// The largest codes are too large for brute force.
