@@ -1,7 +1,7 @@
 # Makes a class sheet from a list of letters. Each line of the list has a symbol digit and then the letters that stand for it; spaces do not count. The list comes
 # as od writes its bytes. A letter that the list has twice, or in two lines, gets one more record at the end of the sheet, so that the sheet is refused and the
 # letter can be seen; a line that begins with no digit gets ? for one, and is refused too.
-# Usage: iconv -f UTF-8 -t ISO-8859-13 letters.txt | od -An -v -tx1 | awk -f sheets/letters.awk > mine.classes
+# Usage: iconv -f UTF-8 -t WINDOWS-1257 letters.txt | od -An -v -tx1 | awk -f sheets/letters.awk > mine.classes
 BEGIN { digits = "30 31 32 33 34 35 36 37 38 39 41 42 43 44 45 46" }
 { for (i = 1; i <= NF; i++) take(toupper($i)) }
 END {
