@@ -3,7 +3,7 @@
 # Usage: target/bin/verdict mine.bans < mine.csv | awk -f sheets/explain.awk mine.csv
 BEGIN {
     FS = ","
-    while ((getline row < ARGV[1]) > 0) {
+    while (ARGC > 1 && (getline row < ARGV[1]) > 0) {
         sub(/\r$/, "", row)
         word[words++] = substr(row, 1, index(row ",", ",") - 1)
     }
