@@ -37,8 +37,11 @@ pub struct Met {
     pub refused: [usize; 21],
 }
 
-/// Compares on `rounds` rounds of generated inputs: what was met, or the first difference in words.
+/// Compares on `rounds` rounds of generated inputs: what was met, or the first difference in words. Without a round nothing is compared, which is no success.
 pub fn compare(subject: &mut impl Operations, start: u64, rounds: usize) -> Result<Met, String> {
+    if rounds == 0 {
+        return Err("no round, so nothing is compared".to_string());
+    }
     let mut random = Random(start);
     let mut met = Met::default();
     for round in 0..rounds {

@@ -1,19 +1,21 @@
 //! Runs another program on generated sheets, half of them with a ban list, and
 //! compares what it prints with what the reference prints: `compare PROGRAM
-//! [START [COUNT]]`.
+//! [START [COUNT]]`. Its exit status has to be 0.
 
 use reference::random::Random;
 use reference::{generate, print, sheet};
 use std::collections::BTreeMap;
 use std::io::{self, Write};
 use std::path::{Path, PathBuf};
-use std::process::{exit, Command, Stdio};
+use std::process::{exit, Command, Output, Stdio};
 use std::{env, fs, process};
 
 fn main() -> io::Result<()> {
     let arguments: Vec<String> = env::args().skip(1).collect();
     let number = |at: usize, other: u64| arguments.get(at).map_or(Some(other), |text| text.parse().ok());
-    let (Some(program), Some(start), Some(count)) = (arguments.first(), number(1, 1), number(2, 1_000)) else {
+    // A run that compares nothing is none.
+    let count = number(2, 1_000).filter(|&count| count > 0);
+    let (Some(program), Some(start), Some(count)) = (arguments.first(), number(1, 1), count) else {
         eprintln!("usage: compare PROGRAM [START [COUNT]]");
         exit(2);
     };
@@ -28,12 +30,12 @@ fn main() -> io::Result<()> {
         if let Some(list) = &list {
             fs::write(&file.0, list)?;
         }
-        let actual = printed(program, &sheet, list.is_some().then_some(&file.0))?;
-        if actual != expected {
+        let Output { status, stdout: actual, .. } = run(program, &sheet, list.is_some().then_some(&file.0))?;
+        if actual != expected || !status.success() {
             println!("sheet {round} differs: {:?}", String::from_utf8_lossy(&sheet));
             println!("ban list: {:?}", list.map(|list| String::from_utf8_lossy(&list).into_owned()));
             println!("expected {:?}", String::from_utf8_lossy(&expected));
-            println!("but met {:?}", String::from_utf8_lossy(&actual));
+            println!("but met {:?}, {status}", String::from_utf8_lossy(&actual));
             drop(file);
             exit(1);
         }
@@ -71,8 +73,8 @@ fn kind(printed: &[u8]) -> String {
     }
 }
 
-/// What the program prints for a sheet on its standard input; the path of a ban list, if there is one, is its argument.
-fn printed(program: &str, sheet: &[u8], list: Option<impl AsRef<Path>>) -> io::Result<Vec<u8>> {
+/// What the program prints for a sheet on its standard input, and how it ends; the path of a ban list, if there is one, is its argument.
+fn run(program: &str, sheet: &[u8], list: Option<impl AsRef<Path>>) -> io::Result<Output> {
     let arguments = list.iter().map(|path| path.as_ref());
     let mut child = Command::new(program)
         .args(arguments)
@@ -84,5 +86,5 @@ fn printed(program: &str, sheet: &[u8], list: Option<impl AsRef<Path>>) -> io::R
     // A program that stops reading a sheet too long for it is in its right.
     let _ = input.write_all(sheet);
     drop(input);
-    Ok(child.wait_with_output()?.stdout)
+    child.wait_with_output()
 }
