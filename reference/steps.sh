@@ -2,6 +2,7 @@
 # Environment variables name other things than the repository's, so that check-checks can try the steps on wrong ones: PROGRAMS, the folder of the programs,
 # and EXAMPLES, that of the examples in C.
 # shellcheck shell=bash
+room=${room:?}
 steps=${BASH_SOURCE[0]}
 programs=${PROGRAMS:-target/bin}
 examples=${EXAMPLES:-reference/linked/examples}
