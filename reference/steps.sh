@@ -39,7 +39,7 @@ archive_built() {
     test -s target/staticlib/libfurlazon.a
 }
 
-# All tests of both packages; prints how many passed.
+# All tests of all packages; prints how many passed.
 tests() {
     in_reference cargo test --quiet --offline --workspace >"$room/tests" 2>&1 || { cat "$room/tests"; return 1; }
     awk '/^test result/ { passed += $4 } END { print passed + 0 " tests passed"; exit passed == 0 }' "$room/tests"
@@ -56,11 +56,20 @@ c_verdict() {
     reference/check-sheets "$room/verdict-c"
 }
 
-# The examples in C and in Rust print the same.
+# The example in Python calls the archive as a shared object, whose code has to be position independent.
+python_verdict() {
+    rm -f "$room/libfurlazon.so"
+    cc -shared -Wl,-z,text -Wl,--whole-archive target/staticlib/libfurlazon.a -Wl,--no-whole-archive -o "$room/libfurlazon.so"
+    reference/check-sheets python3 "$examples/verdict.py" "$room/libfurlazon.so"
+}
+
+# The examples in C, also as C++, and in Rust print the same.
 operations() {
     local program
     c_example operations
-    for program in "$room/operations-c" reference/target/release/examples/operations; do
+    rm -f "$room/operations-cc"
+    c++ -x c++ -Wall -Wextra -Werror -O2 -I include "$examples/operations.c" -x none -L target/staticlib -lfurlazon -o "$room/operations-cc"
+    for program in "$room/operations-c" "$room/operations-cc" reference/target/release/examples/operations; do
         "$program" >"$room/printed"
         diff "$room/printed" "$examples/operations.out"
     done

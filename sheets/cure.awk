@@ -38,10 +38,10 @@ END {
     if (names) tell("left out, as column names: " record[1])
     fields = sheet(names + 1)
     words = records - names
-    # One empty column at the right may hold the last entries, missing, of a sheet with start fields; column names that end before it say that it does not. With
-    # two or more, or behind start fields, the number of fields is none that a sheet with so many records can have.
-    if (columns == 1 && fields == words + 1 && !(names && count(record[1]) == fields)) {
-        tell("left in place, for the last entries may be missing there: an empty column at the right")
+    # The first empty column at the right may hold the last entries, missing, of a sheet with start fields; column names that end before it say that it does not.
+    # Behind start fields the number of fields is none that a sheet with so many records can have.
+    if (columns && fields == words + 1 && !(names && count(record[1]) == fields)) {
+        tell("left in place, for the last entries may be missing there: an empty column at the right; section 4 of docs/GUIDE.md has its cure")
         for (i = 1; i <= records; i++) record[i] = record[i] ","
     }
     # In the same way one empty row may be a missing word of a sheet without start fields.

@@ -186,7 +186,7 @@ fn main() {
         arguments,
         3,
         b"syllabify: cannot write standard output",
-        b"usage: syllabify [SHEET.csv [CLASSES.classes]] < TEXT\nSplits the words of a text into syllables: by the Turkish types and letters, or by those of a code sheet and a class sheet. docs/GUIDE.md has their form, and what each refusal means.\n",
+        b"usage: syllabify [SHEET.csv [CLASSES.classes]] < TEXT\nSplits the words of a text into syllables: by the Turkish types and letters, or by those of a code sheet and a class sheet. docs/TEXTS.md has the form of a text and of a class sheet, docs/GUIDE.md that of a code sheet, and what each refusal means.\n",
         b"syllabify takes at most two arguments; usage: syllabify [SHEET.csv [CLASSES.classes]] < TEXT\n",
     );
     if !goes {
