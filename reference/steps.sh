@@ -6,8 +6,8 @@ room=${room:?}
 steps=${BASH_SOURCE[0]}
 programs=${PROGRAMS:-target/bin}
 examples=${EXAMPLES:-reference/linked/examples}
-# The stack in KiB that the programs are tried with; the guide names it.
-stack=1024
+# The stack in KiB that the programs are tried with, not quite twice what the guide says that they need.
+stack=512
 
 # step NAME COMMAND...: runs a command, which may be a function of this file, and says how it ended and the last line that it printed. It has a shell of its
 # own, which ends at the first command that fails, in a pipe too. In the condition of an `if` this shell would go on.
