@@ -25,9 +25,10 @@ step() {
 
 in_reference() (cd reference && "$@")
 
-# The proved programs. `rt` builds one anew where a source has changed.
+# The proved programs, proved and built anew: by its stamp alone `rt` would take whatever stands in their place for them.
 programs_built() {
     local program
+    for program in verdict syllabify turkish_matrix; do rm -f "target/bin/$program" "target/stamp/$program"; done
     rt check verdict syllabify turkish_matrix
     for program in verdict syllabify turkish_matrix; do test -x "target/bin/$program"; done
 }

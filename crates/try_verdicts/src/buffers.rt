@@ -1,11 +1,12 @@
 // The lent buffers: what they hold before, and whether they hold it after.
 
+use decipher::Pairs;
 use libc::STDOUT_FILENO;
 
-// The greatest lengths at which the buffers are lent.
-pub const ENTRIES: usize = 8430;
+// The greatest lengths at which the buffers are lent: some more than a verdict needs.
+pub const ENTRIES: usize = Pairs::ROOM + 46;
 
-pub const WORK_ENTRIES: usize = 16400;
+pub const WORK_ENTRIES: usize = Pairs::MARKS + 16;
 
 // What every entry holds before. No symbol and no word has this number.
 pub const BEFORE: u8 = 200;

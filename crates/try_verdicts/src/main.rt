@@ -7,23 +7,24 @@ mod trials;
 
 use code::Code;
 use code::Sheet;
+use decipher::Pairs;
 use libc::STDOUT_FILENO;
 use trials::Lent;
 use trials::try_table;
 
 // What a verdict needs, and more than that.
 const NEEDED: Lent = Lent {
-    message: 8384,
-    first: 8384,
-    second: 8384,
-    work: 16384,
+    message: Pairs::ROOM,
+    first: Pairs::ROOM,
+    second: Pairs::ROOM,
+    work: Pairs::MARKS,
 };
 
 const LONGER: Lent = Lent {
-    message: 8428,
-    first: 8429,
-    second: 8430,
-    work: 16400,
+    message: buffers::ENTRIES - 2,
+    first: buffers::ENTRIES - 1,
+    second: buffers::ENTRIES,
+    work: buffers::WORK_ENTRIES,
 };
 
 fn from_sheet(sheet: &[u8]) -> Code {
@@ -51,16 +52,16 @@ fn try_file(path: &[u8]) {
 // Each buffer one entry short.
 fn try_short(code: Code) {
     let mut lent = NEEDED;
-    lent.message = 8383;
+    lent.message = Pairs::ROOM - 1;
     try_table(code, lent);
     lent = NEEDED;
-    lent.first = 8383;
+    lent.first = Pairs::ROOM - 1;
     try_table(code, lent);
     lent = NEEDED;
-    lent.second = 8383;
+    lent.second = Pairs::ROOM - 1;
     try_table(code, lent);
     lent = NEEDED;
-    lent.work = 16383;
+    lent.work = Pairs::MARKS - 1;
     try_table(code, lent);
 }
 

@@ -5,7 +5,9 @@ use code::Code;
 use code::Judgement;
 use code::Verdict;
 use libc::STDOUT_FILENO;
-ghost use Prim.Native.Nat.{_≤_};
+ghost use Prim.Native.Nat.{_≤_, _+_, _*_};
+ghost use Rattle.code.specs.Definitions.Operations.{verdictRoom};
+ghost use Rattle.code.specs.Definitions.Sheets.{limits};
 
 // Lengths of the four buffers.
 pub struct Lent {
@@ -91,7 +93,8 @@ fn try_in(code: Code, message: &mut [u8], first: &mut [u8], second: &mut [u8], w
 
 // Gives the verdict on a table, with buffers of these lengths.
 pub fn try_table(code: Code, lent: Lent)
-    requires { ⌜ (lent .message ≤ 8430) × (lent .first ≤ 8430) × (lent .second ≤ 8430) × (lent .work ≤ 16400) ⌝ }
+    requires { ⌜ (lent .message ≤ verdictRoom limits + 46) × (lent .first ≤ verdictRoom limits + 46) × (lent .second ≤ verdictRoom limits + 46)
+        × (lent .work ≤ limits .total * limits .total + 16) ⌝ }
 {
     write_lent(lent);
     let m = lent.message;
