@@ -1,20 +1,20 @@
 /* Codes with forbidden successors: taking in a sheet, the built-in code of the twelve Turkish types, enlarging a code by a ban
  * list, encoding, reading, taking in the letter classes of a class sheet, the built-in Turkish letters, splitting the words of a
- * text, and the verdict.
+ * text, the verdict, and the next word of a message that is still coming in.
  *
  * The functions are proved for every input that this file allows: pointers to as many entries as the length beside them says,
  * no two of them overlapping where one is written, and 8-byte alignment for uint64_t. Nothing else is asked. Where a length is 0
  * the pointer may be NULL: nothing is read or written through it, and the buffer is an empty one.
  * docs/LINKING.md tells how to link them.
  *
- * Every function returns 0 for a result and otherwise the number of a refusal, the lowest that holds. But a function that reads
- * `table`, or `table` and `classes`, tests their lengths before everything else: where one of them is too short, the number is
- * FURLAZON_REFUSED_SHORT_BUFFER, whatever else holds. Every other buffer that is too short, `answer` too, gets that number in its
- * place among the others.
+ * Every function returns 0 for a result and otherwise the number of a refusal, the lowest that holds; furlazon_next alone has another
+ * order, which stands with it, and returns the first that holds. But a function that reads `table`, or `table` and `classes`, tests
+ * their lengths before everything else: where one of them is too short, the number is FURLAZON_REFUSED_SHORT_BUFFER, whatever else
+ * holds. Every other buffer that is too short, `answer` too, gets that number in its place among the others.
  *
- * A refusal changes no buffer, except that FURLAZON_REFUSED_NO_READING leaves `work` all zero. A result leaves the whole of `work`
- * zero, and in every other buffer what stands past the written part as it was; but splitting leaves `message`, `first` and `second`
- * zero, each whole.
+ * A refusal changes no buffer, except that FURLAZON_REFUSED_NO_READING leaves `work` all zero, and that of furlazon_next
+ * FURLAZON_REFUSED_NO_FINITE_DELAY and FURLAZON_REFUSED_MESSAGE_SYMBOL do so too. A result leaves the whole of `work` zero, and in every
+ * other buffer what stands past the written part as it was; but splitting leaves `message`, `first` and `second` zero, each whole.
  *
  * A ban says that word X never follows word Y and then word Z. A code with such bans has copies of words; a table with copies is
  * taken wherever one without is, but not enlarged again. Words are always named by their original numbers, never by the number of a
@@ -37,9 +37,9 @@ extern "C" {
  * first stays 0 as long as a request may change a declaration, a macro or an image. The library does not tell its version: use it with
  * the header of the same build. */
 #define FURLAZON_VERSION_MAJOR 0
-#define FURLAZON_VERSION_MINOR 6
+#define FURLAZON_VERSION_MINOR 7
 #define FURLAZON_VERSION_PATCH 0
-#define FURLAZON_VERSION "0.6.0"
+#define FURLAZON_VERSION "0.7.0"
 
 /* Limits. */
 #define FURLAZON_ALPHABET 16            /* a symbol is a number below it */
@@ -49,33 +49,35 @@ extern "C" {
 #define FURLAZON_SHEET_BYTES 4096       /* bytes of a sheet */
 #define FURLAZON_BANS_BYTES 4096        /* bytes of a ban list */
 #define FURLAZON_CLASS_SHEET_BYTES 4096 /* bytes of a class sheet */
-#define FURLAZON_MESSAGE_SYMBOLS 16384  /* symbols of a message, for encoding and reading */
+#define FURLAZON_MESSAGE_SYMBOLS 16384  /* symbols of a message, for encoding, reading and the next word */
 #define FURLAZON_TEXT_BYTES 16384       /* bytes of a text, for splitting */
 
 /* Refusals, under the names that they have in the source. */
-#define FURLAZON_REFUSED_SHEET_LENGTH 1    /* a sheet of 0 bytes or over FURLAZON_SHEET_BYTES, a class sheet of 0 bytes or over
-                                              FURLAZON_CLASS_SHEET_BYTES, a ban list over FURLAZON_BANS_BYTES */
-#define FURLAZON_REFUSED_SHEET_BYTES 2     /* a byte other than 0-9, A-F, comma, CR, LF; a CR without LF next; an LF without CR before */
-#define FURLAZON_REFUSED_RECORD_COUNT 3    /* more than FURLAZON_CODE_WORDS records */
-#define FURLAZON_REFUSED_WORD_LENGTH 4     /* a first field that is empty or has over FURLAZON_WORD_SYMBOLS digits */
-#define FURLAZON_REFUSED_CODE_LENGTH 5     /* over FURLAZON_CODE_SYMBOLS symbols in all */
-#define FURLAZON_REFUSED_FIELD_COUNT 6     /* n records of which not all have n + 1 fields, nor all n + 2 */
-#define FURLAZON_REFUSED_ROW_ENTRY 7       /* a row entry other than the single digit 0 or 1 */
-#define FURLAZON_REFUSED_NOT_FROM_SHEET 8  /* a table that no accepted sheet gives, nor one with an accepted ban list; classes that no
-                                              accepted class sheet gives */
-#define FURLAZON_REFUSED_UNKNOWN_WORD 9    /* a word number that is not in the table; the number of a copy is none */
-#define FURLAZON_REFUSED_FORBIDDEN_PAIR 10 /* a neighbouring pair that is not permitted; a first word that may not begin; a banned triple */
-#define FURLAZON_REFUSED_MESSAGE_LENGTH 11 /* a message of over FURLAZON_MESSAGE_SYMBOLS symbols; a text of over FURLAZON_TEXT_BYTES */
-#define FURLAZON_REFUSED_MESSAGE_SYMBOL 12 /* a message symbol that is not below FURLAZON_ALPHABET */
-#define FURLAZON_REFUSED_SHORT_BUFFER 13   /* a buffer that is too short */
-#define FURLAZON_REFUSED_NO_READING 14     /* no permitted sequence has this message */
-#define FURLAZON_REFUSED_START_FIELD 15    /* a start field other than the single digit 0 or 1 */
-#define FURLAZON_REFUSED_BAN_RECORD 16     /* a byte other than 0-9, comma, CR, LF; CR and LF not together; a record that is no ban */
-#define FURLAZON_REFUSED_BAN_LIMIT 17      /* over FURLAZON_CODE_WORDS words or FURLAZON_CODE_SYMBOLS symbols with the copies */
-#define FURLAZON_REFUSED_CLASS_RECORD 18   /* wrong bytes as for 2; a record that is not three fields of two, two and one digit; a record
-                                              that takes in B7, 28, 29, 5B or 5D (hexadecimal) */
-#define FURLAZON_REFUSED_CLASS_RANGE 19    /* a record whose lowest byte is above its highest */
-#define FURLAZON_REFUSED_CLASS_OVERLAP 20  /* a byte in two records */
+#define FURLAZON_REFUSED_SHEET_LENGTH 1     /* a sheet of 0 bytes or over FURLAZON_SHEET_BYTES, a class sheet of 0 bytes or over
+                                               FURLAZON_CLASS_SHEET_BYTES, a ban list over FURLAZON_BANS_BYTES */
+#define FURLAZON_REFUSED_SHEET_BYTES 2      /* a byte other than 0-9, A-F, comma, CR, LF; a CR without LF next; an LF without CR before */
+#define FURLAZON_REFUSED_RECORD_COUNT 3     /* more than FURLAZON_CODE_WORDS records */
+#define FURLAZON_REFUSED_WORD_LENGTH 4      /* a first field that is empty or has over FURLAZON_WORD_SYMBOLS digits */
+#define FURLAZON_REFUSED_CODE_LENGTH 5      /* over FURLAZON_CODE_SYMBOLS symbols in all */
+#define FURLAZON_REFUSED_FIELD_COUNT 6      /* n records of which not all have n + 1 fields, nor all n + 2 */
+#define FURLAZON_REFUSED_ROW_ENTRY 7        /* a row entry other than the single digit 0 or 1 */
+#define FURLAZON_REFUSED_NOT_FROM_SHEET 8   /* a table that no accepted sheet gives, nor one with an accepted ban list; classes that no
+                                               accepted class sheet gives */
+#define FURLAZON_REFUSED_UNKNOWN_WORD 9     /* a word number that is not in the table; the number of a copy is none */
+#define FURLAZON_REFUSED_FORBIDDEN_PAIR 10  /* a neighbouring pair that is not permitted; a first word that may not begin; a banned
+                                               triple */
+#define FURLAZON_REFUSED_MESSAGE_LENGTH 11  /* a message of over FURLAZON_MESSAGE_SYMBOLS symbols; a text of over FURLAZON_TEXT_BYTES */
+#define FURLAZON_REFUSED_MESSAGE_SYMBOL 12  /* a message symbol that is not below FURLAZON_ALPHABET */
+#define FURLAZON_REFUSED_SHORT_BUFFER 13    /* a buffer that is too short */
+#define FURLAZON_REFUSED_NO_READING 14      /* no permitted sequence has this message; no word is the next one */
+#define FURLAZON_REFUSED_START_FIELD 15     /* a start field other than the single digit 0 or 1 */
+#define FURLAZON_REFUSED_BAN_RECORD 16      /* a byte other than 0-9, comma, CR, LF; CR and LF not together; a record that is no ban */
+#define FURLAZON_REFUSED_BAN_LIMIT 17       /* over FURLAZON_CODE_WORDS words or FURLAZON_CODE_SYMBOLS symbols with the copies */
+#define FURLAZON_REFUSED_CLASS_RECORD 18    /* wrong bytes as for 2; a record that is not three fields of two, two and one digit; a record
+                                               that takes in B7, 28, 29, 5B or 5D (hexadecimal) */
+#define FURLAZON_REFUSED_CLASS_RANGE 19     /* a record whose lowest byte is above its highest */
+#define FURLAZON_REFUSED_CLASS_OVERLAP 20   /* a byte in two records */
+#define FURLAZON_REFUSED_NO_FINITE_DELAY 21 /* a table without a finite delay: ambiguous, or decipherable without bound */
 
 /* Bytes of a table's image. For each of the 32 words its 16 symbols and then its length; then row 0 to row 31, with 32 entries
  * each; then the start marks of the 32 words; then the number of words. Entry Y of row X is 1 if word X may come immediately after
@@ -92,7 +94,7 @@ extern "C" {
 /* Entries of an answer. */
 #define FURLAZON_ANSWER_ENTRIES 4
 
-/* Entries that a verdict needs: in `message`, `first` and `second` each, and in `work`. */
+/* Entries that a verdict needs: in `message`, `first` and `second` each, and in `work`. The next word needs as many in `work`. */
 #define FURLAZON_VERDICT_ENTRIES 8384
 #define FURLAZON_VERDICT_WORK 16384
 
@@ -200,6 +202,20 @@ uint64_t furlazon_verdict(const uint8_t *table, size_t table_length,
                           uint8_t *second, size_t second_length,
                           uint64_t *work, size_t work_length,
                           uint64_t *answer, size_t answer_length);
+
+/* Names the next word of a message that is still coming in. Where the table has delay N, no more than the first N symbols of the
+ * message are looked at.
+ * Needs: `table` of FURLAZON_TABLE_BYTES; `work` of FURLAZON_VERDICT_WORK; `answer` of FURLAZON_ANSWER_ENTRIES.
+ * Refusals, the first that holds in this order: 8; 11; 13; 21; 12, among the first N symbols alone; 14, where the message is empty or
+ * no word is the next one. After 21, 12 and 14 `work` is all zero.
+ * Result: answer = { the number of the word, 0, 0, 0 }. It is the one word that begins a permitted sequence, not the empty one, whose
+ * message has the same first N symbols. A message shorter than N counts whole: only one that is equal to it has the same. So where
+ * the message has a reading and is not empty, it is that reading's first word; and where N is 0, it is the one word that may begin,
+ * whatever the symbols are. */
+uint64_t furlazon_next(const uint8_t *table, size_t table_length,
+                       const uint8_t *message, size_t message_length,
+                       uint64_t *work, size_t work_length,
+                       uint64_t *answer, size_t answer_length);
 
 #ifdef __cplusplus
 }

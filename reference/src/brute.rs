@@ -1,4 +1,4 @@
-//! Verdicts straight from the definitions, for tiny codes.
+//! Verdicts and next words straight from the definitions, for tiny codes.
 //!
 //! [`by_sequences`] lists every permitted sequence up to a length and compares
 //! messages. [`by_prefixes`] lists every beginning of a message and keeps all
@@ -204,6 +204,40 @@ pub fn by_sequences(code: &Code, bans: &[Ban]) -> Verdict {
         Some(delay) => Verdict::Delay(delay),
         None => Verdict::Unbounded,
     }
+}
+
+/// The words that begin a permitted non-empty sequence, by the first `n` symbols
+/// of its message, or by all of them where it has fewer: two messages share
+/// their first `n` symbols when these are one list. A message with more symbols
+/// may be cut after the word that brings the `n`-th.
+pub fn next_by_sequences(code: &Code, bans: &[Ban], n: usize) -> HashMap<Vec<u8>, BTreeSet<u8>> {
+    let longest = code.words.iter().map(Vec::len).max().unwrap_or(0);
+    let mut words: HashMap<Vec<u8>, BTreeSet<u8>> = HashMap::new();
+    let sequences = Rules { code, bans }.continued(&[], n + longest);
+    for sequence in sequences {
+        let mut message = joined(code, &sequence);
+        message.truncate(n);
+        if let Some(&first) = sequence.first() {
+            words.entry(message).or_default().insert(first);
+        }
+    }
+    words
+}
+
+/// The same for one message, by growing its beginning symbol by symbol with all sequences that begin so.
+pub fn next_by_prefixes(code: &Code, bans: &[Ban], n: usize, message: &[u8]) -> BTreeSet<u8> {
+    let rules = Rules { code, bans };
+    let symbols = message.iter().take(n);
+    let beginning = symbols.fold(Beginning::of(code, &[]), |beginning, &symbol| beginning.grown(rules, symbol));
+    if n == 0 {
+        return rules.next_words(&[]).into_iter().map(|word| word as u8).collect();
+    }
+    let sequences = if message.len() < n {
+        beginning.whole_sequences(code)
+    } else {
+        beginning.begun.into_iter().map(|begun| begun.sequence).collect()
+    };
+    sequences.iter().filter_map(|sequence| sequence.first().copied()).collect()
 }
 
 /// A sequence whose last word is read up to `read` symbols.

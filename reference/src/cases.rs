@@ -1,6 +1,7 @@
 //! Codes, messages and sheets of the scope paper's cases, of codes with start
-//! marks, of codes with ban lists, of figures 2 and 3 of Gönenç, class sheets,
-//! and the words that he splits, for the tests of both packages.
+//! marks, of codes with ban lists, messages with their next words, figures 2 and
+//! 3 of Gönenç, class sheets, and the words that he splits, for the tests of both
+//! packages.
 
 use crate::bans::{self, Ban};
 use crate::classes::{self, Record, RESERVED};
@@ -229,6 +230,98 @@ fn runs(lengths: &[usize]) -> Code {
 fn round_of_bans(words: usize) -> String {
     let bans: Vec<String> = (0..words).map(|y| format!("0,{y},{}", (y + 1) % words)).collect();
     bans.join(" ")
+}
+
+/// A code with bans, its delay if it has one, and messages with the next word of each or its refusal.
+pub struct Lines {
+    pub code: Code,
+    pub bans: Vec<Ban>,
+    pub delay: Option<usize>,
+    pub lines: Vec<(Vec<u8>, Result<u8, Refusal>)>,
+}
+
+impl Lines {
+    /// The messages are told by their digits. The symbols G, H and so on are too high, and a hyphen is the empty message.
+    fn of(code: Code, list: &str, delay: Option<usize>, answers: &[(Result<u8, Refusal>, &str)]) -> Lines {
+        let symbol = |digit: char| digit.to_digit(36).map(|symbol| symbol as u8);
+        let message = |digits: &str| digits.chars().filter_map(symbol).collect();
+        let mut lines = Vec::new();
+        for (answer, messages) in answers {
+            lines.extend(messages.split_whitespace().map(|digits| (message(digits), *answer)));
+        }
+        Lines { code, bans: bans::of(list), delay, lines }
+    }
+}
+
+const NO_WORD: Result<u8, Refusal> = Err(Refusal::NoReading);
+const HIGH: Result<u8, Refusal> = Err(Refusal::MessageSymbol);
+const NO_DELAY: Result<u8, Refusal> = Err(Refusal::NoFiniteDelay);
+
+/// Messages whose next word is told by a few symbols, and codes without a
+/// finite delay. Of code U, 1011 has no reading but begins one with 101; 1 has
+/// none either and is whole.
+pub fn lines() -> Vec<Lines> {
+    let code_u_lines = [
+        (Ok(0), "0 00 010 0101 0100 0101G 010111"),
+        (Ok(1), "10 1010 1010G 10100"),
+        (Ok(2), "01 0110 01101 0110H 01102"),
+        (Ok(3), "101 1011 10110 1011G 10112"),
+        (NO_WORD, "- 1 11 011 111 1111 2 0112 11110G"),
+        (HIGH, "G 0G 101G 1H11 G000 111G"),
+    ];
+    let six_types = [
+        (Ok(1), "10 100 1010 10101"),
+        (Ok(2), "01 0110 01101"),
+        (Ok(3), "101 10110 101101"),
+        (Ok(4), "011 01110"),
+        (Ok(5), "1011 10111 101110G"),
+        (NO_WORD, "- 1 11 0111 1111 11111G"),
+        (HIGH, "G 1011G 01G"),
+    ];
+    let one_more = [(Ok(0), "0 00 000"), (Ok(1), "01 010 012 01G"), (NO_WORD, "- 1 02 10 11"), (HIGH, "G 0G")];
+    let unbounded = Code::free(&["0", "01", "11"]);
+    vec![
+        Lines::of(Code::free(&["0", "1"]), "", Some(1), &[(Ok(0), "0 0G 02"), (Ok(1), "1 11"), (NO_WORD, "- 2 2G")]),
+        Lines::of(Code::free(&["0", "01"]), "", Some(2), &one_more),
+        Lines::of(code_u(), "", Some(4), &code_u_lines),
+        Lines::of(turkish_six(), "", Some(5), &six_types),
+        Lines::of(code_t(), "", None, &[(NO_DELAY, "- 0 010 1 2 G 0G")]),
+        Lines::of(unbounded, "", None, &[(NO_DELAY, "- 0 01 011 1 2 G 0G")]),
+    ]
+}
+
+/// The same for codes in which start marks or bans matter. Delay 0 needs no symbol; and the first words of the last code have copies.
+pub fn lines_with_marks_and_bans() -> Vec<Lines> {
+    let code = |name: &str| openings().into_iter().find(|opening| opening.sheet == name).expect("a stored code").code;
+    let three = Code::free(&["0", "1", "010"]);
+    let three_lines = [
+        (Ok(0), "0 00 01 000 001 011 0112G"),
+        (Ok(1), "1 10 11 100 101 110 1111"),
+        (Ok(2), "010 0100 010G 0102"),
+        (NO_WORD, "- 2 02 012 112G"),
+        (HIGH, "G 0G 01G"),
+    ];
+    let bans_delay = [
+        (Ok(0), "0 00 011 0110 01100"),
+        (Ok(1), "01 010 0111 01111 0111G"),
+        (Ok(2), "11 110 1111 1100 11110"),
+        (NO_WORD, "- 1 111 1110 2 0112"),
+        (HIGH, "G 011G"),
+    ];
+    let opening_delay = [(Ok(0), "2 20 201 200 20G"), (NO_WORD, "- 0 01 21 22 3"), (HIGH, "G 2G 0G0")];
+    let told_apart = [(Ok(0), "0 00 01 02 0G"), (NO_WORD, "- 1 11 2 1G"), (HIGH, "G G0")];
+    let any_symbols = [(Ok(0), "0 1 F G 01 10 HHH"), (NO_WORD, "-")];
+    vec![
+        Lines::of(Code::free(&["0"]), "", Some(0), &any_symbols),
+        Lines::of(code("opening-forced"), "", Some(0), &any_symbols),
+        Lines::of(code("opening-none-begins"), "", Some(0), &[(NO_WORD, "- 0 01 G")]),
+        Lines::of(code("opening-told-apart"), "", Some(1), &told_apart),
+        Lines::of(code("opening-delay"), "", Some(2), &opening_delay),
+        Lines::of(code("opening-shared"), "", None, &[(NO_DELAY, "- 2 20 G")]),
+        Lines::of(three.clone(), "0,0,1", None, &[(NO_DELAY, "- 0 010 1 G")]),
+        Lines::of(three, "0,0,1 2,0,1", Some(3), &three_lines),
+        Lines::of(Code::free(&["0", "01", "11"]), "2,0,2", Some(4), &bans_delay),
+    ]
 }
 
 /// A sheet with a ban list of which one is refused, the name under which both are stored, and the refusal.

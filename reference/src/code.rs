@@ -124,6 +124,7 @@ pub enum Refusal {
     ClassRecord = 18,
     ClassRange = 19,
     ClassOverlap = 20,
+    NoFiniteDelay = 21,
 }
 
 impl Refusal {

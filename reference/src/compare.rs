@@ -5,11 +5,11 @@ use crate::classes::Classes;
 use crate::code::{Code, Refusal};
 use crate::generate;
 use crate::letters::TURKISH;
-use crate::operations::{Operations, ReadingLengths, Reference, VerdictLengths};
+use crate::operations::{next_by_delay, Operations, ReadingLengths, Reference, VerdictLengths};
 use crate::random::Random;
 use crate::split::{self, Kind};
 use crate::table::Table;
-use crate::turkish;
+use crate::{read, turkish, verdict};
 use std::fmt::Debug;
 
 /// How often each answer was met, so that a run shows what it covered.
@@ -31,10 +31,15 @@ pub struct Met {
     pub ambiguous: usize,
     pub delayed: usize,
     pub unbounded: usize,
+    /// Next words that are named, those of them that need no symbol, and those of messages that have no reading; and how often there is none.
+    pub next_words: usize,
+    pub next_words_at_once: usize,
+    pub next_words_without_reading: usize,
+    pub no_next_word: usize,
     /// Texts that are refused for their classes alone.
     pub refused_classes: usize,
     /// By refusal number.
-    pub refused: [usize; 21],
+    pub refused: [usize; 22],
 }
 
 /// Compares on `rounds` rounds of generated inputs: what was met, or the first difference in words. Without a round nothing is compared, which is no success.
@@ -109,9 +114,9 @@ pub fn on_list(subject: &mut impl Operations, met: &mut Met, table: &Table, list
     Ok(())
 }
 
-/// Compares encoding, reading, splitting and the verdict on one table. The code,
-/// from which sequences, messages and texts are made, need not be that of the
-/// table. The classes of splitting are generated.
+/// Compares encoding, reading, splitting, the verdict and next words on one
+/// table. The code, from which sequences, messages and texts are made, need not
+/// be that of the table. The classes of splitting are generated.
 pub fn on_table(
     subject: &mut impl Operations,
     random: &mut Random,
@@ -122,7 +127,8 @@ pub fn on_table(
     encoding(subject, random, met, code, table)?;
     reading(subject, random, met, code, table)?;
     splitting(subject, random, met, code, table)?;
-    verdict(subject, random, met, table)
+    let delay = verdict(subject, random, met, table)?;
+    next_words(subject, random, met, code, table, delay)
 }
 
 fn encoding(
@@ -196,7 +202,13 @@ fn splitting(
     Ok(())
 }
 
-fn verdict(subject: &mut impl Operations, random: &mut Random, met: &mut Met, table: &Table) -> Result<(), String> {
+/// Compares the verdict. The delay of the table, if it has one.
+fn verdict(
+    subject: &mut impl Operations,
+    random: &mut Random,
+    met: &mut Met,
+    table: &Table,
+) -> Result<Option<usize>, String> {
     let mut expected = generate::verdict_buffers(random);
     let mut actual = expected.clone();
     let answer = Reference.verdict(table, &mut expected);
@@ -207,6 +219,43 @@ fn verdict(subject: &mut impl Operations, random: &mut Random, met: &mut Met, ta
         Ok(VerdictLengths::Delay(_)) => met.delayed += 1,
         _ => met.unbounded += 1,
     });
+    Ok(match answer {
+        Ok(VerdictLengths::Delay(delay)) => Some(delay),
+        // Only the buffers were too short.
+        Err(Refusal::ShortBuffer) => table.code().and_then(|code| verdict::verdict(&code).delay()),
+        _ => None,
+    })
+}
+
+/// Messages of which the next word is named, for each table.
+pub const LINES: usize = 3;
+
+/// Compares next words. The delay is that of the table, so that the reference need not work it out for every message.
+fn next_words(
+    subject: &mut impl Operations,
+    random: &mut Random,
+    met: &mut Met,
+    code: &Code,
+    table: &Table,
+    delay: Option<usize>,
+) -> Result<(), String> {
+    let not_given = table.code().is_none();
+    for _ in 0..LINES {
+        let message = generate::line(random, code, delay);
+        let refused = not_given || message.len() > Code::MAX_MESSAGE_SYMBOLS;
+        let mut expected = generate::next_working(random, refused);
+        let mut actual = expected.clone();
+        let answer = next_by_delay(table, &message, &mut expected, |_| delay);
+        let answered = subject.next(table, &message, &mut actual);
+        same("next word", &(table, &message), &(answer, expected), &(answered, actual))?;
+        met.no_next_word += usize::from(answer == Err(Refusal::NoReading));
+        count(met, answer.err(), |met| {
+            let code = table.code().expect("a table that is not refused");
+            met.next_words += 1;
+            met.next_words_at_once += usize::from(delay == Some(0));
+            met.next_words_without_reading += usize::from(read::first_two(&code, &message).is_none());
+        });
+    }
     Ok(())
 }
 

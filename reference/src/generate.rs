@@ -14,8 +14,10 @@ use crate::table::Table;
 use crate::verdict::{verdict, Verdict};
 
 mod class_sheets;
+mod lines;
 mod texts;
 pub use class_sheets::{class_entries, class_sheet, classes, damaged_class_sheet};
+pub use lines::{line, next_working};
 pub use texts::{spelled, splitting_buffers, text};
 
 /// A code of any size within the limits. In half of the codes every word may begin.

@@ -10,13 +10,17 @@
 //! way as they stand; for the second [`copies`] turns them into copies of
 //! words.
 //!
+//! [`next`] names the first word of a message that is still coming in, from
+//! as many symbols as the delay.
+//!
 //! [`split`] reads the words of a text, whose letters stand for symbols by the
 //! [`classes`] that a class sheet gives, or by the built-in ones of Turkish
 //! [`letters`].
 //!
 //! [`generate`] makes random and damaged inputs, and [`compare`] holds another
 //! program's [`operations`] against the reference on them. [`cases`] has the
-//! codes that the papers give, and [`turkish`] the built-in one.
+//! codes that the papers give, [`small`] every tiny one, and [`turkish`] the
+//! built-in one.
 
 pub mod bans;
 pub mod brute;
@@ -30,6 +34,7 @@ pub mod generate;
 pub mod input;
 pub mod largest;
 pub mod letters;
+pub mod next;
 pub mod operations;
 pub mod pairs;
 pub mod print;
@@ -37,6 +42,7 @@ pub mod random;
 pub mod read;
 pub mod rivals;
 pub mod sheet;
+pub mod small;
 pub mod split;
 pub mod table;
 pub mod turkish;

@@ -1,4 +1,4 @@
-//! The operations with their lent buffers: refusals 8 to 14, and what each
+//! The operations with their lent buffers: refusals 8 to 14 and 21, and what each
 //! buffer holds afterwards; enlarging a table by a ban list; taking in class
 //! sheets; the built-in code and the built-in classes.
 
@@ -7,7 +7,7 @@ use crate::code::{Code, Refusal};
 use crate::read::{self, Readings};
 use crate::table::Table;
 use crate::verdict::{self, Verdict};
-use crate::{bans, copies, letters, split, turkish};
+use crate::{bans, copies, letters, next, split, turkish};
 
 /// Entries of a verdict's message buffer and of each of its reading buffers.
 pub const VERDICT_ENTRIES: usize = 8_384;
@@ -38,7 +38,7 @@ pub struct Buffers {
     pub working: Vec<u64>,
 }
 
-/// A program that offers the nine operations. The reference is one; a linked
+/// A program that offers the ten operations. The reference is one; a linked
 /// library becomes another by wrapping its functions.
 pub trait Operations {
     /// The table of a sheet, the blank one with a refusal.
@@ -66,6 +66,8 @@ pub trait Operations {
     ) -> Result<usize, Refusal>;
     /// Gives the verdict; an ambiguous one writes its message and readings.
     fn verdict(&mut self, table: &Table, buffers: &mut Buffers) -> Result<VerdictLengths, Refusal>;
+    /// Names the next word of a message. The buffer is the working buffer of a verdict.
+    fn next(&mut self, table: &Table, message: &[u8], working: &mut [u64]) -> Result<u8, Refusal>;
 }
 
 pub struct Reference;
@@ -169,6 +171,29 @@ impl Operations for Reference {
             },
         })
     }
+
+    fn next(&mut self, table: &Table, message: &[u8], working: &mut [u64]) -> Result<u8, Refusal> {
+        next_by_delay(table, message, working, |code| verdict::verdict(code).delay())
+    }
+}
+
+/// The next word by the delay of the code, which is asked for where it is needed; none where it is not finite.
+pub fn next_by_delay(
+    table: &Table,
+    message: &[u8],
+    working: &mut [u64],
+    delay: impl FnOnce(&Code) -> Option<usize>,
+) -> Result<u8, Refusal> {
+    let code = table.code().ok_or(Refusal::NotFromSheet)?;
+    if message.len() > Code::MAX_MESSAGE_SYMBOLS {
+        return Err(Refusal::MessageLength);
+    }
+    if working.len() < VERDICT_WORKING {
+        return Err(Refusal::ShortBuffer);
+    }
+    working.fill(0);
+    let delay = delay(&code).ok_or(Refusal::NoFiniteDelay)?;
+    next::next(&code, delay, message)
 }
 
 /// The code in a table, enlarged; or refusal 1, 8, 16 or 17, the lowest first.

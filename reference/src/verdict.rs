@@ -16,6 +16,16 @@ pub enum Verdict {
     Unbounded,
 }
 
+impl Verdict {
+    /// The delay, where it is finite.
+    pub fn delay(&self) -> Option<usize> {
+        match self {
+            Verdict::Delay(delay) => Some(*delay),
+            _ => None,
+        }
+    }
+}
+
 pub fn verdict(code: &Code) -> Verdict {
     let rivals = Rivals::of(code);
     if rivals.none() {

@@ -8,51 +8,11 @@ use reference::generate;
 use reference::random::Random;
 use reference::read::{read, Readings};
 use reference::sheet::{take_in, write, write_with_starts};
+use reference::small::{codes, with_all_starts};
 use reference::verdict::{verdict, Verdict};
 
 /// Beginnings kept at once before a brute-force verdict is given up.
 const MOST: usize = 20_000;
-
-/// All lists of binary words with at most `symbols` symbols in all and exactly `count` words.
-fn word_lists(count: usize, symbols: usize) -> Vec<Vec<Vec<u8>>> {
-    if count == 0 {
-        return vec![Vec::new()];
-    }
-    let mut lists = Vec::new();
-    for length in 1..=symbols + 1 - count {
-        for bits in 0..1u32 << length {
-            let word: Vec<u8> = (0..length).map(|i| (bits >> i & 1) as u8).collect();
-            for rest in word_lists(count - 1, symbols - length) {
-                lists.push([vec![word.clone()], rest].concat());
-            }
-        }
-    }
-    lists
-}
-
-fn rows_of_bits(count: usize, bits: u32) -> Vec<Vec<bool>> {
-    (0..count).map(|x| (0..count).map(|y| bits >> (x * count + y) & 1 == 1).collect()).collect()
-}
-
-fn starts_of_bits(count: usize, bits: u32) -> Vec<bool> {
-    (0..count).map(|x| bits >> x & 1 == 1).collect()
-}
-
-/// All binary codes of up to three words and at most so many symbols, with all
-/// bans; every word may begin.
-fn codes(symbols: usize) -> impl Iterator<Item = Code> {
-    let words = (1..=3).flat_map(move |count| word_lists(count, symbols));
-    words.flat_map(|words| {
-        let count = words.len();
-        (0..1u32 << (count * count)).map(move |bits| Code::new(words.clone(), rows_of_bits(count, bits)))
-    })
-}
-
-/// This code with each choice of words that may begin.
-fn with_all_starts(code: Code) -> impl Iterator<Item = Code> {
-    let count = code.words.len();
-    (0..1u32 << count).map(move |bits| Code { starts: starts_of_bits(count, bits), ..code.clone() })
-}
 
 fn agrees_with_prefixes(code: &Code) {
     assert_eq!(Some(verdict(code)), by_prefixes(code, &[], MOST), "{code:?}");

@@ -9,36 +9,13 @@ use reference::encode::{encode, joined};
 use reference::generate;
 use reference::random::Random;
 use reference::read::{read, Readings};
+use reference::small::{all_bans, codes_of_two_words, of_bits};
 use reference::table::Table;
 use reference::verdict::{verdict, Verdict};
 use std::collections::HashSet;
 
 /// Beginnings kept at once before a brute-force verdict is given up.
 const MOST: usize = 5_000;
-
-/// All bans on a code of so many words.
-fn all_bans(words: u8) -> Vec<Ban> {
-    let numbers = move || 0..words;
-    let triples = numbers().flat_map(move |y| numbers().flat_map(move |z| numbers().map(move |x| Ban { x, y, z })));
-    triples.filter(|ban| ban.y != ban.z).collect()
-}
-
-/// The bans whose bits are set.
-fn of_bits(all: &[Ban], bits: u32) -> Vec<Ban> {
-    (0..all.len()).filter(|&i| bits >> i & 1 == 1).map(|i| all[i]).collect()
-}
-
-/// All codes of two words and at most three symbols, with all followers and start marks.
-fn codes_of_two_words() -> impl Iterator<Item = Code> {
-    const WORDS: [&str; 6] = ["0", "1", "00", "01", "10", "11"];
-    let pairs = WORDS.iter().flat_map(|first| WORDS.iter().map(|second| [*first, *second]));
-    pairs.filter(|[first, second]| first.len() + second.len() <= 3).flat_map(|words| {
-        (0..64u32).map(move |bits| {
-            let digits = |from: u32| format!("{}{}", bits >> from & 1, bits >> (from + 1) & 1);
-            Code::of(&words, &[&digits(0), &digits(2)]).with_starts(&digits(4))
-        })
-    })
-}
 
 #[test]
 fn every_code_of_two_words_with_all_bans() {

@@ -7,12 +7,14 @@ use reference::compare::compare;
 use reference::copies::{enlarge, without_copies};
 use reference::encode::joined;
 use reference::letters::TURKISH;
-use reference::operations::{Buffers, Operations, ReadingLengths, Reference, VerdictLengths};
+use reference::next::first_words;
+use reference::operations::{Buffers, Operations, ReadingLengths, Reference, VerdictLengths, VERDICT_WORKING};
 use reference::pairs::walk;
 use reference::read::{first_two, Readings};
 use reference::rivals::Rivals;
 use reference::split::{words, Kind, Word, DOT, MAX_TEXT_BYTES};
 use reference::table::Table;
+use reference::verdict::{verdict, Verdict};
 
 #[test]
 fn every_answer_is_met() {
@@ -23,7 +25,9 @@ fn every_answer_is_met() {
     let texts = [met.split, met.words_split, met.words_without_reading, met.words_with_several];
     let classes = [met.class_sheets, met.split_by_other_classes, met.refused_classes];
     let verdicts = [met.ambiguous, met.delayed, met.unbounded];
-    assert!(answers.iter().chain(&texts).chain(&classes).chain(&verdicts).all(|&times| times >= 20), "{met:?}");
+    let next = [met.next_words, met.next_words_at_once, met.next_words_without_reading, met.no_next_word];
+    let all = [&answers[..], &texts, &classes, &verdicts, &next].concat();
+    assert!(all.iter().all(|&times| times >= 20), "{met:?}");
 }
 
 /// The reference with one slip.
@@ -131,6 +135,37 @@ enum Slip {
     OpeningLeftOut,
     OpeningCounted,
     DelayWithoutRivals,
+    NextByOneSymbolLess,
+    NextByOneSymbolMore,
+    ShortMessageTakenAsCut,
+    CutMessageTakenAsWhole,
+    NextByItsOwnSymbols,
+    FollowersIgnoredByNext,
+    MarksIgnoredByNext,
+    BansIgnoredByNext,
+    NextNamesACopy,
+    NoNextWordWithoutSymbols,
+    ZeroDelayTakenAsNone,
+    EmptyMessageAccepted,
+    UnboundedTakenAsWhole,
+    AmbiguousTakenAsWhole,
+    SymbolsBehindTheDelayTested,
+    SymbolBeforeNoFiniteDelay,
+    EmptyMessageBeforeNoFiniteDelay,
+    NoNextWordBeforeSymbol,
+    LongMessageBeforeTable,
+    ShortBufferBeforeTable,
+    LongMessageCutToTheDelay,
+    NextMessageOneLonger,
+    ShortBufferBeforeLongMessage,
+    NoFiniteDelayBeforeShortBuffer,
+    WorkingBufferAsForReading,
+    ClearedBeforeShortBuffer,
+    ClearedBeforeLongMessage,
+    WorkingBufferLeftWithoutNextWord,
+    WorkingBufferLeftByNoFiniteDelay,
+    WorkingBufferLeftBySymbol,
+    WorkingBufferLeftByNext,
 }
 
 impl Operations for Wrong {
@@ -383,6 +418,109 @@ impl Operations for Wrong {
             _ => answer,
         })
     }
+
+    fn next(&mut self, table: &Table, message: &[u8], working: &mut [u64]) -> Result<u8, Refusal> {
+        let before = working.to_vec();
+        let answer = next_with(self.0, table, message, working);
+        match (self.0, answer) {
+            (Slip::WorkingBufferLeftWithoutNextWord, Err(Refusal::NoReading))
+            | (Slip::WorkingBufferLeftByNoFiniteDelay, Err(Refusal::NoFiniteDelay))
+            | (Slip::WorkingBufferLeftBySymbol, Err(Refusal::MessageSymbol))
+            | (Slip::WorkingBufferLeftByNext, Ok(_)) => working.copy_from_slice(&before),
+            _ => {}
+        }
+        answer
+    }
+}
+
+/// The next word as a program with a slip names it, with the refusals before, written once more.
+fn next_with(slip: Slip, table: &Table, message: &[u8], working: &mut [u64]) -> Result<u8, Refusal> {
+    let most = Code::MAX_MESSAGE_SYMBOLS + usize::from(slip == Slip::NextMessageOneLonger);
+    let needed = if slip == Slip::WorkingBufferAsForReading { message.len() + 1 } else { VERDICT_WORKING };
+    let code = table.code();
+    let verdict = code.as_ref().map(verdict);
+    let too_long = (message.len() > most && slip != Slip::LongMessageCutToTheDelay, Refusal::MessageLength);
+    let short = (working.len() < needed, Refusal::ShortBuffer);
+    let not_given = (code.is_none(), Refusal::NotFromSheet);
+    let tests = match slip {
+        Slip::LongMessageBeforeTable => [too_long, not_given, short],
+        Slip::ShortBufferBeforeTable => [short, not_given, too_long],
+        Slip::ShortBufferBeforeLongMessage => [not_given, short, too_long],
+        Slip::NoFiniteDelayBeforeShortBuffer if verdict.iter().any(|verdict| verdict.delay().is_none()) => {
+            [not_given, too_long, (true, Refusal::NoFiniteDelay)]
+        }
+        _ => [not_given, too_long, short],
+    };
+    let refused = tests.into_iter().find(|(holds, _)| *holds).map(|(_, refusal)| refusal);
+    let cleared = match refused {
+        Some(Refusal::ShortBuffer) => slip == Slip::ClearedBeforeShortBuffer,
+        Some(Refusal::MessageLength) => slip == Slip::ClearedBeforeLongMessage,
+        refused => refused.is_none(),
+    };
+    if cleared {
+        working.fill(0);
+    }
+    let given = refused.map_or(code.zip(verdict).ok_or(Refusal::NotFromSheet), Err)?;
+    word_with(slip, &given.0, &given.1, message)
+}
+
+/// The same once table, length and buffer are tested: 21, 12 and 14.
+fn word_with(slip: Slip, code: &Code, verdict: &Verdict, message: &[u8]) -> Result<u8, Refusal> {
+    let is_high = |symbols: &[u8]| symbols.iter().any(|&symbol| symbol > 15);
+    let delay = match (slip, verdict) {
+        (Slip::UnboundedTakenAsWhole, Verdict::Unbounded) => message.len() + 1,
+        (Slip::AmbiguousTakenAsWhole, Verdict::Ambiguous { .. }) => message.len() + 1,
+        (Slip::ZeroDelayTakenAsNone, Verdict::Delay(0)) => return Err(Refusal::NoFiniteDelay),
+        (Slip::NoNextWordWithoutSymbols, Verdict::Delay(0)) => return Err(Refusal::NoReading),
+        (Slip::NextByOneSymbolLess, Verdict::Delay(delay)) => delay.saturating_sub(1),
+        (Slip::NextByOneSymbolMore, Verdict::Delay(delay)) => delay + 1,
+        (_, Verdict::Delay(delay)) => *delay,
+        (Slip::SymbolBeforeNoFiniteDelay, _) if is_high(message) => return Err(Refusal::MessageSymbol),
+        (Slip::EmptyMessageBeforeNoFiniteDelay, _) if message.is_empty() => return Err(Refusal::NoReading),
+        _ => return Err(Refusal::NoFiniteDelay),
+    };
+    let symbols = &message[..message.len().min(delay)];
+    let tested = if slip == Slip::SymbolsBehindTheDelayTested { message } else { symbols };
+    if is_high(tested) && slip != Slip::NoNextWordBeforeSymbol {
+        return Err(Refusal::MessageSymbol);
+    }
+    let whole = match slip {
+        Slip::ShortMessageTakenAsCut => false,
+        Slip::CutMessageTakenAsWhole => delay > 0,
+        _ => message.len() < delay,
+    };
+    let empty = message.is_empty() && slip != Slip::EmptyMessageAccepted;
+    let words = if empty { Vec::new() } else { words_with(slip, code, symbols, whole) };
+    let word = words.first().copied().ok_or(Refusal::NoReading)?;
+    let copy = (code.originals()..code.words.len()).find(|&copy| code.original(copy) == word as usize);
+    Ok(copy.filter(|_| slip == Slip::NextNamesACopy).map_or(word, |copy| copy as u8))
+}
+
+/// The words that begin such a message as a program with a slip finds them.
+fn words_with(slip: Slip, code: &Code, symbols: &[u8], whole: bool) -> Vec<u8> {
+    let mut code = code.clone();
+    match slip {
+        // The word is compared, and not what comes after it.
+        Slip::NextByItsOwnSymbols => {
+            let fits = |&word: &usize| {
+                let word = &code.words[word];
+                symbols.starts_with(word) || !whole && word.starts_with(symbols)
+            };
+            let words = (0..code.words.len()).filter(|&word| code.starts[word]);
+            return words.filter(fits).map(|word| word as u8).collect();
+        }
+        Slip::FollowersIgnoredByNext => {
+            code = without_copies(&code).0;
+            code.rows.iter_mut().for_each(|row| row.fill(true));
+        }
+        Slip::MarksIgnoredByNext => {
+            let originals = code.originals();
+            code.starts[..originals].fill(true);
+        }
+        Slip::BansIgnoredByNext => code = without_copies(&code).0,
+        _ => {}
+    }
+    first_words(&code, symbols, whole)
 }
 
 /// What a program with a slip in its classes does, if the slip shows. The table is one that a sheet gives.
@@ -877,6 +1015,37 @@ fn slips_are_caught() {
         ("verdict", Slip::OpeningLeftOut),
         ("verdict", Slip::OpeningCounted),
         ("verdict", Slip::DelayWithoutRivals),
+        ("next word", Slip::NextByOneSymbolLess),
+        ("next word", Slip::NextByOneSymbolMore),
+        ("next word", Slip::ShortMessageTakenAsCut),
+        ("next word", Slip::CutMessageTakenAsWhole),
+        ("next word", Slip::NextByItsOwnSymbols),
+        ("next word", Slip::FollowersIgnoredByNext),
+        ("next word", Slip::MarksIgnoredByNext),
+        ("next word", Slip::BansIgnoredByNext),
+        ("next word", Slip::NextNamesACopy),
+        ("next word", Slip::NoNextWordWithoutSymbols),
+        ("next word", Slip::ZeroDelayTakenAsNone),
+        ("next word", Slip::EmptyMessageAccepted),
+        ("next word", Slip::UnboundedTakenAsWhole),
+        ("next word", Slip::AmbiguousTakenAsWhole),
+        ("next word", Slip::SymbolsBehindTheDelayTested),
+        ("next word", Slip::SymbolBeforeNoFiniteDelay),
+        ("next word", Slip::EmptyMessageBeforeNoFiniteDelay),
+        ("next word", Slip::NoNextWordBeforeSymbol),
+        ("next word", Slip::LongMessageBeforeTable),
+        ("next word", Slip::ShortBufferBeforeTable),
+        ("next word", Slip::LongMessageCutToTheDelay),
+        ("next word", Slip::NextMessageOneLonger),
+        ("next word", Slip::ShortBufferBeforeLongMessage),
+        ("next word", Slip::NoFiniteDelayBeforeShortBuffer),
+        ("next word", Slip::WorkingBufferAsForReading),
+        ("next word", Slip::ClearedBeforeShortBuffer),
+        ("next word", Slip::ClearedBeforeLongMessage),
+        ("next word", Slip::WorkingBufferLeftWithoutNextWord),
+        ("next word", Slip::WorkingBufferLeftByNoFiniteDelay),
+        ("next word", Slip::WorkingBufferLeftBySymbol),
+        ("next word", Slip::WorkingBufferLeftByNext),
     ];
     for (operation, slip) in slips {
         let difference = compare(&mut Wrong(slip), 1, 10_000).expect_err(&format!("{slip:?}"));

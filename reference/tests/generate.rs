@@ -65,6 +65,34 @@ fn some_damages_leave_a_table_that_a_sheet_gives() {
     assert!((300..2_700).contains(&given), "{given}");
 }
 
+/// Messages for the next word: cut about the delay, inside a word and at its
+/// end; with a high symbol as the last that counts and as the first that does
+/// not; empty, and too long.
+#[test]
+fn messages_about_the_delay() {
+    let mut random = Random(9);
+    let mut lengths = [0; 3];
+    let (mut high_last, mut high_behind, mut empty, mut longest, mut too_long) = (0, 0, 0, 0, 0);
+    for _ in 0..3_000 {
+        let code = generate::code(&mut random);
+        let Some(delay) = verdict(&code).delay() else { continue };
+        let line = generate::line(&mut random, &code, Some(delay));
+        for (length, count) in [delay.wrapping_sub(1), delay, delay + 1].into_iter().zip(&mut lengths) {
+            *count += usize::from(line.len() == length && delay > 0);
+        }
+        let is_high = |at: usize| line.get(at).is_some_and(|&symbol| symbol > 15);
+        high_last += usize::from(is_high(delay.wrapping_sub(1)));
+        high_behind += usize::from(is_high(delay));
+        empty += usize::from(line.is_empty());
+        longest += usize::from(line.len() == Code::MAX_MESSAGE_SYMBOLS);
+        too_long += usize::from(line.len() == Code::MAX_MESSAGE_SYMBOLS + 1);
+    }
+    println!("{lengths:?} about the delay, {high_last} high last, {high_behind} high behind");
+    println!("{empty} empty, {longest} as long as may be, {too_long} too long");
+    let met = [high_last, high_behind, empty];
+    assert!(lengths.iter().chain(&met).all(|&times| times >= 20) && longest >= 5 && too_long >= 5);
+}
+
 #[test]
 fn the_same_start_gives_the_same_inputs() {
     let inputs = |start: u64| {

@@ -10,6 +10,8 @@ use Rattle.code.specs.declared.Verdict.{Verdict}
 use Rattle.code.specs.declared.Verdict.the-variants.{Ambiguous, Finite, Unbounded}
 use Rattle.code.specs.declared.Judgement.{Judgement}
 use Rattle.code.specs.declared.Judgement.the-variants.{Judged, Refused as Not-judged}
+use Rattle.code.specs.declared.Naming.{Naming}
+use Rattle.code.specs.declared.Naming.the-variants.{Named, Refused as Not-named}
 use Rattle.code.specs.declared.Splitting.{Splitting}
 use Rattle.code.specs.declared.Splitting.the-variants.{Split, Refused as Not-split}
 use Rattle.code.specs.declared.Refusal.the-variants.{ShortBuffer}
@@ -51,6 +53,15 @@ abbrev pub readingEntries : Reading → List ℕ
 readingEntries (One n) = 1 ∷ n .0 ∷ 0 ∷ 0 ∷ []
 readingEntries (Two n k) = 2 ∷ n .0 ∷ k .0 ∷ 0 ∷ []
 readingEntries (Not-read r) = []
+
+abbrev pub namingNumber : Naming → ℕ
+namingNumber (Named x) = 0
+namingNumber (Not-named r) = refusalNumber r
+
+-- the number of the word
+abbrev pub namingEntries : Naming → List ℕ
+namingEntries (Named x) = x ∷ 0 ∷ 0 ∷ 0 ∷ []
+namingEntries (Not-named r) = []
 
 abbrev pub judgementNumber : Judgement → ℕ
 judgementNumber (Judged v) = 0

@@ -2,6 +2,7 @@
 
 use code::Encoding;
 use code::Judgement;
+use code::Naming;
 use code::Reading;
 use code::Refusal;
 use code::Splitting;
@@ -13,7 +14,7 @@ ghost use lib.Dec.{ltb};
 ghost use lib.ListN.{length};
 ghost use Rattle.code.specs.Definitions.Answers.{refusalNumber};
 ghost use Rattle.code.specs.Definitions.Operations.{written};
-ghost use Rattle.c_answers.specs.Answers.{answerLength, encodingNumber, encodingEntries, splittingNumber, splittingEntries, readingNumber, readingEntries, verdictEntries, judgementNumber, judgementEntries};
+ghost use Rattle.c_answers.specs.Answers.{answerLength, encodingNumber, encodingEntries, splittingNumber, splittingEntries, readingNumber, readingEntries, namingNumber, namingEntries, verdictEntries, judgementNumber, judgementEntries};
 
 pub struct Answer {}
 
@@ -85,6 +86,19 @@ pub fn put_reading(e: Reading, answer: &mut [u64]) -> u64
             0
         }
         Reading::Refused(r) => number(r),
+    }
+}
+
+pub fn put_naming(e: Naming, answer: &mut [u64]) -> u64
+    requires { ⌜ answerLength ≤ length (now answer) ⌝ }
+    ensures { λ r. ⌜ (r ≡ namingNumber e) × (now (answer .exit) ≡ written (namingEntries e) (now (answer .entry))) ⌝ }
+{
+    match e {
+        Naming::Named(word) => {
+            put_entries(answer, word as u64, 0, 0, 0);
+            0
+        }
+        Naming::Refused(r) => number(r),
     }
 }
 

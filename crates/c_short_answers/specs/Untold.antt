@@ -15,9 +15,12 @@ use Rattle.code.specs.declared.Reading.{Reading}
 use Rattle.code.specs.declared.Reading.the-variants.{One, Two, Refused as Not-read}
 use Rattle.code.specs.declared.Judgement.{Judgement}
 use Rattle.code.specs.declared.Judgement.the-variants.{Judged, Refused as Not-judged}
+use Rattle.code.specs.declared.Naming.{Naming}
+use Rattle.code.specs.declared.Naming.the-variants.{Named, Refused as Not-named}
 use Rattle.code.specs.declared.Splitting.{Splitting}
 use Rattle.code.specs.declared.Splitting.the-variants.{Split, Refused as Not-split}
 use Rattle.code.specs.Definitions.Answers.{refusalNumber}
+use Rattle.code.specs.Definitions.NextWords.{namingConditions, NamesNext}
 use Rattle.code.specs.Definitions.Operations.{Condition, Lowest, NoneHolds, encodingConditions, readingConditions, verdictConditions, Encodes, ReadsMessage, Judges}
 use Rattle.code.specs.Definitions.Sheets.{limits}
 use Rattle.code.specs.Definitions.Splitting.{splittingConditions, SplitsText}
@@ -26,7 +29,7 @@ use Rattle.code.specs.Definitions.Splitting.{splittingConditions, SplitsText}
 abbrev pub noAnswer : Condition
 noAnswer = record { refusal = ShortBuffer; holds = Unit }
 
--- The number of the lowest refusal where the answer is too short: the operation's own below 13, or 13.
+-- The number of the refusal where the answer is too short: the operation's own that come before 13, or 13.
 pub record Untold (conditions : List Condition) (r : ℕ) : Type 0 where
   pub refusal : Refusal
   pub lowest : Lowest (conditions ++ (noAnswer ∷ [])) refusal
@@ -77,6 +80,16 @@ untold-reading (ReadsMessage.refused {r} h i j k) = untold-refused r _ h
 untold-reading (ReadsMessage.unreadable h none i j k) = absurd (h .1 .1 .1 .0 (inr (inr (omega arith))))
 untold-reading (ReadsMessage.one h only l i j k) = untold-none _ h
 untold-reading (ReadsMessage.two h two l m i j k) = untold-none _ h
+
+abbrev untoldNaming : Naming → ℕ
+untoldNaming (Named x) = shortNumber
+untoldNaming (Not-named r) = refusalNumber r
+
+-- Naming needs the verdict's working buffer, so it does not get as far as 21, 12 and 14.
+pub untold-naming : {v : Enlarged} {m w : List ℕ} {e : Naming} {n : ℕ} → NamesNext limits v m [] w e → n ≡ untoldNaming e → Untold (namingConditions limits v m []) n
+untold-naming (NamesNext.refused {r} h k) = untold-refused r _ h
+untold-naming (NamesNext.unnamed h f k) = absurd (h .1 .1 .0 (omega arith))
+untold-naming (NamesNext.named h n f k) = untold-none _ h
 
 abbrev untoldVerdict : Judgement → ℕ
 untoldVerdict (Judged v) = shortNumber

@@ -1,15 +1,17 @@
-// The refusals of operations whose answer is too short to be told. Each operation is asked with no room in any buffer: it finds the refusals below 13, or 13
-// holds.
+// The refusals of operations whose answer is too short to be told. Each operation is asked with no room in any buffer: it finds the refusals that come before 13,
+// or 13 holds.
 
 use c_answers::number;
 use code::Classes;
 use code::Encoding;
 use code::Enlarged;
 use code::Judgement;
+use code::Naming;
 use code::Reading;
 use code::Refusal;
 use code::Splitting;
 ghost use mathlib.Core.List.{[]};
+ghost use Rattle.code.specs.Definitions.NextWords.{namingConditions};
 ghost use Rattle.code.specs.Definitions.Operations.{encodingConditions, readingConditions, verdictConditions};
 ghost use Rattle.code.specs.Definitions.Sheets.{limits};
 ghost use Rattle.code.specs.Definitions.Splitting.{splittingConditions};
@@ -37,6 +39,17 @@ pub fn untold_reading(value: Enlarged, message: &[u8]) -> u64
         Reading::Refused(r) => number(r),
         Reading::One(_) => number(Refusal::ShortBuffer),
         Reading::Two(_, _) => number(Refusal::ShortBuffer),
+    }
+}
+
+pub fn untold_naming(value: Enlarged, message: &[u8]) -> u64
+    ensures { λ r. ⌜ Untold (namingConditions limits value (now (message .entry)) []) r ⌝ }
+{
+    let mut work = [0u64; 0];
+    let e = next_word::next_word(value, message, &mut work);
+    match e {
+        Naming::Refused(r) => number(r),
+        Naming::Named(_) => number(Refusal::ShortBuffer),
     }
 }
 

@@ -5,14 +5,14 @@ use Prim.Native.Nat.{ℕ, _+_, _≤_, _<_}
 use native.Mathlib.Omega.{arith}
 use lib.ListN.{length, take, drop, replicate, length-replicate, drop-of-length-le, take-append-drop}
 use Rattle.code.specs.declared.Enlarged.{Enlarged}
-use Rattle.code.specs.Definitions.Operations.{written, zeroed, unorderedPairs, verdictRoom}
+use Rattle.code.specs.Definitions.Operations.{written, zeroed, unorderedPairs, verdictRoom, verdictWork}
 use Rattle.code.specs.Definitions.Sheets.{limits}
-use Rattle.code.specs.Definitions.Tables.{Table, tableOf}
+use Rattle.code.specs.Definitions.Tables.{tableOf}
 use Rattle.pair_longest.specs.Extents.{Given}
 use Rattle.decipher_delay.specs.Delays.{given}
 use Rattle.well_enlarged.specs.WellEnlarged.{WellEnlarged}
 use Rattle.pair_graph.specs.RivalPairs.{Ended}
-use Rattle.pair_places.specs.Flat.{cellCount, pairCount}
+use Rattle.pair_places.specs.Flat.{pairCount}
 use Rattle.pair_places.specs.Nodes.{pairs-limited}
 use Rattle.pair_places.specs.Whole.{LaidOut}
 use Rattle.pair_shortest.specs.Contracts.{Clear}
@@ -20,7 +20,7 @@ use Rattle.pair_shortest.specs.Writing.{clear-zeros}
 use Rattle.pair_storage.specs.Cleared.{clear-part, clear-marks}
 use Rattle.pair_storage.specs.Marks.{marks}
 use Rattle.pair_storage.specs.Rooms.{roomOf, room-cells, room-pairs, room-most}
-use Rattle.decipher.specs.Buffers.{marksRoom, Room}
+use Rattle.decipher.specs.Buffers.{Room}
 
 -- The places of the value e, three buffers of m, f and g entries, and the clear list w.
 pub record Searchable (e : Enlarged) (places : List ℕ) (m f g : ℕ) (w : List ℕ) : Type 0 where
@@ -60,7 +60,7 @@ module _ {e : Enlarged} {places : List ℕ} {m f g : ℕ} {w : List ℕ} (s : Se
 module _ {e : Enlarged} {places : List ℕ} {n : ℕ} (value : WellEnlarged limits e) (laid : LaidOut (tableOf (e .code)) places) (ended : Ended (tableOf (e .code)) places)
     (is : n ≡ roomOf places) where
   -- The working buffer is long enough for the part that is lent.
-  pub room-within : {w : ℕ} → marksRoom ≤ w → n ≤ w
+  pub room-within : {w : ℕ} → verdictWork limits ≤ w → n ≤ w
   room-within h = omega (arith, room-most (laid .laid))
 
   pub searchable : {m f g k : ℕ} {w₁ : List ℕ} → w₁ ≡ replicate k 0 → Room m f g k → Searchable e places m f g (take n w₁)

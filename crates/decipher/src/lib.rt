@@ -1,9 +1,9 @@
 // The verdict on a code with copies or without: ambiguous, decipherable with its delay, or decipherable without bound. The shortest message of a walk over the
 // pairs of places to two ends is looked for; where there is none, the longest walk tells the delay.
 
-use code::Code;
 use code::Enlarged;
 use code::Judgement;
+use code::Pairs;
 use code::Refusal;
 use code::Verdict;
 use pair_shortest::Search;
@@ -12,25 +12,13 @@ ghost use mathlib.Core.Path.{_≡_};
 ghost use Prim.Native.Nat.{_≤_};
 ghost use lib.ListN.{length};
 ghost use Rattle.code.specs.Definitions.Enlarged.{originalTable};
-ghost use Rattle.code.specs.Definitions.Operations.{zeroed, Judges};
+ghost use Rattle.code.specs.Definitions.Operations.{zeroed, verdictWork, Judges};
 ghost use Rattle.code.specs.Definitions.Sheets.{limits};
 ghost use Rattle.well_enlarged.specs.WellEnlarged.{WellEnlarged};
 ghost use Rattle.code.specs.Laws.Exactly.{Exactly};
-ghost use Rattle.decipher.specs.Buffers.{marksRoom, Short, Room};
+ghost use Rattle.decipher.specs.Buffers.{Short, Room};
 ghost use Rattle.decipher.specs.Decided.{Decided};
 ghost use Rattle.decipher.specs.Lent.{Searchable};
-
-// The pairs of places of a code.
-pub struct Pairs {}
-
-impl Pairs {
-    // How many there are at most, whichever place comes first: half of n * (n + 1), by a shift. The shortest ambiguous message has no more symbols.
-    pub const UNORDERED: usize = (Code::SYMBOLS * (Code::SYMBOLS + 1)) >> 1;
-    // Entries of a verdict's message buffer and of each reading buffer: as many, and one for each place, for the shared opening.
-    pub const ROOM: usize = Pairs::UNORDERED + Code::SYMBOLS;
-    // How many marks a search over them has at most: one for each place with each place.
-    pub const MARKS: usize = Code::SYMBOLS * Code::SYMBOLS;
-}
 
 // Whether a buffer is too short for a verdict, by the lengths of the four.
 fn is_short(message: usize, first: usize, second: usize, work: usize) -> bool
@@ -51,7 +39,7 @@ fn is_short(message: usize, first: usize, second: usize, work: usize) -> bool
 // All marks are clear at the start of a verdict: an array of them is laid over the working buffer, where the searches read and set them. What is lent behind it is
 // cleared too.
 fn clear_marks(work: &mut [u64])
-    requires { ⌜ marksRoom ≤ length (now work) ⌝ }
+    requires { ⌜ verdictWork limits ≤ length (now work) ⌝ }
     ensures { λ _. ⌜ now (work .exit) ≡ zeroed (now (work .entry)) ⌝ }
 {
     let marks = [0u64; Pairs::MARKS];

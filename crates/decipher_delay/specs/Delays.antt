@@ -21,7 +21,7 @@ use Rattle.pair_longest.specs.declared.Extent.{Extent}
 use Rattle.pair_longest.specs.declared.Extent.the-variants.{Finite as Most, Unbounded as Without-most}
 use Rattle.pair_longest.specs.Answer.{was-finite}
 use Rattle.pair_longest.specs.Answer as Answer
-use Rattle.pair_longest.specs.Extents.{Given, ExtentOf}
+use Rattle.pair_longest.specs.Extents.{Given, LongestWalk, ExtentOf}
 use Rattle.graph.specs.Goals.{NoGoal}
 use Rattle.graph.specs.Graph.{Longest, Endless}
 use Rattle.pair_graph.specs.OpenPairs.{open-finds}
@@ -43,7 +43,7 @@ delayOf b r = if b then r + 1 else 0
 
 -- The delay, or that there is none, by the walks over the pairs of f.
 pub data DelayBy (f : List ℕ) : Verdict → Type 0 where
-  finite : {d : SymbolCount} {r : ℕ} → Longest (pairGraph f) r → d .0 ≡ delayOf (someRivals f) r → DelayBy f (Finite d)
+  finite : {d : SymbolCount} {r : ℕ} → LongestWalk f r → d .0 ≡ delayOf (someRivals f) r → DelayBy f (Finite d)
   unbounded : Endless (pairGraph f) → DelayBy f Unbounded
 
 -- The verdict is found so, and the working buffer is zero.
@@ -62,13 +62,16 @@ given-laid g = g .laid
 pub extent-low : {f : List ℕ} {e : Extent} {r : ℕ} → Laid f → ExtentOf f e → e ≡ Most r → r ≤ unorderedPairs limits
 extent-low l x p = omega (arith, pairs-limited l, was-finite x p .low)
 
-module _ {f w w′ : List ℕ} {n : ℕ} (long : n ≡ length w) (clear : w′ ≡ replicate n 0) where
-  pub measured-finite : {e : Extent} {r : ℕ} {b : Bool} {d : SymbolCount} → ExtentOf f e → e ≡ Most r → b ≡ someRivals f → d .0 ≡ delayOf b r → Measured f w w′ (Finite d)
-  measured-finite {r = r} x p q h = record { delay = finite {r = r} (was-finite x p .longest) (rw q at h); work = rw long at clear }
+module _ {f : List ℕ} where
+  pub by-finite : {e : Extent} {r : ℕ} {b : Bool} {d : SymbolCount} → ExtentOf f e → e ≡ Most r → b ≡ someRivals f → d .0 ≡ delayOf b r → DelayBy f (Finite d)
+  by-finite {r = r} x p q h = finite {r = r} (was-finite x p) (rw q at h)
 
-  pub measured-unbounded : {e : Extent} → ExtentOf f e → e ≡ Without-most → Measured f w w′ Unbounded
-  measured-unbounded (Answer.finite p) q = let z : _≡_ {A = ℕ} 0 1 = cc in absurd (omega arith)
-  measured-unbounded (Answer.unbounded u) q = record { delay = unbounded u; work = rw long at clear }
+  pub by-unbounded : {e : Extent} → ExtentOf f e → e ≡ Without-most → DelayBy f Unbounded
+  by-unbounded (Answer.finite p) q = let z : _≡_ {A = ℕ} 0 1 = cc in absurd (omega arith)
+  by-unbounded (Answer.unbounded u) q = unbounded u
+
+  pub measured : {w w′ : List ℕ} {n : ℕ} {v : Verdict} → n ≡ length w → w′ ≡ replicate n 0 → DelayBy f v → Measured f w w′ v
+  measured long clear d = record { delay = d; work = rw long at clear }
 
 module _ {t : Table} {f : List ℕ} (laid : LaidOut t f) (ended : Ended t f) (none : NoGoal (openGraph f)) where
   deciphered : Decipherable t
@@ -80,5 +83,5 @@ module _ {t : Table} {f : List ℕ} (laid : LaidOut t f) (ended : Ended t f) (no
 
   -- Where no walk leads to two ends, the verdict by the walks holds, whatever stands for the message and its readings.
   pub delay-means : {v : Verdict} (x s u : List ℕ) → DelayBy f v → VerdictMeans t x s u v
-  delay-means x s u (finite {r = r} l e) = (deciphered, rw e (by-rivals r (someRivals f) refl l))
+  delay-means x s u (finite {r = r} l e) = (deciphered, rw e (by-rivals r (someRivals f) refl (l .longest)))
   delay-means x s u (unbounded e) = (deciphered, search-without-bound (rival-shows laid ended) (laid .fits .plain) e)

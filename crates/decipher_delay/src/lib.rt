@@ -10,7 +10,7 @@ ghost use Rattle.code.specs.Definitions.Operations.{unorderedPairs};
 ghost use Rattle.code.specs.Definitions.Sheets.{limits};
 ghost use Rattle.pair_longest.specs.Extents.{Given};
 ghost use Rattle.pair_storage.specs.Marks.{marks};
-ghost use Rattle.decipher_delay.specs.Delays.{delayOf, Measured};
+ghost use Rattle.decipher_delay.specs.Delays.{delayOf, DelayBy, Measured};
 
 // The delay of a decipherable code, where the longest walk over its pairs reads `longest` symbols: 0 where no two words are rivals.
 fn delay_of(rivals: bool, longest: usize) -> SymbolCount
@@ -23,18 +23,26 @@ fn delay_of(rivals: bool, longest: usize) -> SymbolCount
     SymbolCount(0)
 }
 
-// The verdict on a decipherable code: its delay, or that it is without bound. No pair may be marked in the list; it is left zero.
-pub fn decipherable(places: &[u8], work: &mut [u64]) -> Verdict
+// The verdict on a decipherable code: its delay, or that it is without bound. No pair may be marked in the list.
+pub fn measure(places: &[u8], work: &mut [u64]) -> Verdict
     requires { ⌜ Given (now places) (marks (now places) (now work)) (now work) ⌝ }
-    ensures { λ r. ⌜ Measured (now (places .entry)) (now (work .entry)) (now (work .exit)) r ⌝ }
+    ensures { λ r. ⌜ DelayBy (now (places .entry)) r ⌝ }
 {
-    let extent = pair_longest::longest(places, work);
-    bits::clear(work);
-    match extent {
+    match pair_longest::longest(places, work) {
         Extent::Finite(longest) => {
             let delay = delay_of(some_rivals(places), longest);
             Verdict::Finite(delay)
         }
         Extent::Unbounded => Verdict::Unbounded,
     }
+}
+
+// The same, with the list left zero.
+pub fn decipherable(places: &[u8], work: &mut [u64]) -> Verdict
+    requires { ⌜ Given (now places) (marks (now places) (now work)) (now work) ⌝ }
+    ensures { λ r. ⌜ Measured (now (places .entry)) (now (work .entry)) (now (work .exit)) r ⌝ }
+{
+    let verdict = measure(places, work);
+    bits::clear(work);
+    verdict
 }

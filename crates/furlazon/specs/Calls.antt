@@ -10,9 +10,11 @@ use Rattle.code.specs.declared.SheetAnswer.the-variants.{Accepted}
 use Rattle.code.specs.declared.Encoding.{Encoding}
 use Rattle.code.specs.declared.Reading.{Reading}
 use Rattle.code.specs.declared.Judgement.{Judgement}
+use Rattle.code.specs.declared.Naming.{Naming}
 use Rattle.code.specs.declared.Splitting.{Splitting}
 use Rattle.code.specs.Definitions.ClassSheets.{differentBytes, takenClasses}
 use Rattle.code.specs.Definitions.Enlarged.{plainOf}
+use Rattle.code.specs.Definitions.NextWords.{namingConditions, NamesNext}
 use Rattle.code.specs.Definitions.Operations.{written, encodingConditions, readingConditions, verdictConditions, Enlarges, Encodes, ReadsMessage, Judges}
 use Rattle.code.specs.Definitions.Sheets.{limits, taken}
 use Rattle.code.specs.Definitions.Splitting.{splittingConditions, SplitsText}
@@ -21,7 +23,7 @@ use Rattle.c_image.specs.Image.{imageLength, imageOf, enlargedIn}
 use Rattle.turkish_letters.specs.Letters.{turkishClasses}
 use Rattle.turkish.specs.Types.{types, codeOfTypes}
 use Rattle.c_short_answers.specs.Untold.{Untold}
-use Rattle.c_answers.specs.Answers.{shortNumber, answerLength, encodingNumber, encodingEntries, splittingNumber, splittingEntries, readingNumber, readingEntries, judgementNumber, judgementEntries}
+use Rattle.c_answers.specs.Answers.{shortNumber, answerLength, encodingNumber, encodingEntries, splittingNumber, splittingEntries, readingNumber, readingEntries, namingNumber, namingEntries, judgementNumber, judgementEntries}
 
 -- Taking in the sheet s, with the buffer b for the table.
 abbrev pub TakesIn : (s b b′ : List ℕ) → ℕ → Type 0
@@ -58,6 +60,13 @@ pub data ReadCall (t m f g w a f′ g′ w′ a′ : List ℕ) (r : ℕ) : Type 
       → ReadCall t m f g w a f′ g′ w′ a′ r
   answered : {e : Reading} → imageLength ≤ length t → answerLength ≤ length a → ReadsMessage limits (enlargedIn t) m f g w f′ g′ w′ e → r ≡ readingNumber e
       → a′ ≡ written (readingEntries e) a → ReadCall t m f g w a f′ g′ w′ a′ r
+
+-- Naming the next word of the message m by the table in t, with the working buffer w and the buffer a for the answer.
+pub data NextCall (t m w a w′ a′ : List ℕ) (r : ℕ) : Type 0 where
+  unread : length t < imageLength → r ≡ shortNumber → w′ ≡ w → a′ ≡ a → NextCall t m w a w′ a′ r
+  untold : imageLength ≤ length t → length a < answerLength → Untold (namingConditions limits (enlargedIn t) m []) r → w′ ≡ w → a′ ≡ a → NextCall t m w a w′ a′ r
+  answered : {e : Naming} → imageLength ≤ length t → answerLength ≤ length a → NamesNext limits (enlargedIn t) m w w′ e → r ≡ namingNumber e
+      → a′ ≡ written (namingEntries e) a → NextCall t m w a w′ a′ r
 
 -- The verdict on the table in t, with the message buffer m, the reading buffers f and g, the working buffer w and the buffer a for the answer.
 pub data VerdictCall (t m f g w a m′ f′ g′ w′ a′ : List ℕ) (r : ℕ) : Type 0 where

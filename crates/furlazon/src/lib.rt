@@ -5,6 +5,7 @@ use c_answers::is_short;
 use c_answers::number;
 use c_answers::put_encoding;
 use c_answers::put_judgement;
+use c_answers::put_naming;
 use c_answers::put_reading;
 use c_answers::put_splitting;
 use c_image::Image;
@@ -13,6 +14,7 @@ use c_results::classes_in;
 use c_results::put_classes;
 use c_results::put_table;
 use c_short_answers::untold_encoding;
+use c_short_answers::untold_naming;
 use c_short_answers::untold_reading;
 use c_short_answers::untold_splitting;
 use c_short_answers::untold_verdict;
@@ -21,7 +23,7 @@ use code::Classes;
 use code::Refusal;
 use code::SheetAnswer;
 use well_enlarged::plain;
-ghost use Rattle.furlazon.specs.Calls.{TakesIn, ClassesCall, TurkishCall, TurkishClassesCall, EnlargeCall, EncodeCall, ReadCall, SplitCall, VerdictCall};
+ghost use Rattle.furlazon.specs.Calls.{TakesIn, ClassesCall, TurkishCall, TurkishClassesCall, EnlargeCall, EncodeCall, ReadCall, NextCall, SplitCall, VerdictCall};
 
 // Takes in a sheet. 0: accepted, and the table's image stands at the start of `table`. Else the refusal's number, and `table` is as it was.
 #[no_mangle]
@@ -126,6 +128,28 @@ pub extern "C" fn furlazon_read(
     }
     let e = reading::read(value, message, first, second, work);
     put_reading(e, answer)
+}
+
+// Names the next word of a message from as many symbols as the table's delay. 0: `answer` has its number, and `work` is all zero. Else the refusal's number, the first
+// that holds of 8, 11, 13, 21, 12 and 14; `answer` is as it was, and so is `work` after 8, 11 and 13, but 21, 12 and 14 leave it all zero.
+#[no_mangle]
+pub extern "C" fn furlazon_next(
+    table: &[u8],
+    message: &[u8],
+    work: &mut [u64],
+    answer: &mut [u64],
+) -> u64
+    ensures { λ r. ⌜ NextCall (now (table .entry)) (now (message .entry)) (now (work .entry)) (now (answer .entry)) (now (work .exit)) (now (answer .exit)) r ⌝ }
+{
+    if table.len() < Image::LENGTH {
+        return number(Refusal::ShortBuffer);
+    }
+    let value = unpack(table);
+    if is_short(answer.len()) {
+        return untold_naming(value, message);
+    }
+    let e = next_word::next_word(value, message, work);
+    put_naming(e, answer)
 }
 
 // Gives the verdict on a table. 0: `answer` has 1, 2 or 3 for ambiguous, decipherable with a delay, or without bound, and the lengths or the delay. For

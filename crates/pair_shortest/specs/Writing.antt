@@ -1,5 +1,6 @@
 -- From the goal that was met to the message in its buffer, and the whole search from its start to its answer.
 use mathlib.Core.Path.{_≡_, refl, sym, ap, _∙_}
+use mathlib.Core.Bool.{true, false}
 use mathlib.Core.List.{List, _∷_, _++_, append-assoc, reverse, reverse-cons}
 use Prim.Native.Nat.{ℕ, suc, _+_, _-_, _≤_, _<_}
 use native.Mathlib.Numerals.{add-one}
@@ -28,7 +29,8 @@ use Rattle.pair_groups.specs.Turns.{begun}
 use Rattle.pair_shortest.specs.declared.Exploration.{Exploration}
 use Rattle.pair_shortest.specs.declared.Exploration.the-variants.{Goal as Reached, Exhausted}
 use Rattle.pair_shortest.specs.declared.Search.the-variants.{Nothing}
-use Rattle.pair_shortest.specs.Contracts.{Explored, reached, exhausted, Seeded, Clear, Message, Answers, nothing}
+use Rattle.code.specs.Laws.Exactly.{Exactly, exactly-true, exactly-false}
+use Rattle.pair_shortest.specs.Contracts.{Explored, reached, exhausted, Seeded, Clear, Message, Answers, nothing, SomeGoal}
 use Rattle.pair_shortest.specs.Depth.{Depth, HasDepth, label-depth, depth-held, depth-unique}
 use Rattle.pair_shortest.specs.Spelling.{Spelled, Stored, Filled, fill-some, fill-from, fill-falls, fill-next}
 
@@ -122,3 +124,12 @@ module _ {f q : List ℕ} where
 
   pub answer-nothing : {o : List ℕ} {r : Exploration} → Explored f q r → r ≡ Exhausted → Answers f o o Nothing
   answer-nothing h e = nothing refl (was-exhausted h e)
+
+  -- A walk leads to a goal exactly where one was met.
+  pub goal-reached : {a x : ℕ} {r : Exploration} → Explored f q r → r ≡ Reached a x → Exactly true (SomeGoal (openGraph f))
+  goal-reached {x = x} h e =
+      let m = was-reached h e in
+      exactly-true (record { symbols = reverse (x ∷ m .labelled .message); goal = m .least (m .labelled .message) (m .labelled .label) .goal })
+
+  pub goal-exhausted : {r : Exploration} → Explored f q r → r ≡ Exhausted → Exactly false (SomeGoal (openGraph f))
+  goal-exhausted h e = exactly-false (λ s. was-exhausted h e (s .symbols) (s .goal))

@@ -22,7 +22,8 @@ ghost use Rattle.pair_places.specs.Roots.{Numbered};
 ghost use Rattle.pair_storage.specs.Entries.{entriesIn};
 ghost use Rattle.pair_storage.specs.Marks.{marks};
 ghost use Rattle.pair_groups.specs.Queue.{Between};
-ghost use Rattle.pair_shortest.specs.Contracts.{Expanded, Explored, Seeded, Clear, Answers};
+ghost use Rattle.code.specs.Laws.Exactly.{Exactly};
+ghost use Rattle.pair_shortest.specs.Contracts.{Expanded, Explored, Seeded, Clear, Answers, SomeGoal};
 
 // The length of the message, or that there is none.
 pub enum Search {
@@ -108,5 +109,20 @@ pub fn shortest(places: &[u8], work: &mut [u64], message: &mut [u8]) -> Search
     match explore(places, work) {
         Exploration::Goal(a, x) => Search::Found(write(places, work, message, a, x)),
         Exploration::Exhausted => Search::Nothing,
+    }
+}
+
+// Whether a walk leads from a first pair to a pair of two ends at all. No pair may be marked in the working list.
+pub fn reaches_ends(places: &[u8], work: &mut [u64]) -> bool
+    requires { ⌜ Laid (now places)
+        × Numbered (now places)
+        × Clear (now places) (marks (now places) (now work))
+        × (pairCount (now places) + 2 ≤ length (now work)) ⌝ }
+    ensures { λ r. ⌜ Exactly r (SomeGoal (openGraph (now (places .entry)))) ⌝ }
+{
+    seed(places, work);
+    match explore(places, work) {
+        Exploration::Goal(_, _) => true,
+        Exploration::Exhausted => false,
     }
 }

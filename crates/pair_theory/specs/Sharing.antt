@@ -1,29 +1,22 @@
 -- The delay from the compatible pairs. In a decipherable code two sequences that part behind a shared opening share their next N symbols exactly if some N
 -- symbols reach a compatible pair of rivals: a message shorter than N counts whole, so it would be equal to the other one, and with the opening the code
 -- would have two readings of one message.
-use mathlib.Core.Path.{_≡_, refl, sym, ap, _∙_, subst}
+use mathlib.Core.Path.{_≡_, refl, sym, _∙_, subst}
 use mathlib.Core.List.{List, _∷_}
 use mathlib.Core.Logic.{_↔_}
-use Prim.Native.Nat.{ℕ, zero, suc, _≤_, _<_, min}
+use Prim.Native.Nat.{ℕ, zero, suc, _≤_, _<_}
 use native.Mathlib.Decide.{decLe}
 use native.Mathlib.Omega.{arith}
 use lib.ListN.{length, take, length-take}
-use lib.Seq.{take-all}
 use Rattle.code.specs.Definitions.Tables.{Table, size, message}
 use Rattle.code.specs.Definitions.Readings.{Decipherable}
 use Rattle.code.specs.Definitions.Delays.{SharePrefix, Delay, WithoutBound}
 use Rattle.code.specs.Laws.Delays.{share-fewer, rivals-share}
 use Rattle.code.specs.Laws.Openings.{open-rivals, rivals→share}
-use Rattle.code.specs.Laws.Sequences.{first-word}
+use Rattle.code.specs.Laws.Sequences.{first-word, shorter-whole}
 use Rattle.pair_theory.specs.Places.{firstPlace, Plain, Path, Parting, PairAfter, LongestPath}
 use Rattle.pair_theory.specs.Paths.{along, sequence-from}
 use Rattle.pair_theory.specs.Ambiguity.{parted-differ}
-
--- 01: "one shorter than N shares them only with a message equal to it".
-shorter-whole : (N : ℕ) (l r : List ℕ) → take N l ≡ take N r → (N ≤ length l → ⊥) → l ≡ r
-shorter-whole N l r e h =
-    let n : min N (length l) ≡ min N (length r) = simp length-take at (ap length e) in
-    sym (take-all N l (omega arith)) ∙ e ∙ take-all N r (omega arith)
 
 -- Two different words that may both begin, or both follow the last word of one permitted sequence.
 pub record SomeParting (t : Table) : Type 0 where

@@ -47,6 +47,7 @@ fn say_meaning(refusal: Refusal) {
         ),
         Refusal::ClassRange => say(b"the lowest byte of a line is above its highest"),
         Refusal::ClassOverlap => say(b"a byte stands in two lines"),
+        Refusal::NoFiniteDelay => say(b"its code has no finite delay"),
     }
 }
 

@@ -1,3 +1,4 @@
+pub mod Spells
 pub mod Readings
 pub mod Core
 pub mod Counts

@@ -56,7 +56,7 @@ pub fn read_core(
     ensures { λ r. ⌜ ReadsSets (now (having .entry)) (now (ends .entry)) (now (rows .entry)) (now (lengths .entry)) n longest (now (message .entry))
         (now (first .entry)) (now (second .entry)) (now (work .entry)) (now (first .exit)) (now (second .exit)) (now (work .exit)) r ⌝ }
 {
-    read_marks::mark_all(having, ends, rows, longest, message, work);
+    read_marks::mark_all(having, ends, rows, longest, message, false, work);
     let r = read_walks::first_readings(rows, lengths, n, message.len(), work, first, second);
     bits::clear(work);
     r

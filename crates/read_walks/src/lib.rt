@@ -8,7 +8,7 @@ ghost use mathlib.Core.Path.{_≡_};
 ghost use Prim.Native.Nat.{_+_, _^_, _≤_, _<_};
 ghost use mathlib.Core.List.{_∷_, _++_};
 ghost use lib.ListN.{length, take, drop};
-ghost use Rattle.read_marks.specs.Text.{Can};
+ghost use Rattle.read_marks.specs.Text.{From, Can};
 ghost use Rattle.read_walks.specs.Shown.{shown};
 ghost use Rattle.read_walks.specs.Steps.{advanced, Walkable, Taken, Ended};
 ghost use Rattle.read_walks.specs.Answers.{Branched, Second, Answer};
@@ -69,7 +69,7 @@ fn least_reading(
     last: usize,
 ) -> Walk
     requires { ⌜ Walkable (now rows) (now lengths) (now work) n end × Can (shown (now rows) (now lengths) (now work) n end) pos last
-        × (from ≤ pos) × (pos ≤ end) × (last ≤ n) × (end ≤ length (now out)) ⌝ }
+        × (from ≤ pos) × (from ≤ end) × (last ≤ n) × (end ≤ length (now out)) ⌝ }
     ensures { λ r. ⌜ Ended (shown (now (rows .entry)) (now (lengths .entry)) (now (work .entry)) n end) n pos last from (now (out .entry)) (now (out .exit)) r ⌝ }
 {
     let mut w = Walk {
@@ -134,7 +134,7 @@ pub fn first_readings(
     second: &mut [u8],
 ) -> Found
     requires { ⌜ Walkable (now rows) (now lengths) (now work) n end × (end ≤ length (now first)) × (end ≤ length (now second)) ⌝ }
-    ensures { λ r. ⌜ Answer (shown (now (rows .entry)) (now (lengths .entry)) (now (work .entry)) n end) n
+    ensures { λ r. ⌜ Answer (From (shown (now (rows .entry)) (now (lengths .entry)) (now (work .entry)) n end) 0 n)
         (now (first .entry)) (now (second .entry)) (now (first .exit)) (now (second .exit)) r ⌝ }
 {
     if continues(rows, n, end, work, 0, n) {

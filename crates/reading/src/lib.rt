@@ -6,29 +6,15 @@ use code::Enlarged;
 use code::Message;
 use code::Reading;
 use code::Refusal;
-use code::Word;
 use named::find_named;
+use read_symbols::has_high;
 use read_walks::Found;
 use well_enlarged::well_enlarged;
 ghost use mathlib.Core.Path.{_≡_};
 ghost use Rattle.code.specs.Definitions.Sheets.{limits};
-ghost use Rattle.code.specs.Definitions.Operations.{HasHigh, ReadsMessage};
+ghost use Rattle.code.specs.Definitions.Operations.{ReadsMessage};
 ghost use Rattle.code.specs.Laws.Exactly.{Exactly};
 ghost use Rattle.reading.specs.Public.{Short, readingOf};
-
-// Whether some symbol of the message is above 15.
-fn has_high(message: &[u8]) -> bool
-    ensures { λ r. ⌜ Exactly r (HasHigh (now (message .entry))) ⌝ }
-{
-    let mut i: usize = 0;
-    while i < message.len() {
-        if Word::ALPHABET <= message[i] {
-            return true;
-        }
-        i += 1;
-    }
-    false
-}
 
 // Whether a buffer is too short for a message of `n` symbols, by the lengths of the three.
 fn is_short(n: usize, first: usize, second: usize, work: usize) -> bool

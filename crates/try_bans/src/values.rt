@@ -2,7 +2,7 @@
 
 use code::Code;
 use code::Enlarged;
-use decipher::Pairs;
+use code::Pairs;
 use libc::STDOUT_FILENO;
 use printing::Lengths;
 use try_common::tables::write_table;

@@ -1,6 +1,7 @@
 // Each argument is a trial, in fields with a blank between:
 //     encode SHEET WORDS ROOM
 //     read SHEET MESSAGE ROOM ROOM ROOM
+//     next SHEET MESSAGE ROOM
 //     split SHEET TEXT ROOM ROOM ROOM ROOM ROOM
 //     split-by SHEET TEXT ROOM ROOM ROOM ROOM ROOM CLASSES
 //     classes CLASSES
@@ -13,6 +14,7 @@
 mod buffers;
 mod class_sheets;
 mod lists;
+mod next;
 mod tables;
 mod texts;
 mod trials;
@@ -25,6 +27,8 @@ fn try_line(line: &[u8]) {
     io::write_all(STDOUT_FILENO, b": ");
     if fields::is(line, 0, b"encode") {
         trials::encode(line);
+    } else if fields::is(line, 0, b"next") {
+        next::name(line);
     } else if fields::is(line, 0, b"split") {
         texts::split(line);
     } else if fields::is(line, 0, b"split-by") {

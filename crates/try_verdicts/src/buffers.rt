@@ -1,6 +1,6 @@
 // The lent buffers: what they hold before, and whether they hold it after.
 
-use decipher::Pairs;
+use code::Pairs;
 use libc::STDOUT_FILENO;
 
 // The greatest lengths at which the buffers are lent: some more than a verdict needs.

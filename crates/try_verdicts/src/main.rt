@@ -6,8 +6,8 @@ mod buffers;
 mod trials;
 
 use code::Code;
+use code::Pairs;
 use code::Sheet;
-use decipher::Pairs;
 use libc::STDOUT_FILENO;
 use trials::Lent;
 use trials::try_table;

@@ -10,19 +10,20 @@ use Rattle.code.specs.declared.SheetAnswer.{SheetAnswer}
 use Rattle.code.specs.declared.Encoding.{Encoding}
 use Rattle.code.specs.declared.Reading.{Reading}
 use Rattle.code.specs.declared.Judgement.{Judgement}
+use Rattle.code.specs.declared.Naming.{Naming}
 use Rattle.code.specs.declared.Splitting.{Splitting}
 use Rattle.code.specs.Definitions.Answers.{refusalNumber}
 use Rattle.code.specs.Definitions.ClassSheets.{differentBytes}
 use Rattle.code.specs.Definitions.Operations.{Condition, written}
 use Rattle.code.specs.Definitions.Sheets.{limits}
-use Rattle.c_answers.specs.Answers.{answerLength, encodingNumber, encodingEntries, readingNumber, readingEntries, judgementNumber, judgementEntries, splittingNumber, splittingEntries}
+use Rattle.c_answers.specs.Answers.{answerLength, encodingNumber, encodingEntries, readingNumber, readingEntries, namingNumber, namingEntries, judgementNumber, judgementEntries, splittingNumber, splittingEntries}
 use Rattle.c_image.specs.Image.{imageLength, enlargedIn, imageOf}
 use Rattle.c_short_answers.specs.Untold.{Untold, noAnswer}
 use Rattle.c_results.specs.Given.{Answered, sheetNumber, afterSheet}
 use Rattle.code.specs.Laws.Conditions.{lowest-unique}
 use Rattle.ban_meaning.specs.Answered.{enlarges-unique}
-use Rattle.furlazon.specs.Calls.{EnlargeCall, EncodeCall, ReadCall, VerdictCall, SplitCall}
-use Rattle.unique.specs.Operations.{encodes-unique, reads-unique, judges-unique, splits-text-unique}
+use Rattle.furlazon.specs.Calls.{EnlargeCall, EncodeCall, ReadCall, NextCall, VerdictCall, SplitCall}
+use Rattle.unique.specs.Operations.{encodes-unique, reads-unique, names-unique, judges-unique, splits-text-unique}
 
 untold-unique : (cs : List Condition) (r q : ℕ) → Untold cs r → Untold cs q → r ≡ q
 untold-unique cs r q a b = a .number ∙ ap refusalNumber (lowest-unique (cs ++ (noAnswer ∷ [])) (a .refusal) (b .refusal) (a .lowest) (b .lowest)) ∙ sym (b .number)
@@ -87,6 +88,19 @@ read-call-unique {r = r} {q = q} (ReadCall.untold h k v c d e l) (ReadCall.untol
 read-call-unique {t} {a = a} (ReadCall.answered h k x b c) (ReadCall.answered i j y d f) =
     let z = reads-unique limits (enlargedIn t) x y in
     (z .0, z .1, z .2, c ∙ ap (λ (w : Reading). written (readingEntries w) a) (z .3) ∙ sym f, b ∙ ap readingNumber (z .3) ∙ sym d)
+
+pub next-call-unique : {t m w a w1 a1 w2 a2 : List ℕ} {r q : ℕ} → NextCall t m w a w1 a1 r → NextCall t m w a w2 a2 q → (w1 ≡ w2) × (a1 ≡ a2) × (r ≡ q)
+next-call-unique (NextCall.unread h k b c) (NextCall.unread i j d f) = (b ∙ sym d, c ∙ sym f, k ∙ sym j)
+next-call-unique {t} (NextCall.unread h k b c) (NextCall.untold i j u d f) = absurd (apart t imageLength h i)
+next-call-unique {t} (NextCall.unread h k b c) (NextCall.answered i j u d f) = absurd (apart t imageLength h i)
+next-call-unique {t} (NextCall.untold i j u d f) (NextCall.unread h k b c) = absurd (apart t imageLength h i)
+next-call-unique {t} (NextCall.answered i j u d f) (NextCall.unread h k b c) = absurd (apart t imageLength h i)
+next-call-unique {a = a} (NextCall.untold i j u d f) (NextCall.answered h k x b c) = absurd (apart a answerLength j k)
+next-call-unique {a = a} (NextCall.answered h k x b c) (NextCall.untold i j u d f) = absurd (apart a answerLength j k)
+next-call-unique {r = r} {q = q} (NextCall.untold i j u d f) (NextCall.untold h k v b c) = (d ∙ sym b, f ∙ sym c, untold-unique _ r q u v)
+next-call-unique {t} {a = a} (NextCall.answered h k x b c) (NextCall.answered i j y d f) =
+    let z = names-unique limits (enlargedIn t) x y in
+    (z .0, c ∙ ap (λ (w : Naming). written (namingEntries w) a) (z .1) ∙ sym f, b ∙ ap namingNumber (z .1) ∙ sym d)
 
 either-apart : (t k : List ℕ) → (length t < imageLength) ⊎ (length k < differentBytes) → imageLength ≤ length t → differentBytes ≤ length k → ⊥
 either-apart t k (inl h) i j = apart t imageLength h i

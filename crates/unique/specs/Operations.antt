@@ -18,14 +18,18 @@ use Rattle.code.specs.declared.Verdict.{Verdict}
 use Rattle.code.specs.declared.Verdict.the-variants.{Ambiguous as Two-ways, Finite, Unbounded}
 use Rattle.code.specs.declared.Judgement.{Judgement}
 use Rattle.code.specs.declared.Judgement.the-variants.{Judged, Refused as Not-judged}
+use Rattle.code.specs.declared.Naming.{Naming}
+use Rattle.code.specs.declared.Naming.the-variants.{Named, Refused as Not-named}
 use Rattle.code.specs.declared.Splitting.{Splitting}
 use Rattle.code.specs.declared.Splitting.the-variants.{Split, Refused as Not-split}
 use Rattle.code.specs.Definitions.Tables.{Table}
 use Rattle.code.specs.Definitions.Answers.{VerdictMeans}
 use Rattle.code.specs.Definitions.Enlarged.{originalTable}
+use Rattle.code.specs.Definitions.NextWords.{namingConditions, foretellingConditions, NamesNext}
 use Rattle.code.specs.Definitions.Operations.{written, Shown, encodingConditions, readingConditions, verdictConditions, Encodes, ReadsMessage, Judges}
 use Rattle.code.specs.Definitions.Splitting.{splittingConditions, SplitsText}
 use Rattle.code.specs.Laws.Conditions.{lowest-unique, lowest-none}
+use Rattle.code.specs.Laws.NextWords.{foretells-unique}
 use Rattle.code.specs.Laws.Readings.{decipherable-not-ambiguous, ambiguous-unique, only-reading-unique, first-two-unique, none-not-only, none-not-two, only-not-two}
 use Rattle.code.specs.Laws.Verdicts.{verdict-unique}
 use Rattle.text_theory.specs.Unique.{splits-unique}
@@ -106,6 +110,18 @@ module _ (l : Limits) (e : Enlarged) where
     z ∙ sym z′,
     ap Judged (verdict-unique (originalTable e) x s u x′ s′ u′ v v′ means means′),
   )
+
+  -- Naming the next word: the working buffer, and the answer
+  pub names-unique : {m w w1 w2 : List ℕ} {x y : Naming} → NamesNext l e m w w1 x → NamesNext l e m w w2 y → (w1 ≡ w2) × (x ≡ y)
+  names-unique {m} {w} (NamesNext.refused {r} h a) (NamesNext.refused {r = q} i b) = (a ∙ sym b, ap Not-named (lowest-unique (namingConditions l e m w) r q h i))
+  names-unique {m} {w} (NamesNext.refused {r} h a) (NamesNext.unnamed i f b) = absurd (lowest-none (namingConditions l e m w) r h i)
+  names-unique {m} {w} (NamesNext.refused {r} h a) (NamesNext.named i n f b) = absurd (lowest-none (namingConditions l e m w) r h i)
+  names-unique {m} {w} (NamesNext.unnamed h f a) (NamesNext.refused {r = q} i b) = absurd (lowest-none (namingConditions l e m w) q i h)
+  names-unique {m} (NamesNext.unnamed {r} h f a) (NamesNext.unnamed {r = q} i g b) = (a ∙ sym b, ap Not-named (lowest-unique (foretellingConditions l e m) r q f g))
+  names-unique {m} (NamesNext.unnamed {r} h f a) (NamesNext.named i n g b) = absurd (lowest-none (foretellingConditions l e m) r f n)
+  names-unique {m} {w} (NamesNext.named h n f a) (NamesNext.refused {r = q} i b) = absurd (lowest-none (namingConditions l e m w) q i h)
+  names-unique {m} (NamesNext.named h n f a) (NamesNext.unnamed {r = q} i g b) = absurd (lowest-none (foretellingConditions l e m) q g n)
+  names-unique (NamesNext.named h n f a) (NamesNext.named i k g b) = (a ∙ sym b, ap Named (foretells-unique f g))
 
   -- Splitting a text: the output, message and reading buffers, the working buffer, and the answer
   pub splits-text-unique : {classes : Classes} {s b m f g w b1 m1 f1 g1 w1 b2 m2 f2 g2 w2 : List ℕ} {x y : Splitting} → SplitsText l e classes s b m f g w b1 m1 f1 g1 w1 x

@@ -2,9 +2,9 @@
 
 use code::Enlargement;
 use code::Judgement;
+use code::Pairs;
 use code::Sheet;
 use code::SheetAnswer;
-use decipher::Pairs;
 use printing::Lengths;
 use program::goes_on;
 use program::read_named;

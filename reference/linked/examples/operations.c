@@ -1,8 +1,8 @@
 /* Code U from a sheet in memory: its verdict, the only reading of a message, the message again from the reading, a sequence that is
- * refused, and the empty message. Then the same code with a ban on 0 after 01 and 10: its verdict, and what the ban forbids. Then the
- * built-in code of the twelve Turkish types: its verdict, with the message and both readings, and words that it splits. Last a class
- * sheet that tells r from the other consonants, words split by it, and a class sheet that is refused. Prints what
- * binding/examples/operations.rs prints. */
+ * refused, the empty message, and the words of a line that comes in symbol by symbol. Then the same code with a ban on 0 after 01 and
+ * 10: its verdict, and what the ban forbids. Then the built-in code of the twelve Turkish types: its verdict, with the message and both
+ * readings, why it names no next word, and words that it splits. Last a class sheet that tells r from the other consonants, words split
+ * by it, and a class sheet that is refused. Prints what binding/examples/operations.rs prints. */
 #include "furlazon.h"
 
 #include <inttypes.h>
@@ -64,6 +64,30 @@ static uint64_t split(const char *bytes, size_t n) {
                           FURLAZON_SPLIT_WORK(n), answer, FURLAZON_ANSWER_ENTRIES);
 }
 
+/* The next word of the first n symbols. */
+static uint64_t next(const uint8_t *symbols, size_t n) {
+    return furlazon_next(table, sizeof table, symbols, n, work, FURLAZON_VERDICT_WORK, answer, FURLAZON_ANSWER_ENTRIES);
+}
+
+/* Names the words of a line that comes in symbol by symbol. The next word is told once as many symbols as the delay stand behind the
+ * last break, and at the end of the line by those that are left. Every word may begin, so what is left is a message. */
+static void print_words(const uint8_t *line, size_t length, size_t delay) {
+    size_t begin = 0;
+    for (size_t end = 1; end <= length; end++) {
+        while (begin < end && (begin + delay <= end || end == length)) {
+            const uint64_t refused = next(line + begin, end - begin);
+            printf("next word after %u symbols", (unsigned)end);
+            print_answer("", refused);
+            printf("\n");
+            if (refused != 0) {
+                break;
+            }
+            /* The length of a word stands behind its symbols. */
+            begin += table[answer[0] * (FURLAZON_WORD_SYMBOLS + 1) + FURLAZON_WORD_SYMBOLS];
+        }
+    }
+}
+
 int main(void) {
     if (furlazon_take_in((const uint8_t *)sheet, sizeof sheet - 1, table, sizeof table) != 0) {
         return 1;
@@ -72,6 +96,7 @@ int main(void) {
                                         FURLAZON_VERDICT_WORK, answer, FURLAZON_ANSWER_ENTRIES);
     print_answer("verdict", refused);
     printf("\n");
+    const size_t delay = answer[1];
 
     /* No more of the buffers than reading a message of five symbols needs. */
     const uint8_t symbols[] = {0, 1, 1, 0, 1};
@@ -94,6 +119,15 @@ int main(void) {
                             FURLAZON_ANSWER_ENTRIES);
     print_answer("reading of the empty message", refused);
     printf("\n");
+
+    const uint8_t line[] = {0, 1, 1, 0, 1, 1, 0, 0, 0, 1};
+    print_words(line, sizeof line, delay);
+    const uint8_t begun[] = {1, 0, 1, 1};
+    refused = next(begun, sizeof begun);
+    print_answer("next word of 1011", refused);
+    printf("\n");
+    refused = next(begun, 1);
+    printf("next word of 1: %s\n", refused == FURLAZON_REFUSED_NO_READING ? "none" : "some");
 
     if (furlazon_enlarge(table, sizeof table, (const uint8_t *)bans, sizeof bans - 1, enlarged, sizeof enlarged) != 0) {
         return 1;
@@ -125,6 +159,8 @@ int main(void) {
     print_entries("words", first, answer[2]);
     printf("its second reading");
     print_entries("words", second, answer[3]);
+    refused = next(begun, sizeof begun);
+    printf("next word by the Turkish types: %s\n", refused == FURLAZON_REFUSED_NO_FINITE_DELAY ? "no finite delay" : "a finite delay");
 
     if (furlazon_turkish_classes(classes, sizeof classes) != 0) {
         return 1;

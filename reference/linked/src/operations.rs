@@ -12,7 +12,7 @@ use reference::table::Table;
 
 pub struct Linked;
 
-const REFUSALS: [Refusal; 20] = [
+const REFUSALS: [Refusal; 21] = [
     Refusal::SheetLength,
     Refusal::SheetBytes,
     Refusal::RecordCount,
@@ -33,6 +33,7 @@ const REFUSALS: [Refusal; 20] = [
     Refusal::ClassRecord,
     Refusal::ClassRange,
     Refusal::ClassOverlap,
+    Refusal::NoFiniteDelay,
 ];
 
 /// The refusal with this number; none for 0.
@@ -159,6 +160,14 @@ impl Operations for Linked {
             [DELAY, delay, 0, 0] => Ok(VerdictLengths::Delay(delay as usize)),
             [WITHOUT_BOUND, 0, 0, 0] => Ok(VerdictLengths::Unbounded),
             other => panic!("not a verdict: {other:?}"),
+        }
+    }
+
+    fn next(&mut self, table: &Table, message: &[u8], working: &mut [u64]) -> Result<u8, Refusal> {
+        let table = image::pack(table);
+        match answer(|entries| furlazon::next(&table, message, working, entries))? {
+            [word @ 0..=255, 0, 0, 0] => Ok(word as u8),
+            other => panic!("not a next word: {other:?}"),
         }
     }
 }

@@ -1,8 +1,8 @@
 //! The verdict as one would write it at first: pairs of places in the standard
-//! hash set and a queue. A baseline for times.
+//! hash set and a queue; and the next word by it. A baseline for times.
 
 use reference::code::{Code, Refusal};
-use reference::operations::{Buffers, VerdictLengths, VERDICT_ENTRIES, VERDICT_WORKING};
+use reference::operations::{next_by_delay, Buffers, VerdictLengths, VERDICT_ENTRIES, VERDICT_WORKING};
 use reference::read::{first_two, Readings};
 use reference::rivals::Rivals;
 use reference::table::Table;
@@ -27,6 +27,11 @@ pub fn on_table(table: &Table, buffers: &mut Buffers) -> Result<VerdictLengths, 
             VerdictLengths::Ambiguous { message: message.len(), first: first.len(), second: second.len() }
         }
     })
+}
+
+/// The next word with its lent buffer: the delay by the verdict below, then the words by which the first symbols may begin.
+pub fn next_on_table(table: &Table, message: &[u8], working: &mut [u64]) -> Result<u8, Refusal> {
+    next_by_delay(table, message, working, |code| verdict(code).delay())
 }
 
 type Pair = (u8, u8);

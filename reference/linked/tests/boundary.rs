@@ -1,7 +1,7 @@
 //! What belongs to the boundary alone: the image of a table, that of the
 //! built-in code, a table too short to be read, an enlarged one too short to be
 //! written, and an answer too short to be told; classes with room for them and
-//! without; and splitting with buffers of every length.
+//! without; splitting with buffers of every length; and so the next word.
 
 use furlazon::{split_entries, split_out, split_work, AMBIGUOUS, ANSWER_ENTRIES, CLASSES_BYTES, TABLE_BYTES};
 use linked::image;
@@ -315,6 +315,20 @@ fn short_answers() {
                 );
                 assert_eq!(refusal(refused), Some(expected), "splitting with {entries} entries");
             }
+            let lines: [(&[u8], &[u8], Refusal); 8] = [
+                (&none, &[16], Refusal::NotFromSheet),
+                (&none, &too_long, Refusal::NotFromSheet),
+                (&table, &too_long, Refusal::MessageLength),
+                (&table, &[16], Refusal::ShortBuffer),
+                (&table, &[1], Refusal::ShortBuffer),
+                (&table, &[0, 1], Refusal::ShortBuffer),
+                (&table, &[], Refusal::ShortBuffer),
+                (&table[..TABLE_BYTES - 1], &too_long, Refusal::ShortBuffer),
+            ];
+            for (table, symbols, expected) in lines {
+                let refused = furlazon::next(table, symbols, &mut work, &mut answer);
+                assert_eq!(refusal(refused), Some(expected), "next word with {entries} entries");
+            }
             let verdicts: [(&[u8], Refusal); 3] = [
                 (&none, Refusal::NotFromSheet),
                 (&table, Refusal::ShortBuffer),
@@ -512,6 +526,75 @@ fn the_longest_text() {
             let before = lent.clone();
             assert_eq!(lent.split(&table, &classes, &text), Some(Refusal::ShortBuffer));
             assert!(lent == before, "buffer {buffer}");
+        }
+    }
+}
+
+/// A table's image, a message, and what the next word is with room for all: its number or the refusal.
+type Line<'a> = (&'a [u8], &'a [u8], Result<u64, Refusal>);
+
+/// The next word with this room in `work` and `answer`. It is the refusal
+/// that comes first of those that hold, which has 13 after 8 and 11 and before
+/// the others; after 8, 11 and 13 nothing is changed, and else `work` is zero.
+fn names((table, message, with_room): Line, room: usize, entries: usize) {
+    let [mut work, mut answer] = [room, entries].map(|length| vec![WORD_MARK; length]);
+    let early = [Refusal::NotFromSheet, Refusal::MessageLength, Refusal::ShortBuffer].map(Err).contains(&with_room);
+    let is_short = room < VERDICT_WORKING || entries < ANSWER_ENTRIES;
+    let expected = if is_short && !early { Err(Refusal::ShortBuffer) } else { with_room };
+    let case = format!("{} bytes, {} symbols, room of {room}, {entries} entries", table.len(), message.len());
+    let refused = refusal(furlazon::next(table, message, &mut work, &mut answer));
+    assert_eq!(refused, expected.err(), "{case}");
+    let left = if early || is_short { WORD_MARK } else { 0 };
+    assert!(work.iter().all(|&entry| entry == left), "{case}");
+    let written = expected.map_or(Vec::new(), |word| vec![word, 0, 0, 0]);
+    assert_eq!(answer[..written.len()], written, "{case}");
+    assert!(answer[written.len()..].iter().all(|&entry| entry == WORD_MARK), "{case}");
+}
+
+/// With working buffers and answers that are exact, longer and too short: code
+/// U, with copies and without, whose delay is 4; a code without a finite one,
+/// one with delay 0, images that no sheet gives and images that are too short.
+#[test]
+fn next_words_with_room_and_without() {
+    let (table, none) = tables();
+    let [mut copies, mut ambiguous, mut one_word] = [(); 3].map(|()| vec![0; TABLE_BYTES]);
+    assert_eq!(furlazon::enlarge(&table, b"0,2,1", &mut copies), 0);
+    assert_eq!(furlazon::turkish(&mut ambiguous), 0);
+    assert_eq!(furlazon::take_in(b"0,1", &mut one_word), 0);
+    let longer = [&table[..], &[MARK; 3]].concat();
+    let long = vec![16; Code::MAX_MESSAGE_SYMBOLS];
+    let too_long = [&long[..], &[16]].concat();
+    let high_behind = [&[1, 0, 1, 1], &long[4..]].concat();
+    let mut cases: Vec<Line> = vec![
+        (&one_word, &[0], Ok(0)),
+        (&one_word, &long, Ok(0)),
+        (&one_word, &[], Err(Refusal::NoReading)),
+        (&longer, &[0, 1, 1, 0], Ok(2)),
+    ];
+    for table in [&table, &copies] {
+        cases.extend::<[Line; 8]>([
+            (table, &[0, 1, 1, 0, 1], Ok(2)),
+            (table, &[1, 0, 1, 1], Ok(3)),
+            (table, &high_behind, Ok(3)),
+            (table, &[1, 0, 1, 16], Err(Refusal::MessageSymbol)),
+            (table, &long, Err(Refusal::MessageSymbol)),
+            (table, &[1], Err(Refusal::NoReading)),
+            (table, &[], Err(Refusal::NoReading)),
+            (table, &too_long, Err(Refusal::MessageLength)),
+        ]);
+    }
+    cases.push((&ambiguous, &too_long, Err(Refusal::MessageLength)));
+    for message in [&[][..], &[0], &[16], &long] {
+        cases.push((&ambiguous, message, Err(Refusal::NoFiniteDelay)));
+    }
+    for message in [&[][..], &[0], &[16], &long, &too_long] {
+        cases.push((&none, message, Err(Refusal::NotFromSheet)));
+        cases.push((&table[..TABLE_BYTES - 1], message, Err(Refusal::ShortBuffer)));
+        cases.push((&[], message, Err(Refusal::ShortBuffer)));
+    }
+    for case in cases {
+        for room in [0, 1, VERDICT_WORKING - 1, VERDICT_WORKING, VERDICT_WORKING + 3] {
+            (0..=ANSWER_ENTRIES + 2).for_each(|entries| names(case, room, entries));
         }
     }
 }

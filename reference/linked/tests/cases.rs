@@ -1,20 +1,22 @@
 //! Cases 11 to 14 of the scope paper, codes with start marks, codes with ban
-//! lists, class sheets, and figures 2 and 3 of Gönenç and the words that he
-//! splits, run by the proved library and by the reference: both give the same,
-//! lent buffers included, and it is what the papers say.
+//! lists, class sheets, next words, and figures 2 and 3 of Gönenç and the words
+//! that he splits, run by the proved library and by the reference: both give the
+//! same, lent buffers included, and it is what the papers say.
 
 use furlazon::TABLE_BYTES;
 use linked::image;
 use linked::operations::Linked;
 use reference::bans;
 use reference::cases::{
-    banned, class_sheets, code_t, code_u, codes_for_the_empty_message, figure_2, limit_sheets, openings, refused_lists,
-    shortening, turkish_six, turkish_six_with_r, turkish_twelve, AMBIGUOUS_WORDS, FIGURE_3_LONGEST_PATH, SPLIT_WORDS,
-    TURKISH_CLASSES, UNREAD_WORDS,
+    banned, class_sheets, code_t, code_u, codes_for_the_empty_message, figure_2, limit_sheets, lines,
+    lines_with_marks_and_bans, openings, refused_lists, shortening, turkish_six, turkish_six_with_r, turkish_twelve,
+    Lines, AMBIGUOUS_WORDS, FIGURE_3_LONGEST_PATH, SPLIT_WORDS, TURKISH_CLASSES, UNREAD_WORDS,
 };
 use reference::classes::{Classes, Entries, OTHER};
 use reference::code::{Code, Refusal};
 use reference::copies::enlarge;
+use reference::encode::joined;
+use reference::largest;
 use reference::letters::{bytes, with_r_apart, TURKISH};
 use reference::operations::{
     Buffers, Operations, ReadingLengths, Reference, VerdictLengths, VERDICT_ENTRIES, VERDICT_WORKING,
@@ -398,4 +400,57 @@ fn ban_lists_in_splitting() {
     let table = Table::of(&Code::free(&["0", "1", "010"]));
     splits(&table, "aba abba", "[aba] a·b·b·a");
     splits(&enlarged_by(&table, b"0,0,1\r\n2,0,1\r\n", None), "aba abba", "aba a·b·b·a");
+}
+
+/// Both name this next word or refuse the message so, and leave the working buffer zero.
+fn names(table: &Table, message: &[u8], answer: Result<u8, Refusal>) {
+    for spare in SPARE {
+        let before = vec![u64::from(MARK); VERDICT_WORKING + spare];
+        let (mut ours, mut theirs) = (before.clone(), before);
+        assert_eq!(Linked.next(table, message, &mut ours), answer, "{message:?}");
+        assert_eq!(Reference.next(table, message, &mut theirs), answer, "{message:?}");
+        assert!([ours, theirs].iter().flatten().all(|&entry| entry == 0), "{message:?}");
+    }
+}
+
+#[test]
+fn next_words() {
+    for Lines { code, bans, lines, .. } in lines().into_iter().chain(lines_with_marks_and_bans()) {
+        let table = enlarged_by(&Table::of(&code), &bans::write(&bans), None);
+        lines.into_iter().for_each(|(message, answer)| names(&table, &message, answer));
+    }
+}
+
+/// A line of code U as it comes in: with fewer symbols than the delay of 4 it is whole, then the first word is told.
+#[test]
+fn a_line_that_comes_in() {
+    let (table, none) = (Table::of(&code_u()), Err(Refusal::NoReading));
+    let line = joined(&code_u(), &[3, 3, 1, 0, 2]);
+    let answers = [none, none, Ok(1), Ok(3), Ok(3), Ok(3), Ok(3), Ok(3), Ok(3), Ok(3), Ok(3), Ok(3)];
+    assert_eq!(line.len() + 1, answers.len());
+    for (symbols, answer) in answers.into_iter().enumerate() {
+        names(&table, &line[..symbols], answer);
+    }
+    gives(&table, VerdictLengths::Delay(4), &[], &[], &[]);
+}
+
+/// Messages of as many symbols as the largest stored delay and of one more, and with the last symbol that counts changed.
+#[test]
+fn the_largest_delay() {
+    let code = largest::delay();
+    let table = taken_in(include_bytes!("../../../sheets/largest-delay.csv"), None);
+    assert_eq!(table, Table::of(&code));
+    gives(&table, VerdictLengths::Delay(279), &[], &[], &[]);
+    for first in [0, 3, 9] {
+        let mut sequence = vec![first];
+        while joined(&code, &sequence).len() < 280 {
+            sequence.push(code.choices(sequence.last().copied()).trailing_zeros() as u8);
+        }
+        let message = joined(&code, &sequence);
+        names(&table, &message[..279], Ok(first));
+        names(&table, &message[..280], Ok(first));
+        names(&table, &[&message[..279], &[16]].concat(), Ok(first));
+        names(&table, &[&message[..278], &[16]].concat(), Err(Refusal::MessageSymbol));
+        names(&table, &[&message[..278], &[15]].concat(), Err(Refusal::NoReading));
+    }
 }

@@ -159,14 +159,30 @@ fn constants(source: &str) -> Vec<(String, &str)> {
     constants
 }
 
-/// A sum of products of numbers and of constants.
+/// The value of numbers and constants that are shifted, added or multiplied, with brackets.
 fn value(constants: &[(String, &str)], text: &str) -> u64 {
-    let factor = |text: &str| {
-        let named =
-            || constants.iter().find(|constant| constant.0 == text).map(|constant| value(constants, constant.1));
-        number(text).or_else(named).unwrap_or_else(|| panic!("{text} is no number"))
-    };
-    text.split(" + ").map(|term| term.split(" * ").map(factor).product::<u64>()).sum()
+    let of = |text: &str| value(constants, text);
+    if let Some((left, right)) = parted(text, " >> ") {
+        return of(left) >> of(right);
+    }
+    if let Some((left, right)) = parted(text, " + ") {
+        return of(left) + of(right);
+    }
+    if let Some((left, right)) = parted(text, " * ") {
+        return of(left) * of(right);
+    }
+    if let Some(inner) = text.strip_prefix('(').and_then(|text| text.strip_suffix(')')) {
+        return of(inner);
+    }
+    let named = || constants.iter().find(|constant| constant.0 == text).map(|constant| of(constant.1));
+    number(text).or_else(named).unwrap_or_else(|| panic!("{text} is no number"))
+}
+
+/// The two sides of an operator that stands outside brackets, if there is one.
+fn parted<'a>(text: &'a str, operator: &str) -> Option<(&'a str, &'a str)> {
+    let outside = |at: usize| text[..at].matches('(').count() == text[..at].matches(')').count();
+    let at = text.match_indices(operator).map(|(at, _)| at).find(|&at| outside(at))?;
+    Some((&text[..at], &text[at + operator.len()..]))
 }
 
 #[test]
@@ -188,13 +204,16 @@ fn limits_of_the_source() {
         ("CLASSES_BYTES", "Classes::BYTES"),
         ("OTHER", "Classes::OTHER"),
         ("ANSWER_ENTRIES", "Answer::LENGTH"),
+        ("VERDICT_ENTRIES", "Pairs::ROOM"),
+        ("VERDICT_WORK", "Pairs::MARKS"),
     ];
     let header = header_numbers();
     for (name, source) in names {
         let defined = header.iter().find(|defined| defined.0 == name).unwrap_or_else(|| panic!("no {name}"));
         assert_eq!(defined.1, value(&all, source), "{name}");
     }
-    for (limit, _) in limits {
+    // The number of pairs is a part of the room that a verdict needs, and has no name of its own.
+    for (limit, _) in limits.into_iter().filter(|limit| limit.0 != "Pairs::UNORDERED") {
         assert!(names.iter().any(|name| name.1 == limit), "{limit} has no name in the header");
     }
 }

@@ -8,7 +8,7 @@ use lib.ListN.{length, drop}
 use lib.Seq.{take-at}
 use borrow.Author.Tests.{lt-ltb, le-ltb}
 use Rattle.code.specs.declared.Refusal.{Refusal}
-use Rattle.code.specs.declared.Refusal.the-variants.{SheetLength, SheetBytes, RecordCount, WordLength, CodeLength, FieldCount, RowEntry, NotFromSheet, UnknownWord, ForbiddenPair, MessageLength, MessageSymbol, ShortBuffer, NoReading, StartField, BanRecord, BanLimit, ClassRecord, ClassRange, ClassOverlap}
+use Rattle.code.specs.declared.Refusal.the-variants.{SheetLength, SheetBytes, RecordCount, WordLength, CodeLength, FieldCount, RowEntry, NotFromSheet, UnknownWord, ForbiddenPair, MessageLength, MessageSymbol, ShortBuffer, NoReading, StartField, BanRecord, BanLimit, ClassRecord, ClassRange, ClassOverlap, NoFiniteDelay}
 use Rattle.code.specs.declared.SheetAnswer.{SheetAnswer}
 use Rattle.code.specs.declared.SheetAnswer.the-variants.{Accepted, Refused}
 use Rattle.code.specs.Definitions.Answers.{refusalNumber}
@@ -37,6 +37,7 @@ some-number BanLimit = omega arith
 some-number ClassRecord = omega arith
 some-number ClassRange = omega arith
 some-number ClassOverlap = omega arith
+some-number NoFiniteDelay = omega arith
 
 accepted : (a : SheetAnswer) (n : ℕ) (b : List ℕ) → 0 ≡ sheetNumber a n b → Dec (length b < n) → (a ≡ Accepted) × (n ≤ length b)
 accepted Accepted n b e (yes h) = let k = rw (lt-ltb (length b) n h) at e in absurd (omega arith)

@@ -1,8 +1,8 @@
--- Lists of conditions: what is refused is unique, nothing is refused where none holds, and where the numbers ascend, as in the list of each operation, the first
--- that holds is the lowest.
+-- Lists of conditions: what is refused is unique, nothing is refused where none holds, and where the numbers ascend, as in the list of each operation but one, the
+-- first that holds is the lowest.
 use mathlib.Core.Path.{_≡_, refl, sym, _∙_}
 use mathlib.Core.Bool.{Bool, true, _&&_, and-eq-true-iff}
-use mathlib.Core.List.{List, [], _∷_}
+use mathlib.Core.List.{List, [], _∷_, _++_, map}
 use mathlib.Core.Logic.{_⊎_, inl, inr}
 use Prim.Native.Nat.{ℕ, _≤_, _<_}
 use native.Mathlib.Omega.{arith}
@@ -13,17 +13,18 @@ use Rattle.code.specs.declared.Enlarged.{Enlarged}
 use Rattle.code.specs.declared.Limits.{Limits}
 use Rattle.code.specs.declared.Refusal.{Refusal}
 use Rattle.code.specs.Definitions.Answers.{refusalNumber}
-use Rattle.code.specs.Definitions.Operations.{Condition, Lowest, NoneHolds, banConditions, encodingConditions, readingConditions, verdictConditions}
+use Rattle.code.specs.Definitions.NextWords.{namingConditions, foretellingConditions}
+use Rattle.code.specs.Definitions.Operations.{Condition, FirstHolds, Lowest, NoneHolds, banConditions, encodingConditions, readingConditions, verdictConditions}
 use Rattle.code.specs.Definitions.Splitting.{splittingConditions}
 
-pub lowest-unique : (cs : List Condition) (r q : Refusal) → Lowest cs r → Lowest cs q → r ≡ q
+pub lowest-unique : (cs : List Condition) (r q : Refusal) → FirstHolds cs r → FirstHolds cs q → r ≡ q
 lowest-unique [] r q h k = absurd h
 lowest-unique (c ∷ cs) r q (inl h) (inl k) = h .1 ∙ sym (k .1)
 lowest-unique (c ∷ cs) r q (inl h) (inr k) = absurd (k .0 (h .0))
 lowest-unique (c ∷ cs) r q (inr h) (inl k) = absurd (h .0 (k .0))
 lowest-unique (c ∷ cs) r q (inr h) (inr k) = lowest-unique cs r q (h .1) (k .1)
 
-pub lowest-none : (cs : List Condition) (r : Refusal) → Lowest cs r → NoneHolds cs → ⊥
+pub lowest-none : (cs : List Condition) (r : Refusal) → FirstHolds cs r → NoneHolds cs → ⊥
 lowest-none [] r h n = h
 lowest-none (c ∷ cs) r (inl h) n = n .0 (h .0)
 lowest-none (c ∷ cs) r (inr h) n = lowest-none cs r (h .1) (n .1)
@@ -74,3 +75,7 @@ module _ (l : Limits) (e : Enlarged) where
 
   pub splitting-ascends : (c : Classes) (s b m f g w : List ℕ) → ascendsFrom 0 (splittingConditions l e c s b m f g w) ≡ true
   splitting-ascends c s b m f g w = refl
+
+  -- The list of request 7 does not: "the order is 8, 11, 13, 21, 12 (first N symbols only), 14".
+  pub naming-order : (m w : List ℕ) → map (λ (c : Condition). refusalNumber (c .refusal)) (namingConditions l e m w ++ foretellingConditions l e m) ≡ 8 ∷ 11 ∷ 13 ∷ 21 ∷ 12 ∷ 14 ∷ []
+  naming-order m w = refl

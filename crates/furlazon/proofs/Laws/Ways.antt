@@ -17,9 +17,11 @@ use Rattle.code.specs.declared.SheetAnswer.the-variants.{Accepted}
 use Rattle.code.specs.declared.Encoding.{Encoding}
 use Rattle.code.specs.declared.Reading.{Reading}
 use Rattle.code.specs.declared.Judgement.{Judgement}
+use Rattle.code.specs.declared.Naming.{Naming}
 use Rattle.code.specs.declared.Splitting.{Splitting}
 use Rattle.code.specs.Definitions.ClassSheets.{differentBytes, takenClasses}
 use Rattle.code.specs.Definitions.Enlarged.{plainOf}
+use Rattle.code.specs.Definitions.NextWords.{namingConditions, NamesNext}
 use Rattle.code.specs.Definitions.Operations.{written, encodingConditions, readingConditions, verdictConditions, Enlarges, Encodes, ReadsMessage, Judges}
 use Rattle.code.specs.Definitions.Sheets.{limits, taken}
 use Rattle.code.specs.Definitions.Splitting.{splittingConditions, SplitsText}
@@ -27,9 +29,9 @@ use Rattle.c_results.specs.Given.{Answered, classesIn}
 use Rattle.c_image.specs.Image.{imageLength, imageOf, enlargedIn}
 use Rattle.turkish_letters.specs.Letters.{turkishClasses}
 use Rattle.turkish.specs.Types.{types, codeOfTypes}
-use Rattle.c_answers.specs.Answers.{shortNumber, answerLength, encodingNumber, encodingEntries, splittingNumber, splittingEntries, readingNumber, readingEntries, judgementNumber, judgementEntries}
+use Rattle.c_answers.specs.Answers.{shortNumber, answerLength, encodingNumber, encodingEntries, splittingNumber, splittingEntries, readingNumber, readingEntries, namingNumber, namingEntries, judgementNumber, judgementEntries}
 use Rattle.c_short_answers.specs.Untold.{Untold}
-use Rattle.furlazon.specs.Calls.{TakesIn, ClassesCall, TurkishCall, TurkishClassesCall, EnlargeCall, EncodeCall, ReadCall, VerdictCall, SplitCall}
+use Rattle.furlazon.specs.Calls.{TakesIn, ClassesCall, TurkishCall, TurkishClassesCall, EnlargeCall, EncodeCall, ReadCall, NextCall, VerdictCall, SplitCall}
 
 -- Answering a sheet or a ban list
 
@@ -98,6 +100,18 @@ module _ {t m f g w a : List ℕ} where
   pub verdict-answered : {m′ f′ g′ w′ a′ : List ℕ} {n : ℕ} {e : Judgement} {v : Enlarged} → imageLength ≤ length t → answerLength ≤ length a → v ≡ enlargedIn t
       → Judges limits v m f g w m′ f′ g′ w′ e → (n ≡ judgementNumber e) × (a′ ≡ written (judgementEntries e) a) → VerdictCall t m f g w a m′ f′ g′ w′ a′ n
   verdict-answered h l u r e = VerdictCall.answered h l (rw u at r) (e .0) (e .1)
+
+module _ {t m w a : List ℕ} where
+  pub next-unread : {n : ℕ} → length t < imageLength → n ≡ shortNumber → NextCall t m w a w a n
+  next-unread h e = NextCall.unread h e refl refl
+
+  pub next-untold : {n : ℕ} {v : Enlarged} → imageLength ≤ length t → length a < answerLength → v ≡ enlargedIn t → Untold (namingConditions limits v m []) n
+      → NextCall t m w a w a n
+  next-untold h l u e = NextCall.untold h l (rw u at e) refl refl
+
+  pub next-answered : {w′ a′ : List ℕ} {n : ℕ} {e : Naming} {v : Enlarged} → imageLength ≤ length t → answerLength ≤ length a → v ≡ enlargedIn t → NamesNext limits v m w w′ e
+      → (n ≡ namingNumber e) × (a′ ≡ written (namingEntries e) a) → NextCall t m w a w′ a′ n
+  next-answered h l u r e = NextCall.answered h l (rw u at r) (e .0) (e .1)
 
 module _ {t k s b m f g w a : List ℕ} where
   pub split-unread : {n : ℕ} → length t < imageLength → n ≡ shortNumber → SplitCall t k s b m f g w a b m f g w a n

@@ -12,7 +12,7 @@ first-readings-requires c κs =
     let after-marks = c .before .before .before .before .before in
     let start = after-marks .before .before .before .before .before .before .before .before .before .before in
     let p = start .pre in
-    (marked-walkable (p .0) (omega arith) (p .2) (after-marks .mark-all .ensures .each _ _ (p .0)), p .3, p .4)
+    (marked-walkable (start .args .message .now) (p .0) (omega arith) (p .2) (after-marks .mark-all .ensures .each _ _ (p .0)), p .3, p .4)
 
 returns : tie.Need-returns
 returns c =
@@ -20,9 +20,9 @@ returns c =
     let after-marks = after-readings .before .before .before .before .before .before in
     let start = after-marks .before .before .before .before .before .before .before .before .before .before in
     let p = start .pre in
-    let e : length (after-marks .mark-all .last .1 .1 .1 .1 .1 .0) ≡ length (start .args .work .now) = omega arith in
+    let e : length (after-marks .mark-all .last .1 .1 .1 .1 .1 .1 .0) ≡ length (start .args .work .now) = omega arith in
     record {
-      finds = λ t l. answer-finds l (after-marks .mark-all .ensures .each _ _ (p .0)) (after-readings .first-readings .ensures);
+      finds = λ t l. answer-finds (start .args .message .now) l (after-marks .mark-all .ensures .each _ _ (p .0)) (after-readings .first-readings .ensures);
       work = rw e at (c .before .before .clear .ensures);
     }
 

@@ -20,11 +20,10 @@ use Rattle.code.specs.declared.Judgement.the-variants.{Judged, Refused as Not-j
 use Rattle.code.specs.Definitions.Readings.{Ambiguous}
 use Rattle.code.specs.Definitions.Answers.{VerdictMeans}
 use Rattle.code.specs.Definitions.Enlarged.{plainOf, originalTable}
-use Rattle.code.specs.Definitions.Operations.{Lowest, Enlarges, FromLists, verdictRoom, verdictConditions, written, Shown, Judges, refused, judged}
+use Rattle.code.specs.Definitions.Operations.{Lowest, Enlarges, FromLists, verdictRoom, verdictWork, verdictConditions, written, Shown, Judges, refused, judged}
 use Rattle.code.specs.Definitions.Sheets.{limits, taken}
 use Rattle.code.specs.Laws.Buffers.{take-written}
-use Rattle.code.specs.Laws.Sequences.{permitted-linked}
-use Rattle.decipher.specs.Buffers.{marksRoom}
+use Rattle.code.specs.Laws.Sequences.{permitted-linked, message-below}
 use Rattle.well_formed.specs.Given.{well}
 use Rattle.pair_places.specs.Codes.{code-fits}
 use Rattle.printing.specs.Printed.{printed}
@@ -35,7 +34,6 @@ use Rattle.ban_meaning.specs.Alike.{same-reads}
 use Rattle.ban_meaning.specs.Given.{tableWith, lists-alike}
 use Rattle.sheet.proofs.Laws.Either.{not-both}
 use Rattle.verdict.specs.Answers.{outputRoom, Gives, sheet-refused, sheet-accepted, Answers, Shows}
-use Rattle.verdict.proofs.Laws.Symbols.{symbols-message}
 
 -- What shows nothing of the buffers can be printed.
 plain : (j : Judgement) → lengthsOf j ≡ record { message = 0; first = 0; second = 0 } → (m f g : List ℕ) → Printable j m f g outputRoom
@@ -75,7 +73,7 @@ module _ {e : Enlarged} (lists : FromLists limits e) where
   ambiguous-symbols : (x s u : List ℕ) → Ambiguous (originalTable e) x s u → Symbols x
   ambiguous-symbols x s u a =
       let r = same-reads (lists-alike lists) .0 (a .readings .first) in
-      rw (r .joined) at (symbols-message (tableWith (lists .table) (lists .list)) (code-fits (lists .table) (well (lists .given)) .low) (permitted-linked (r .permitted)))
+      rw (r .joined) at (message-below (tableWith (lists .table) (lists .list)) (omega arith) (code-fits (lists .table) (well (lists .given)) .low) (permitted-linked (r .permitted)))
 
 -- An accepted sheet and list give a code.
 gives-lists : {sheet list : List ℕ} {g : Enlargement} → Gives sheet list g → g .answer ≡ Accepted → FromLists limits (g .enlarged)
@@ -126,14 +124,14 @@ module _ {sheet list : List ℕ} {g : Enlargement} (gives : Gives sheet list g) 
     shows-verdict Unbounded means shown = shows-plain Unbounded means (plain (Judged Unbounded) refl m′ f′ h′) refl
 
   -- No refusal of the verdict holds: a sheet and a list give the code, and the buffers are long enough.
-  no-refusal : (m f h w : List ℕ) → length m ≡ verdictRoom limits → length f ≡ verdictRoom limits → length h ≡ verdictRoom limits → length w ≡ marksRoom → {r : Refusal}
+  no-refusal : (m f h w : List ℕ) → length m ≡ verdictRoom limits → length f ≡ verdictRoom limits → length h ≡ verdictRoom limits → length w ≡ verdictWork limits → {r : Refusal}
       → Lowest (verdictConditions limits (g .enlarged) m f h w) r → ⊥
   no-refusal m f h w a b c d lowest =
       ⊎-elim (λ p. p .0 from-lists)
       (λ p. ⊎-elim (λ q. ⊎-elim (λ i. omega arith) (⊎-elim (λ i. omega arith) (⊎-elim (λ i. omega arith) (λ i. omega arith))) (q .0)) (λ q. q .1) (p .1)) lowest
 
   -- After a verdict, with buffers that are long enough
-  pub shows-judged : {m f h w m′ f′ h′ w′ : List ℕ} → length m ≡ verdictRoom limits → length f ≡ verdictRoom limits → length h ≡ verdictRoom limits → length w ≡ marksRoom → length m′ ≡ verdictRoom limits → length f′ ≡ verdictRoom limits
+  pub shows-judged : {m f h w m′ f′ h′ w′ : List ℕ} → length m ≡ verdictRoom limits → length f ≡ verdictRoom limits → length h ≡ verdictRoom limits → length w ≡ verdictWork limits → length m′ ≡ verdictRoom limits → length f′ ≡ verdictRoom limits
       → length h′ ≡ verdictRoom limits → {j : Judgement} → Judges limits (g .enlarged) m f h w m′ f′ h′ w′ j → Shows sheet list m′ f′ h′ j
   shows-judged {m} {f} {h} {w} a b c d a′ b′ c′ (refused lowest e₁ e₂ e₃ e₄) = absurd (no-refusal m f h w a b c d lowest)
   shows-judged {m} {f} {h} {w} {m′} {f′} {h′} a b c d a′ b′ c′ (judged {v} x s u holds means shown e) = shows-verdict m f h m′ f′ h′ x s u a′ b′ c′ v means shown

@@ -1,15 +1,17 @@
 //! Code U from a sheet in memory: its verdict, the only reading of a message,
-//! the message again from the reading, a sequence that is refused, and the
-//! empty message. Then the same code with a ban on 0 after 01 and 10: its
-//! verdict, and what the ban forbids. Then the built-in code of the twelve
-//! Turkish types: its verdict, with the message and both readings, and words
+//! the message again from the reading, a sequence that is refused, the empty
+//! message, and the words of a line that comes in symbol by symbol. Then the
+//! same code with a ban on 0 after 01 and 10: its verdict, and what the ban
+//! forbids. Then the built-in code of the twelve Turkish types: its verdict,
+//! with the message and both readings, why it names no next word, and words
 //! that it splits. Last a class sheet that tells r from the other consonants,
 //! words split by it, and a class sheet that is refused. Prints what
 //! `operations.c` prints.
 
 use furlazon::{
     read_entries, read_work, split_entries, split_out, split_work, ANSWER_ENTRIES, CLASSES_BYTES,
-    REFUSED_CLASS_OVERLAP, REFUSED_FORBIDDEN_PAIR, REFUSED_NO_READING, TABLE_BYTES, VERDICT_ENTRIES, VERDICT_WORK,
+    REFUSED_CLASS_OVERLAP, REFUSED_FORBIDDEN_PAIR, REFUSED_NO_FINITE_DELAY, REFUSED_NO_READING, TABLE_BYTES,
+    VERDICT_ENTRIES, VERDICT_WORK, WORD_SYMBOLS,
 };
 
 fn main() {
@@ -22,6 +24,7 @@ fn main() {
     let mut work = vec![0; VERDICT_WORK];
     let refused = furlazon::verdict(&table, &mut message, &mut first, &mut second, &mut work, &mut answer);
     println!("verdict: refusal {refused}, answer {answer:?}");
+    let delay = answer[1] as usize;
 
     // No more of the buffers than reading a message of five symbols needs.
     let symbols = [0, 1, 1, 0, 1];
@@ -46,6 +49,13 @@ fn main() {
     let refused = furlazon::read(&table, &[], &mut [], &mut [], &mut work[..read_work(0)], &mut answer);
     println!("reading of the empty message: refusal {refused}, answer {answer:?}");
 
+    print_words(&table, &[0, 1, 1, 0, 1, 1, 0, 0, 0, 1], delay, &mut work);
+    let refused = furlazon::next(&table, &[1, 0, 1, 1], &mut work, &mut answer);
+    println!("next word of 1011: refusal {refused}, answer {answer:?}");
+    let refused = furlazon::next(&table, &[1], &mut work, &mut answer);
+    let none = refused == REFUSED_NO_READING;
+    println!("next word of 1: {}", if none { "none" } else { "some" });
+
     let mut enlarged = [0; TABLE_BYTES];
     assert_eq!(furlazon::enlarge(&table, b"0,2,1\r\n", &mut enlarged), 0);
     let refused = furlazon::verdict(&enlarged, &mut message, &mut first, &mut second, &mut work, &mut answer);
@@ -67,6 +77,9 @@ fn main() {
     println!("verdict on the Turkish types: refusal {refused}, answer {answer:?}, message {:?}", &message[..symbols]);
     println!("its first reading, words {:?}", &first[..words]);
     println!("its second reading, words {:?}", &second[..others]);
+    let refused = furlazon::next(&table, &[1, 0, 1, 1], &mut work, &mut answer);
+    let none = refused == REFUSED_NO_FINITE_DELAY;
+    println!("next word by the Turkish types: {}", if none { "no finite delay" } else { "a finite delay" });
 
     // One reading, several, none. The E7 of ISO 8859-9 is a c with cedilla.
     let text = b"krali\xE7e, kongre, bb";
@@ -116,6 +129,25 @@ fn main() {
     let refused = furlazon::take_classes(b"61,7A,1\r\n65,65,0\r\n", &mut classes);
     let overlap = refused == REFUSED_CLASS_OVERLAP;
     println!("class sheet with e in two records: {}", if overlap { "refused" } else { "not refused for that" });
+}
+
+/// Names the words of a line that comes in symbol by symbol. The next word is told once as many symbols as the delay
+/// stand behind the last break, and at the end of the line by those that are left. Every word may begin, so what is left
+/// is a message.
+fn print_words(table: &[u8], line: &[u8], delay: usize, work: &mut [u64]) {
+    let mut answer = [0; ANSWER_ENTRIES];
+    let mut begin = 0;
+    for end in 1..=line.len() {
+        while begin < end && (begin + delay <= end || end == line.len()) {
+            let refused = furlazon::next(table, &line[begin..end], work, &mut answer);
+            println!("next word after {end} symbols: refusal {refused}, answer {answer:?}");
+            if refused != 0 {
+                break;
+            }
+            // The length of a word stands behind its symbols.
+            begin += table[answer[0] as usize * (WORD_SYMBOLS + 1) + WORD_SYMBOLS] as usize;
+        }
+    }
 }
 
 /// The text at the start of a buffer. Six letters of Turkish would need a case of their own: all others have their numbers in Unicode too.

@@ -25,7 +25,7 @@ pub const SHEET_BYTES: usize = 4_096;
 pub const BANS_BYTES: usize = 4_096;
 /// Bytes of a class sheet.
 pub const CLASS_SHEET_BYTES: usize = 4_096;
-/// Symbols of a message, for encoding and reading.
+/// Symbols of a message, for encoding, reading and the next word.
 pub const MESSAGE_SYMBOLS: usize = 16_384;
 /// Bytes of a text, for splitting.
 pub const TEXT_BYTES: usize = 16_384;
@@ -58,7 +58,7 @@ pub const REFUSED_MESSAGE_LENGTH: u64 = 11;
 pub const REFUSED_MESSAGE_SYMBOL: u64 = 12;
 /// A buffer that is too short.
 pub const REFUSED_SHORT_BUFFER: u64 = 13;
-/// No permitted sequence has this message.
+/// No permitted sequence has this message, or no word is the next one.
 pub const REFUSED_NO_READING: u64 = 14;
 /// A start field other than the single digit 0 or 1.
 pub const REFUSED_START_FIELD: u64 = 15;
@@ -72,6 +72,8 @@ pub const REFUSED_CLASS_RECORD: u64 = 18;
 pub const REFUSED_CLASS_RANGE: u64 = 19;
 /// A byte in two records of a class sheet.
 pub const REFUSED_CLASS_OVERLAP: u64 = 20;
+/// A table without a finite delay.
+pub const REFUSED_NO_FINITE_DELAY: u64 = 21;
 
 // What buffers need.
 
@@ -85,7 +87,7 @@ pub const OTHER: u8 = 16;
 pub const ANSWER_ENTRIES: usize = 4;
 /// Entries that a verdict needs in `message`, `first` and `second` each.
 pub const VERDICT_ENTRIES: usize = 8_384;
-/// Entries that a verdict needs in `work`.
+/// Entries that a verdict and the next word need in `work`.
 pub const VERDICT_WORK: usize = 16_384;
 
 /// Entries that reading a message of `n` symbols needs in `first` and `second` each.
@@ -192,6 +194,16 @@ extern "C" {
         first_length: usize,
         second: *mut u8,
         second_length: usize,
+        work: *mut u64,
+        work_length: usize,
+        answer: *mut u64,
+        answer_length: usize,
+    ) -> u64;
+    fn furlazon_next(
+        table: *const u8,
+        table_length: usize,
+        message: *const u8,
+        message_length: usize,
         work: *mut u64,
         work_length: usize,
         answer: *mut u64,
@@ -334,6 +346,23 @@ pub fn verdict(
             first.len(),
             second.as_mut_ptr(),
             second.len(),
+            work.as_mut_ptr(),
+            work.len(),
+            answer.as_mut_ptr(),
+            answer.len(),
+        )
+    }
+}
+
+/// Names the next word of a message that is still coming in. 0, or the refusal's number.
+pub fn next(table: &[u8], message: &[u8], work: &mut [u64], answer: &mut [u64]) -> u64 {
+    // SAFETY: as above.
+    unsafe {
+        furlazon_next(
+            table.as_ptr(),
+            table.len(),
+            message.as_ptr(),
+            message.len(),
             work.as_mut_ptr(),
             work.len(),
             answer.as_mut_ptr(),

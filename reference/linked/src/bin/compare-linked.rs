@@ -7,7 +7,7 @@ use linked::image;
 use linked::operations::Linked;
 use reference::classes::Classes;
 use reference::code::{Code, Refusal};
-use reference::compare::{compare, on_list, on_table, Met};
+use reference::compare::{compare, on_list, on_table, Met, LINES};
 use reference::operations::{Operations, Reference, VERDICT_ENTRIES, VERDICT_WORKING};
 use reference::random::Random;
 use reference::split::MAX_TEXT_BYTES;
@@ -39,8 +39,10 @@ fn main() {
     short_buffers(start, rounds).unwrap_or_else(|difference| fail(&difference));
     println!("short images, classes and answers: refused, nothing changed");
     // A round has a sheet, two class sheets, a ban list and four inputs for a table, a ban list and four inputs for a
-    // damaged image, and six inputs with short buffers. What is built in has no input and is not counted.
-    println!("all the same: {} inputs in {} s, start {start}", 19 * rounds, clock.elapsed().as_secs());
+    // damaged image, for each of both the messages whose next words are named, and seven inputs with short buffers.
+    // What is built in has no input and is not counted.
+    let inputs = (20 + 2 * LINES) * rounds;
+    println!("all the same: {inputs} inputs in {} s, start {start}", clock.elapsed().as_secs());
 }
 
 fn fail<T>(difference: &str) -> T {
@@ -66,6 +68,10 @@ fn told(met: &Met) -> String {
         ambiguous,
         delayed,
         unbounded,
+        next_words,
+        next_words_at_once,
+        next_words_without_reading,
+        no_next_word,
         refused_classes,
         refused,
     } = met;
@@ -75,7 +81,9 @@ fn told(met: &Met) -> String {
          code and classes, {encoded} encoded, {one_reading} with one reading, {two_readings} with more, {split} texts, \
          {split_by_other_classes} by other classes than the built-in ones, with {words_split} words split, \
          {words_without_reading} without a reading and {words_with_several} with several, {ambiguous} ambiguous, \
-         {delayed} with a delay, {unbounded} without bound; refused {}; 8 for the classes alone: {refused_classes}",
+         {delayed} with a delay, {unbounded} without bound, {next_words} next words, {next_words_at_once} of them without \
+         a symbol and {next_words_without_reading} of messages without a reading, and {no_next_word} times none; refused \
+         {}; 8 for the classes alone: {refused_classes}",
         refused.join(", ")
     )
 }
@@ -143,6 +151,14 @@ fn text_number(image: &[u8], classes: &[u8], text: &[u8]) -> u64 {
     u64::from(refusal.number())
 }
 
+/// What the next word is refused with where the image or the answer is too
+/// short. The length of the image comes before all else.
+fn line_number(image: &[u8], line: &[u8]) -> u64 {
+    let too_long = image.len() == TABLE_BYTES && line.len() > Code::MAX_MESSAGE_SYMBOLS;
+    let refusal = if too_long { Refusal::MessageLength } else { Refusal::ShortBuffer };
+    u64::from(refusal.number())
+}
+
 /// What enlarging is refused with where there is no room for the image that it
 /// would write. The length of the image that is read comes before all else.
 fn list_number(image: &[u8], list: &[u8]) -> u64 {
@@ -171,6 +187,7 @@ impl Lent {
     fn all_refused(&mut self, random: &mut Random, code: &Code, image: &[u8], answer: usize) -> bool {
         let sequence = generate::permitted_sequence(random, code, 10);
         let joined = encode::joined(code, &sequence);
+        let line = generate::line(random, code, None);
         let sheet = if random.one_in(2) { generate::sheet(random) } else { generate::damaged_sheet(random) };
         let list = generate::list(random, code);
         let classes = generate::classes(random);
@@ -189,6 +206,7 @@ impl Lent {
         ];
         let split = furlazon::split(image, entries, &text, out, message, first, second, work, answer);
         let split = split == text_number(image, entries, &text);
+        let next = furlazon::next(image, &line, work, answer) == line_number(image, &line);
         let taken = image.len() == TABLE_BYTES
             || furlazon::take_in(&sheet, &mut message[..image.len()]) == sheet_number(Reference.take_in(&sheet).0);
         let room = random.below(TABLE_BYTES);
@@ -198,8 +216,8 @@ impl Lent {
         let classes_taken = classes_taken == sheet_number(Reference.take_classes(&class_sheet).0);
         let given =
             [furlazon::turkish(&mut message[..room]), furlazon::turkish_classes(&mut message[..room_for_classes])];
-        let answers = [split, taken, enlarged, classes_taken, numbers == [short; 3], given == [short; 2]];
-        answers == [true; 6] && self.unchanged()
+        let answers = [split, next, taken, enlarged, classes_taken, numbers == [short; 3], given == [short; 2]];
+        answers == [true; 7] && self.unchanged()
     }
 
     fn unchanged(&self) -> bool {

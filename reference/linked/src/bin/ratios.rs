@@ -19,6 +19,7 @@ use reference::sheet;
 use reference::split::MAX_TEXT_BYTES;
 use reference::table::Table;
 use reference::turkish;
+use reference::verdict::verdict;
 use std::hint::black_box;
 use std::path::{Path, PathBuf};
 use std::time::{Duration, Instant};
@@ -65,6 +66,13 @@ fn main() {
     for (kind, name) in verdicts {
         bench.verdict(kind, name, &read_code(&sheets, name));
     }
+    for name in ["code-u", "turkish-six", "largest-delay"] {
+        let code = read_code(&sheets, name);
+        let delay = verdict(&code).delay().expect("a finite delay");
+        for symbols in [delay, Code::MAX_MESSAGE_SYMBOLS] {
+            bench.next(name, &code, &beginning_of(&code, symbols));
+        }
+    }
     println!();
     println!("| Split by | Text | Plain Rust | Proved, µs | Plain, µs | Ratio | Proved, MB/s | Plain, MB/s |");
     println!("|---|---|---|---|---|---|---|---|");
@@ -101,6 +109,18 @@ fn sequence_of(code: &Code, symbols: usize) -> Vec<u8> {
         }
         if length == symbols {
             return sequence;
+        }
+    }
+}
+
+/// The first symbols of a message, so many; the last word may be cut.
+fn beginning_of(code: &Code, symbols: usize) -> Vec<u8> {
+    let mut random = Random(1);
+    loop {
+        let mut message = joined(code, &permitted_sequence(&mut random, code, symbols));
+        if message.len() >= symbols {
+            message.truncate(symbols);
+            return message;
         }
     }
 }
@@ -278,6 +298,29 @@ impl Bench {
             timer.time(|| Reference.verdict(black_box(&table), &mut other));
         };
         self.row(&format!("verdict, {kind}"), &format!("`{name}`"), "reference", &mut proved, reference);
+    }
+
+    /// On both sides the delay, worked out anew by every call, is most of the time: a row is that of the verdict and a little more.
+    fn next(&self, name: &str, code: &Code, message: &[u8]) {
+        let table = Table::of(code);
+        let packed = image::pack(&table);
+        let (mut working, mut other) = (vec![0; VERDICT_WORKING], vec![0; VERDICT_WORKING]);
+        let mut answer = [0; ANSWER_ENTRIES];
+        let mut proved = |timer: &mut Timer| {
+            working.fill(0);
+            timer.time(|| furlazon::next(black_box(&packed), black_box(message), &mut working, &mut answer));
+        };
+        let input = format!("`{name}`, {} symbols", message.len());
+        let simple = |timer: &mut Timer| {
+            other.fill(0);
+            timer.time(|| plain::next_on_table(black_box(&table), black_box(message), &mut other));
+        };
+        self.row("next word", &input, "hash set", &mut proved, simple);
+        let reference = |timer: &mut Timer| {
+            other.fill(0);
+            timer.time(|| Reference.next(black_box(&table), black_box(message), &mut other));
+        };
+        self.row("next word", &input, "reference", &mut proved, reference);
     }
 
     fn split(&self, name: &str, kind: &str, code: &Code, classes: &Classes, text: &[u8]) {

@@ -1,0 +1,3 @@
+-- What the proofs rest on, and no contract cites.
+pub mod Telling
+pub mod Ways

@@ -1,0 +1,4 @@
+pub mod Prefixes
+pub mod Picked
+pub mod Told
+pub mod Named
