@@ -2,6 +2,7 @@
 use borrow.Author.Needs.{needs}
 use mathlib.Core.Path.{sym}
 use native.Mathlib.Omega.{arith}
+use lib.ListN.{length-take}
 use lib.Seq.{length-take-le}
 use Rattle.code.specs.Definitions.Tables.{tableOf}
 use Rattle.code.specs.Laws.Words.{size-count}
@@ -20,8 +21,7 @@ slice-aggregate-first-word c = sym (length-take-le _ _ (omega arith))
 first-word-requires : tie.Need-first-word-requires
 first-word-requires c κs =
     let s = c .before .before .before .before .before .before in
-    let long = length-take-le (s .args .n) (s .args .message .now) (omega arith) in
-    (s .pre .0, omega arith, omega arith)
+    (s .pre .0, rw length-take (omega arith), rw length-take (omega arith))
 
 returns-2 : tie.Need-returns-2
 returns-2 c =
