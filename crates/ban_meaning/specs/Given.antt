@@ -13,7 +13,7 @@ use Rattle.code.specs.declared.Limits.{Limits}
 use Rattle.code.specs.declared.SheetAnswer.the-variants.{Accepted}
 use Rattle.code.specs.Definitions.Tables.{Table, size, word, Permitted, message, symbolsOf, tableOf}
 use Rattle.code.specs.Definitions.Lists.{any}
-use Rattle.code.specs.Definitions.Bans.{bannedBy, withBans, Copy, hasCopy, nextWord, bansIn, tableIn}
+use Rattle.code.specs.Definitions.Bans.{bannedBy, withBans, Copy, hasCopy, numberAfter, bansIn, tableIn}
 use Rattle.code.specs.Definitions.BanLists.{bansOf}
 use Rattle.code.specs.Definitions.Enlarged.{plainOf, enlargedCode, originalTable}
 use Rattle.code.specs.Definitions.Operations.{Enlarges, refused, enlarged, FromLists}
@@ -97,7 +97,7 @@ module _ {l : Limits} {e : Enlarged} where
 -- Without copies a matrix says of words what it says of numbers, and bans nothing.
 no-bans : (ws : List (List ℕ)) (entry : ℕ → ℕ → Bool) (marks : ℕ → Bool)
     → tableIn [] entry ws marks ≡ record { words = ws; follow = entry; begins = marks; banned = λ x y z. false }
-unfolding bansIn nextWord hasCopy any
+unfolding bansIn numberAfter hasCopy any
 no-bans ws entry marks = refl
 
 all-words : (c : Code) → take (c .count) (tableOf c .words) ≡ tableOf c .words

@@ -9,7 +9,7 @@ use borrow.Author.Tests.{eq-eqb}
 use Rattle.code.specs.declared.Enlarged.{Enlarged}
 use Rattle.code.specs.declared.Limits.{Limits}
 use Rattle.code.specs.Definitions.Tables.{Table, size, Permitted, message, entryOf, tableOf}
-use Rattle.code.specs.Definitions.Bans.{nextWord}
+use Rattle.code.specs.Definitions.Bans.{numberAfter}
 use Rattle.code.specs.Definitions.Enlarged.{copiesIn, originalTable}
 use Rattle.ban_theory.specs.Covers.{lift, named-permitted, named-lift, named-message, lifted-permitted, lifted-named}
 use Rattle.ban_theory.specs.Matches.{names-apart}
@@ -31,7 +31,7 @@ originals e s = map (λ x. getD (e .origins) x 0) s
 
 -- the numbers of a value for words: the first is the word itself, and each further one is the copy of its word after the word before it, if there is one
 abbrev pub numbers : Enlarged → List ℕ → List ℕ
-numbers e s = lift (λ x. x) (nextWord (e .originals) (copiesIn e)) s
+numbers e s = lift (λ x. x) (numberAfter (e .originals) (copiesIn e)) s
 
 pub covers-match : (e : Enlarged) {t : Table} → Covers e t → OneToOne (tableOf (e .code)) t (originals e) (numbers e)
 covers-match e c = record {
@@ -56,7 +56,7 @@ module _ {l : Limits} {e : Enlarged} (w : WellEnlarged l e) where
   one-follows x z y x< z< y< f g same =
       let c = value-covers w in
       c .follow-after x y (within x x<) (within y y<) (eq-eqb (entryOf (e .code) x y) 1 f)
-      ∙ ap (nextWord (e .originals) (copiesIn e) (getD (e .origins) y 0)) same
+      ∙ ap (numberAfter (e .originals) (copiesIn e) (getD (e .origins) y 0)) same
       ∙ sym (c .follow-after z y (within z z<) (within y y<) (eq-eqb (entryOf (e .code) z y) 1 g))
 
   -- and at most one of them may begin a message.

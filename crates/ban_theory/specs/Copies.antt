@@ -11,7 +11,7 @@ use lib.ListN.{length, getD, length-append, length-map, List·getD-append, List�
 use lib.Seq.{getD-append-add}
 use borrow.Author.Tests.{ltb-true, lt-ltb, le-ltb, not-true}
 use Rattle.code.specs.Definitions.Tables.{Table, size, word}
-use Rattle.code.specs.Definitions.Bans.{Copy, noCopy, hasCopy, copyIndex, copyAt, origin, standsAfter, nextWord, withBans, unbanned, mayCome, enlarged}
+use Rattle.code.specs.Definitions.Bans.{Copy, noCopy, hasCopy, copyIndex, copyAt, origin, standsAfter, numberAfter, withBans, unbanned, mayCome, enlarged}
 use Rattle.code.specs.Laws.Lists.{getD-within}
 use Rattle.ban_theory.specs.Covers.{Cover}
 use Rattle.ban_theory.specs.CopyLists.{Once, origin-word, origin-copy, origin-known, next-copy, next-itself, index-of, index-behind, next-of, next-stands, next-known, stands-next}
@@ -41,7 +41,7 @@ module _ (t : Table) (cs : List Copy) (b : ℕ → ℕ → ℕ → Bool) where
   unbanned-copy x y h = rw (le-ltb y (size t) h)
 
   -- Behind the copy of y after w the bans of w then y hold.
-  unbanned-next : (w y x : ℕ) → hasCopy cs w y ≡ true → unbanned t cs b x (nextWord (size t) cs w y) ≡ not (b (origin (size t) cs x) w y)
+  unbanned-next : (w y x : ℕ) → hasCopy cs w y ≡ true → unbanned t cs b x (numberAfter (size t) cs w y) ≡ not (b (origin (size t) cs x) w y)
   unbanned-next w y x e =
       ap (unbanned t cs b x) (next-copy (size t) cs w y e)
       ∙ unbanned-copy x (size t + copyIndex cs w y) (omega arith)
@@ -67,11 +67,11 @@ module _ (t : Table) (cs : List Copy) (b : ℕ → ℕ → ℕ → Bool) where
       (h .follow, and-eq-true-iff (standsAfter (size t) cs x (origin (size t) cs y)) (unbanned t cs b x y) .1 (h .stands, h .free))
 
   -- The word x may come behind y, whichever number y has, where it may follow y and no ban forbids it there.
-  next-comes : (y x v : ℕ) → x < size t → origin (size t) cs v ≡ y → t .follow x y ≡ true → unbanned t cs b (nextWord (size t) cs y x) v ≡ true
-      → mayCome t cs b (nextWord (size t) cs y x) v ≡ true
-  next-comes y x v h e f u = may-come (nextWord (size t) cs y x) v (record {
+  next-comes : (y x v : ℕ) → x < size t → origin (size t) cs v ≡ y → t .follow x y ≡ true → unbanned t cs b (numberAfter (size t) cs y x) v ≡ true
+      → mayCome t cs b (numberAfter (size t) cs y x) v ≡ true
+  next-comes y x v h e f u = may-come (numberAfter (size t) cs y x) v (record {
     follow = subst₂ (λ (i j : ℕ). t .follow i j ≡ true) (sym (next-of (size t) cs y x h)) (sym e) f;
-    stands = subst (λ (i : ℕ). standsAfter (size t) cs (nextWord (size t) cs y x) i ≡ true) (sym e) (next-stands (size t) cs y x h);
+    stands = subst (λ (i : ℕ). standsAfter (size t) cs (numberAfter (size t) cs y x) i ≡ true) (sym e) (next-stands (size t) cs y x h);
     free = u;
   })
 
@@ -93,7 +93,7 @@ module _ (t : Table) (cs : List Copy) (b : ℕ → ℕ → ℕ → Bool) where
 
   module _ (serves : Serves (size t) cs b) where
     -- What comes behind y after w is banned by nothing,
-    obeys : (w y x : ℕ) → w < size t → y < size t → (a : Bool) → hasCopy cs w y ≡ a → unbanned t cs b x (nextWord (size t) cs w y) ≡ true
+    obeys : (w y x : ℕ) → w < size t → y < size t → (a : Bool) → hasCopy cs w y ≡ a → unbanned t cs b x (numberAfter (size t) cs w y) ≡ true
         → b (origin (size t) cs x) w y ≡ false
     obeys w y x h k true e u = not-true (b (origin (size t) cs x) w y) (sym (unbanned-next w y x e) ∙ u)
     obeys w y x h k false e u = go (b (origin (size t) cs x) w y) refl
@@ -103,12 +103,12 @@ module _ (t : Table) (cs : List Copy) (b : ℕ → ℕ → ℕ → Bool) where
         go true z = absurd (false≢true (sym e ∙ serves .served (origin (size t) cs x) w y h k z))
 
     -- and what is banned by nothing may come there.
-    obeyed : (w y x : ℕ) → y < size t → (a : Bool) → hasCopy cs w y ≡ a → b (origin (size t) cs x) w y ≡ false → unbanned t cs b x (nextWord (size t) cs w y) ≡ true
+    obeyed : (w y x : ℕ) → y < size t → (a : Bool) → hasCopy cs w y ≡ a → b (origin (size t) cs x) w y ≡ false → unbanned t cs b x (numberAfter (size t) cs w y) ≡ true
     obeyed w y x k true e z = unbanned-next w y x e ∙ ap not z
     obeyed w y x k false e z = ap (unbanned t cs b x) (next-itself (size t) cs w y e) ∙ unbanned-word x y k
 
     -- The enlarged code covers the table with bans.
-    pub enlarged-covers : Cover (enlarged t cs b) (withBans t b) (origin (size t) cs) (λ x. x) (nextWord (size t) cs)
+    pub enlarged-covers : Cover (enlarged t cs b) (withBans t b) (origin (size t) cs) (λ x. x) (numberAfter (size t) cs)
     enlarged-covers = record {
       free = λ x y z. refl;
       named = λ x h. origin-known (size t) cs (serves .copies) x (known x h);
@@ -122,9 +122,9 @@ module _ (t : Table) (cs : List Copy) (b : ℕ → ℕ → ℕ → Bool) where
       begin-named = λ x h e. ap (t .begins) (origin-word (size t) cs x (begins-word x e .0)) ∙ begins-word x e .1;
       follow-after = λ x y h k e. stands-next (size t) cs (serves .copies) x (origin (size t) cs y) (known x h) (comes x y e .stands);
       follow-named = λ x y h k e. comes x y e .follow;
-      follow-obeys = λ w y x h k l e. obeys w y x h k (hasCopy cs w y) refl (comes x (nextWord (size t) cs w y) e .free);
-      follows-start = λ y x h k f. next-comes y x y k (origin-word (size t) cs y h) f (unbanned-word (nextWord (size t) cs y x) y h);
+      follow-obeys = λ w y x h k l e. obeys w y x h k (hasCopy cs w y) refl (comes x (numberAfter (size t) cs w y) e .free);
+      follows-start = λ y x h k f. next-comes y x y k (origin-word (size t) cs y h) f (unbanned-word (numberAfter (size t) cs y x) y h);
       follows = λ w y x h k l f z.
-          next-comes y x (nextWord (size t) cs w y) l (next-of (size t) cs w y k) f
-          (obeyed w y (nextWord (size t) cs y x) k (hasCopy cs w y) refl (ap (λ (i : ℕ). b i w y) (next-of (size t) cs y x l) ∙ z));
+          next-comes y x (numberAfter (size t) cs w y) l (next-of (size t) cs w y k) f
+          (obeyed w y (numberAfter (size t) cs y x) k (hasCopy cs w y) refl (ap (λ (i : ℕ). b i w y) (next-of (size t) cs y x l) ∙ z));
     }

@@ -9,7 +9,7 @@ use lib.Dec.{eqb}
 use lib.ListN.{length, getD}
 use borrow.Author.Tests.{eqb-true, lt-ltb, le-ltb, eq-eqb, not-true}
 use Rattle.code.specs.Definitions.Lists.{if_then_else_, any}
-use Rattle.code.specs.Definitions.Bans.{Copy, noCopy, isCopy, hasCopy, copyIndex, copyAt, origin, standsAfter, nextWord}
+use Rattle.code.specs.Definitions.Bans.{Copy, noCopy, isCopy, hasCopy, copyIndex, copyAt, origin, standsAfter, numberAfter}
 use Rattle.code.specs.Laws.Lists.{any-at}
 
 -- The copy of z after y stands at index i.
@@ -73,12 +73,12 @@ module _ (n : ℕ) (cs : List Copy) where
   unfolding standsAfter
   stands-copy x y h = rw (le-ltb x n h)
 
-  pub next-copy : (y x : ℕ) → hasCopy cs y x ≡ true → nextWord n cs y x ≡ n + copyIndex cs y x
-  unfolding nextWord
+  pub next-copy : (y x : ℕ) → hasCopy cs y x ≡ true → numberAfter n cs y x ≡ n + copyIndex cs y x
+  unfolding numberAfter
   next-copy y x e = rw e
 
-  pub next-itself : (y x : ℕ) → hasCopy cs y x ≡ false → nextWord n cs y x ≡ x
-  unfolding nextWord
+  pub next-itself : (y x : ℕ) → hasCopy cs y x ≡ false → numberAfter n cs y x ≡ x
+  unfolding numberAfter
   next-itself y x e = rw e
 
   -- What the number of a copy that there is stands for, and where.
@@ -90,28 +90,28 @@ module _ (n : ℕ) (cs : List Copy) where
   pub index-behind : (y z : ℕ) → hasCopy cs y z ≡ true → copyAt n cs (n + copyIndex cs y z) .behind ≡ y
   index-behind y z e = let i : n + copyIndex cs y z - n ≡ copyIndex cs y z = omega arith in rw i (found y z cs e .behind)
 
-  next-of-case : (y x : ℕ) → x < n → (a : Bool) → hasCopy cs y x ≡ a → origin n cs (nextWord n cs y x) ≡ x
+  next-of-case : (y x : ℕ) → x < n → (a : Bool) → hasCopy cs y x ≡ a → origin n cs (numberAfter n cs y x) ≡ x
   next-of-case y x h true e = rw (next-copy y x e) (index-of y x e)
   next-of-case y x h false e = rw (next-itself y x e) (origin-word x h)
 
   -- The number of x after y stands for x,
-  pub next-of : (y x : ℕ) → x < n → origin n cs (nextWord n cs y x) ≡ x
+  pub next-of : (y x : ℕ) → x < n → origin n cs (numberAfter n cs y x) ≡ x
   next-of y x h = next-of-case y x h (hasCopy cs y x) refl
 
-  next-stands-case : (y x : ℕ) → x < n → (a : Bool) → hasCopy cs y x ≡ a → standsAfter n cs (nextWord n cs y x) y ≡ true
+  next-stands-case : (y x : ℕ) → x < n → (a : Bool) → hasCopy cs y x ≡ a → standsAfter n cs (numberAfter n cs y x) y ≡ true
   next-stands-case y x h true e = rw (next-copy y x e) (stands-copy (n + copyIndex cs y x) y (omega arith) ∙ eq-eqb _ _ (index-behind y x e))
   next-stands-case y x h false e = rw (next-itself y x e) (stands-word x y h ∙ ap not e)
 
   -- stands after y,
-  pub next-stands : (y x : ℕ) → x < n → standsAfter n cs (nextWord n cs y x) y ≡ true
+  pub next-stands : (y x : ℕ) → x < n → standsAfter n cs (numberAfter n cs y x) y ≡ true
   next-stands y x h = next-stands-case y x h (hasCopy cs y x) refl
 
-  next-known-case : (y x : ℕ) → x < n → (a : Bool) → hasCopy cs y x ≡ a → nextWord n cs y x < n + length cs
+  next-known-case : (y x : ℕ) → x < n → (a : Bool) → hasCopy cs y x ≡ a → numberAfter n cs y x < n + length cs
   next-known-case y x h true e = let l = found y x cs e .below in rw (next-copy y x e) (omega arith)
   next-known-case y x h false e = rw (next-itself y x e) (omega arith)
 
   -- and is a word or a copy.
-  pub next-known : (y x : ℕ) → x < n → nextWord n cs y x < n + length cs
+  pub next-known : (y x : ℕ) → x < n → numberAfter n cs y x < n + length cs
   next-known y x h = next-known-case y x h (hasCopy cs y x) refl
 
   module _ (copies : Once n cs) where
@@ -131,16 +131,16 @@ module _ (n : ℕ) (cs : List Copy) where
         let same = copies .once (copyIndex cs (copyAt n cs x .behind) (origin n cs x)) (x - n) (found (copyAt n cs x .behind) (origin n cs x) cs has) at in
         (has, omega arith)
 
-    stands-next-case : (x y : ℕ) → x < n + length cs → standsAfter n cs x y ≡ true → Dec (x < n) → x ≡ nextWord n cs y (origin n cs x)
+    stands-next-case : (x y : ℕ) → x < n + length cs → standsAfter n cs x y ≡ true → Dec (x < n) → x ≡ numberAfter n cs y (origin n cs x)
     stands-next-case x y h e (yes l) =
         let none = not-true (hasCopy cs y x) (sym (stands-word x y l) ∙ e) in
-        sym (ap (nextWord n cs y) (origin-word x l) ∙ next-itself y x none)
+        sym (ap (numberAfter n cs y) (origin-word x l) ∙ next-itself y x none)
     stands-next-case x y h e (no l) =
         let far : n ≤ x = omega arith in
         let behind = eqb-true (copyAt n cs x .behind) y (sym (stands-copy x y far) ∙ e) in
         let at = copy-index x h far in
-        subst (λ (v : ℕ). x ≡ nextWord n cs v (origin n cs x)) behind (sym (next-copy (copyAt n cs x .behind) (origin n cs x) (at .0) ∙ at .1))
+        subst (λ (v : ℕ). x ≡ numberAfter n cs v (origin n cs x)) behind (sym (next-copy (copyAt n cs x .behind) (origin n cs x) (at .0) ∙ at .1))
 
     -- What stands after y is the number of its word after y.
-    pub stands-next : (x y : ℕ) → x < n + length cs → standsAfter n cs x y ≡ true → x ≡ nextWord n cs y (origin n cs x)
+    pub stands-next : (x y : ℕ) → x < n + length cs → standsAfter n cs x y ≡ true → x ≡ numberAfter n cs y (origin n cs x)
     stands-next x y h e = stands-next-case x y h e (decLt x n)

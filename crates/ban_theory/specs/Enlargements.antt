@@ -9,7 +9,7 @@ use native.Mathlib.Omega.{arith}
 use lib.ListN.{length}
 use borrow.Author.Tests.{not-true, not-false}
 use Rattle.code.specs.Definitions.Tables.{Table, size}
-use Rattle.code.specs.Definitions.Bans.{Copy, hasCopy, copyIndex, copyAt, origin, standsAfter, nextWord, unbanned, mayCome, bansIn, tableIn}
+use Rattle.code.specs.Definitions.Bans.{Copy, hasCopy, copyIndex, copyAt, origin, standsAfter, numberAfter, unbanned, mayCome, bansIn, tableIn}
 use Rattle.ban_theory.specs.CopyLists.{Once, origin-word, origin-known, copy-index, stands-next}
 use Rattle.ban_theory.specs.Copies.{Serves, Comes, comes, may-come, unbanned-word, unbanned-copy}
 
@@ -30,7 +30,7 @@ module _ {n : ℕ} {cs : List Copy} (copies : Once n cs) (entry : ℕ → ℕ �
   unfolding bansIn
   in-serve = record {
     copies = copies;
-    served = λ x y z h k e. and-eq-true-iff (hasCopy cs y z) (not (entry (nextWord n cs z x) (n + copyIndex cs y z))) .0 e .0;
+    served = λ x y z h k e. and-eq-true-iff (hasCopy cs y z) (not (entry (numberAfter n cs z x) (n + copyIndex cs y z))) .0 e .0;
   }
 
   -- Whether x is banned behind the copy y is what the matrix says there.

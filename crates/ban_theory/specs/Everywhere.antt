@@ -10,7 +10,7 @@ use lib.ListN.{length}
 use borrow.Author.Tests.{eq-eqb}
 use Rattle.code.specs.Definitions.Lists.{any}
 use Rattle.code.specs.Definitions.Tables.{Table, size}
-use Rattle.code.specs.Definitions.Bans.{Ban, Copy, isBan, bannedBy, copiesOf, origin, nextWord, enlarged}
+use Rattle.code.specs.Definitions.Bans.{Ban, Copy, isBan, bannedBy, copiesOf, origin, numberAfter, enlarged}
 use Rattle.code.specs.Definitions.Delays.{SharePrefix}
 use Rattle.code.specs.Laws.Below.{or-left, or-right}
 use Rattle.code.specs.Laws.Sequences.{NonEmpty, Plain}
@@ -87,7 +87,7 @@ module _ (t : Table) where
   unfolded = enlarged t allCopies (t .banned)
 
   -- Every table is covered.
-  pub every-covered : Cover unfolded t (origin (size t) allCopies) (λ x. x) (nextWord (size t) allCopies)
+  pub every-covered : Cover unfolded t (origin (size t) allCopies) (λ x. x) (numberAfter (size t) allCopies)
   every-covered = enlarged-covers t allCopies (t .banned) all-serve
 
   unfolded-plain : NonEmpty t → Plain unfolded

@@ -8,7 +8,7 @@ use lib.Dec.{ltb, leb}
 use borrow.Author.Tests.{ltb-true, leb-true}
 use Rattle.code.specs.Definitions.Lists.{any, every}
 use Rattle.code.specs.Definitions.Tables.{Table, size}
-use Rattle.code.specs.Definitions.Bans.{Ban, bannedBy, withBans, copiesFrom, copiesOf, origin, nextWord, mayCome, enlarged}
+use Rattle.code.specs.Definitions.Bans.{Ban, bannedBy, withBans, copiesFrom, copiesOf, origin, numberAfter, mayCome, enlarged}
 use Rattle.code.specs.Definitions.Readings.{OnlyReading, Ambiguous}
 use Rattle.ban_theory.specs.BanLists.{Known, no-ban, ban, copies-serve}
 use Rattle.ban_theory.specs.Copies.{enlarged-covers}
@@ -50,8 +50,8 @@ module _ (t : Table) (bs : List Ban) where
   name x = origin (size t) (copiesOf bs) x
 
   unfoldable pub numbers : List ℕ → List ℕ
-  unfolding nextWord copiesFrom
-  numbers s = lift (λ x. x) (nextWord (size t) (copiesOf bs)) s
+  unfolding numberAfter copiesFrom
+  numbers s = lift (λ x. x) (numberAfter (size t) (copiesOf bs)) s
 
   -- What is expected of the table with its bans, as it is said of the enlarged code.
   abbrev pub inNumbers : Expected → Expected
@@ -86,7 +86,7 @@ module _ (t : Table) (bs : List Ban) where
   named s e = equal-true (map name (numbers s)) s e
 
   module _ (known : Known (size t) bs) where
-    covers : Cover enlargedBy (withBans t (bannedBy bs)) name (λ x. x) (nextWord (size t) (copiesOf bs))
+    covers : Cover enlargedBy (withBans t (bannedBy bs)) name (λ x. x) (numberAfter (size t) (copiesOf bs))
     unfolding name
     covers = enlarged-covers t (copiesOf bs) (bannedBy bs) (copies-serve bs known)
 

@@ -1,7 +1,7 @@
 // Whether a sequence of words is permitted: refusals 9 and 10, a pass over the sequence each.
 
 use code::Enlarged;
-use well_enlarged::next_word;
+use well_enlarged::number_after;
 ghost use Rattle.code.specs.Definitions.Enlarged.{originalTable};
 ghost use Rattle.code.specs.Definitions.Operations.{HasUnknown, HasForbidden};
 ghost use Rattle.code.specs.Definitions.Sheets.{limits};
@@ -44,7 +44,7 @@ pub fn has_forbidden(e: Enlarged, words: &[u8]) -> bool
     while i + 1 < words.len() {
         let y = words[i] as usize;
         let x = words[i + 1] as usize;
-        let next = next_word(&origins, &behind, e.originals, code.count, y, x);
+        let next = number_after(&origins, &behind, e.originals, code.count, y, x);
         let row = code.rows[next];
         if row.entries[last] != 1 {
             return true;

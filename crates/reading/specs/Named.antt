@@ -9,7 +9,7 @@ use lib.Seq.{take-at, drop-at}
 use Rattle.code.specs.declared.Code.{Code}
 use Rattle.code.specs.declared.Enlarged.{Enlarged}
 use Rattle.code.specs.declared.Limits.{Limits}
-use Rattle.code.specs.Definitions.Bans.{nextWord}
+use Rattle.code.specs.Definitions.Bans.{numberAfter}
 use Rattle.code.specs.Definitions.Enlarged.{copiesIn, originalTable}
 use Rattle.code.specs.Definitions.Operations.{written}
 use Rattle.code.specs.Definitions.Readings.{Reads, OnlyReading, FirstTwo}
@@ -94,7 +94,7 @@ module _ {l : Limits} {e : Enlarged} (w : WellEnlarged l e) where
     ordered-order = rw (size-count (w .code)) (by .order)
 
     ordered-covers : Cover (tableOf (renumberedCode l old (e .code))) (originalTable e) (λ i. getD (e .origins) (getD old i 0) 0) (by .new)
-        (λ y x. by .new (nextWord (e .originals) (copiesIn e) y x))
+        (λ y x. by .new (numberAfter (e .originals) (copiesIn e) y x))
     ordered-covers = cover-same (renumbered-covers (value-covers w) ordered-order) (renumbered-agrees old (w .code) (by .order))
 
     ordered-rises : (x y : ℕ) → x < y → y < size (tableOf (renumberedCode l old (e .code))) → getD (e .origins) (getD old x 0) 0 ≤ getD (e .origins) (getD old y 0) 0

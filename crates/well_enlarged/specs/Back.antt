@@ -15,7 +15,7 @@ use Rattle.code.specs.declared.Enlarged.{Enlarged}
 use Rattle.code.specs.declared.Limits.{Limits}
 use Rattle.code.specs.Definitions.Lists.{if_then_else_, tabulate, sum}
 use Rattle.code.specs.Definitions.Tables.{Table, size, noWord, noRow, entryOf, tableOf}
-use Rattle.code.specs.Definitions.Bans.{Ban, Copy, bannedBy, hasCopy, copyIndex, copiesOf, copyAt, origin, nextWord, unbanned, mayCome, enlarged, bansIn}
+use Rattle.code.specs.Definitions.Bans.{Ban, Copy, bannedBy, hasCopy, copyIndex, copiesOf, copyAt, origin, numberAfter, unbanned, mayCome, enlarged, bansIn}
 use Rattle.code.specs.Definitions.Enlarged.{enlargedCount, enlargedWord, enlargedEntry, behindOf, enlargedCode, refused17, copiesIn, originalTable}
 use Rattle.code.specs.Laws.Lists.{tabulate-list, tabulate-same, sum-past}
 use Rattle.ban_theory.specs.CopyLists.{CopyAt, Once, found, has-copy, origin-word, origin-known}
@@ -79,7 +79,7 @@ module _ {l : Limits} {e : Enlarged} (w : WellEnlarged l e) where
   -- What is banned
 
   barred-at : (x y z j : ℕ) → CopyAt (copiesIn e) y z j
-      → barred e (e .originals + j) x ≡ not (tableOf (e .code) .follow (nextWord (e .originals) (copiesIn e) z x) (e .originals + copyIndex (copiesIn e) y z))
+      → barred e (e .originals + j) x ≡ not (tableOf (e .code) .follow (numberAfter (e .originals) (copiesIn e) z x) (e .originals + copyIndex (copiesIn e) y z))
   barred-at x y z j at =
       let index = w .once y z (copyIndex (copiesIn e) y z) j (found y z (copiesIn e) (has-copy at)) at in
       let of : getD (e .origins) (e .originals + j) 0 ≡ z = ap (λ (c : Copy). c .of) (sym (copy-in e j (at .below))) ∙ at .of in
@@ -99,7 +99,7 @@ module _ {l : Limits} {e : Enlarged} (w : WellEnlarged l e) where
   unfolding bansIn
   copy-ban x y z h b =
       let cs = copiesIn e in
-      let a = and-eq-true-iff (hasCopy cs y z) (not (tableOf (e .code) .follow (nextWord (e .originals) cs z x) (e .originals + copyIndex cs y z))) .0 b in
+      let a = and-eq-true-iff (hasCopy cs y z) (not (tableOf (e .code) .follow (numberAfter (e .originals) cs z x) (e .originals + copyIndex cs y z))) .0 b in
       let at = found y z cs (a .0) in
       let zero-add : 0 + copyIndex cs y z ≡ copyIndex cs y z = omega arith in
       rw (at .behind, at .of) at

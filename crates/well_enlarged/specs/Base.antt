@@ -14,7 +14,7 @@ use Rattle.code.specs.declared.Enlarged.{Enlarged}
 use Rattle.code.specs.declared.Limits.{Limits}
 use Rattle.code.specs.Definitions.Lists.{if_then_else_, tabulate}
 use Rattle.code.specs.Definitions.Tables.{noWord, noRow, entryOf, tableOf}
-use Rattle.code.specs.Definitions.Bans.{nextWord}
+use Rattle.code.specs.Definitions.Bans.{numberAfter}
 use Rattle.code.specs.Definitions.Enlarged.{copiesIn}
 use Rattle.code.specs.Laws.Lists.{length-tabulate, getD-tabulate, tabulate-cell, sum-bound}
 use Rattle.code.specs.Laws.WellFormed.{lenOf, WordFits, RowFits, WellFormed}
@@ -29,7 +29,7 @@ baseWord l e x = if ltb x (e .originals) then getD (e .code .words) x noWord els
 
 -- x may follow y where the number that x has after y may.
 abbrev pub baseEntry : Enlarged → ℕ → ℕ → ℕ
-baseEntry e x y = if ltb x (e .originals) && ltb y (e .originals) then entryOf (e .code) (nextWord (e .originals) (copiesIn e) y x) y else 0
+baseEntry e x y = if ltb x (e .originals) && ltb y (e .originals) then entryOf (e .code) (numberAfter (e .originals) (copiesIn e) y x) y else 0
 
 abbrev pub baseOf : Limits → Enlarged → Code
 baseOf l e = record {
@@ -86,8 +86,8 @@ module _ {l : Limits} {e : Enlarged} (w : WellEnlarged l e) where
     where
       entry-case : (y : ℕ) → Dec (x < e .originals) → baseEntry e x y < 2
       entry-case y (yes h) =
-          low-entry (ltb x (e .originals) && ltb y (e .originals)) (entryOf (e .code) (nextWord (e .originals) (copiesIn e) y x) y)
-          (w .code .row (nextWord (e .originals) (copiesIn e) y x) (omega (arith, next-within (w .numbers) y x h, w .numbers .room)) .entries .below y)
+          low-entry (ltb x (e .originals) && ltb y (e .originals)) (entryOf (e .code) (numberAfter (e .originals) (copiesIn e) y x) y)
+          (w .code .row (numberAfter (e .originals) (copiesIn e) y x) (omega (arith, next-within (w .numbers) y x h, w .numbers .room)) .entries .below y)
       entry-case y (no h) = rw (le-ltb x (e .originals) (omega arith)) (omega arith)
 
   row-base : (x : ℕ) → x < l .words → getD (baseOf l e .rows) x noRow ≡ record { entries = tabulate (baseEntry e x) (l .words) }
@@ -117,7 +117,7 @@ module _ {l : Limits} {e : Enlarged} (w : WellEnlarged l e) where
 
   -- Which words may follow which is what the value says.
   pub base-follow : (x y : ℕ) → x < e .originals → y < e .originals
-      → tableOf (baseOf l e) .follow x y ≡ tableOf (e .code) .follow (nextWord (e .originals) (copiesIn e) y x) y
+      → tableOf (baseOf l e) .follow x y ≡ tableOf (e .code) .follow (numberAfter (e .originals) (copiesIn e) y x) y
   base-follow x y h k =
       let low : e .originals ≤ l .words = omega (arith, w .numbers .most, w .numbers .room) in
       let entry : entryOf (baseOf l e) x y ≡ baseEntry e x y =

@@ -15,7 +15,7 @@ use Rattle.code.specs.declared.Enlarged.{Enlarged}
 use Rattle.code.specs.declared.Limits.{Limits}
 use Rattle.code.specs.Definitions.Lists.{if_then_else_, tabulate, sum}
 use Rattle.code.specs.Definitions.Tables.{noWord, noRow, entryOf, tableOf}
-use Rattle.code.specs.Definitions.Bans.{Ban, Copy, noCopy, bannedBy, copiesOf, copyAt, origin, nextWord, mayCome, enlarged}
+use Rattle.code.specs.Definitions.Bans.{Ban, Copy, noCopy, bannedBy, copiesOf, copyAt, origin, numberAfter, mayCome, enlarged}
 use Rattle.code.specs.Definitions.Enlarged.{enlargedCount, enlargedWord, enlargedEntry, behindOf, enlargedCode, refused17, copiesIn}
 use Rattle.code.specs.Laws.Below.{Some}
 use Rattle.code.specs.Laws.Lists.{or-neither, length-tabulate, getD-tabulate, tabulate-list, tabulate-same, tabulate-cell, sum-past}
@@ -164,11 +164,11 @@ module _ {l : Limits} {c : Code} {bs : List Ban} (given : WellFormed l c) (known
   -- What is banned behind a copy may not come there.
   banned-follow : (x w : ℕ) → c .count ≤ x → x < enlargedCount l c bs → w < c .count
       → bannedBy bs w (copyAt (c .count) (copiesOf bs) x .behind) (copyAt (c .count) (copiesOf bs) x .of) ≡ true
-      → not (tableOf (enlargedCode l c bs .code) .follow (nextWord (c .count) (copiesOf bs) (origin (c .count) (copiesOf bs) x) w) x) ≡ true
+      → not (tableOf (enlargedCode l c bs .code) .follow (numberAfter (c .count) (copiesOf bs) (origin (c .count) (copiesOf bs) x) w) x) ≡ true
   banned-follow x w h k i banned =
       let z = origin (c .count) (copiesOf bs) x in
-      ap not (follow-made (nextWord (c .count) (copiesOf bs) z w) x (next-known (c .count) (copiesOf bs) z w i) k)
-      ∙ go (nextWord (c .count) (copiesOf bs) z w) (next-of (c .count) (copiesOf bs) z w i) (mayCome (tableOf c) (copiesOf bs) (bannedBy bs) (nextWord (c .count) (copiesOf bs) z w) x) refl
+      ap not (follow-made (numberAfter (c .count) (copiesOf bs) z w) x (next-known (c .count) (copiesOf bs) z w i) k)
+      ∙ go (numberAfter (c .count) (copiesOf bs) z w) (next-of (c .count) (copiesOf bs) z w i) (mayCome (tableOf c) (copiesOf bs) (bannedBy bs) (numberAfter (c .count) (copiesOf bs) z w) x) refl
     where
       go : (v : ℕ) → origin (c .count) (copiesOf bs) v ≡ w → (a : Bool) → mayCome (tableOf c) (copiesOf bs) (bannedBy bs) v x ≡ a → not a ≡ true
       go v o false e = refl

@@ -14,7 +14,7 @@ use Rattle.code.specs.declared.Code.{Code}
 use Rattle.code.specs.declared.Enlarged.{Enlarged}
 use Rattle.code.specs.declared.Limits.{Limits}
 use Rattle.code.specs.Definitions.Tables.{Table, size, word, Permitted, symbolsOf, tableOf}
-use Rattle.code.specs.Definitions.Bans.{Ban, bannedBy, withBans, copiesOf, origin, nextWord, enlarged}
+use Rattle.code.specs.Definitions.Bans.{Ban, bannedBy, withBans, copiesOf, origin, numberAfter, enlarged}
 use Rattle.code.specs.Definitions.Enlarged.{enlargedCount, enlargedCode, refused17, copiesIn, originalTable}
 use Rattle.ban_theory.specs.Covers.{Cover}
 use Rattle.ban_theory.specs.CoversSame.{Agrees, cover-same, covered-alike}
@@ -34,19 +34,19 @@ use Rattle.well_enlarged.specs.Base.{base-word}
 
 -- A value's plain code covers the table t: word x of t is x where a sequence begins, and behind y it is the copy of x after y, if there is one.
 abbrev pub Covers : Enlarged → Table → Type 0
-Covers e t = Cover (tableOf (e .code)) t (λ x. getD (e .origins) x 0) (λ x. x) (nextWord (e .originals) (copiesIn e))
+Covers e t = Cover (tableOf (e .code)) t (λ x. getD (e .origins) x 0) (λ x. x) (numberAfter (e .originals) (copiesIn e))
 
 -- The origins are those of the copies.
 named : {l : Limits} {e : Enlarged} (v : Numbered l e) (t : Table)
-    → Cover (tableOf (e .code)) t (origin (e .originals) (copiesIn e)) (λ x. x) (nextWord (e .originals) (copiesIn e)) → Covers e t
-named {l} {e} v t = subst (λ (name : ℕ → ℕ). Cover (tableOf (e .code)) t name (λ x. x) (nextWord (e .originals) (copiesIn e))) (fun-ext (origin-number v))
+    → Cover (tableOf (e .code)) t (origin (e .originals) (copiesIn e)) (λ x. x) (numberAfter (e .originals) (copiesIn e)) → Covers e t
+named {l} {e} v t = subst (λ (name : ℕ → ℕ). Cover (tableOf (e .code)) t name (λ x. x) (numberAfter (e .originals) (copiesIn e))) (fun-ext (origin-number v))
 
 module _ {l : Limits} {e : Enlarged} (w : WellEnlarged l e) where
   serves : Serves (size (originalTable e)) (copiesIn e) (originalTable e .banned)
   serves = let once : Once (size (originalTable e)) (copiesIn e) = rw (original-size w) (well-once w) in in-serve once (tableOf (e .code) .follow)
 
   whole : Cover (enlarged (originalTable e) (copiesIn e) (originalTable e .banned)) (originalTable e) (origin (size (originalTable e)) (copiesIn e)) (λ x. x)
-      (nextWord (size (originalTable e)) (copiesIn e))
+      (numberAfter (size (originalTable e)) (copiesIn e))
   whole = enlarged-covers (originalTable e) (copiesIn e) (originalTable e .banned) serves
 
   whole-size : size (enlarged (originalTable e) (copiesIn e) (originalTable e .banned)) ≡ e .code .count
@@ -85,13 +85,13 @@ module _ {l : Limits} {e : Enlarged} (w : WellEnlarged l e) where
   pub value-covers : Covers e (originalTable e)
   value-covers =
       named (w .numbers) (originalTable e)
-      (subst (λ (k : ℕ). Cover (tableOf (e .code)) (originalTable e) (origin k (copiesIn e)) (λ x. x) (nextWord k (copiesIn e))) (original-size w) (cover-same whole agrees))
+      (subst (λ (k : ℕ). Cover (tableOf (e .code)) (originalTable e) (origin k (copiesIn e)) (λ x. x) (numberAfter k (copiesIn e))) (original-size w) (cover-same whole agrees))
 
 module _ {l : Limits} {c : Code} {bs : List Ban} (given : WellFormed l c) (known : Known (c .count) bs) (room : refused17 l c bs ≡ false)
     (apart : (x y : ℕ) → bannedBy bs x y y ≡ false) where
-  given-whole : Cover (enlarged (tableOf c) (copiesOf bs) (bannedBy bs)) (withBans (tableOf c) (bannedBy bs)) (origin (c .count) (copiesOf bs)) (λ x. x) (nextWord (c .count) (copiesOf bs))
+  given-whole : Cover (enlarged (tableOf c) (copiesOf bs) (bannedBy bs)) (withBans (tableOf c) (bannedBy bs)) (origin (c .count) (copiesOf bs)) (λ x. x) (numberAfter (c .count) (copiesOf bs))
   given-whole =
-      subst (λ (k : ℕ). Cover (enlarged (tableOf c) (copiesOf bs) (bannedBy bs)) (withBans (tableOf c) (bannedBy bs)) (origin k (copiesOf bs)) (λ x. x) (nextWord k (copiesOf bs)))
+      subst (λ (k : ℕ). Cover (enlarged (tableOf c) (copiesOf bs) (bannedBy bs)) (withBans (tableOf c) (bannedBy bs)) (origin k (copiesOf bs)) (λ x. x) (numberAfter k (copiesOf bs)))
       (size-count given)
       (enlarged-covers (tableOf c) (copiesOf bs) (bannedBy bs) (table-serves given (bans-serve given known room)))
 

@@ -6,7 +6,7 @@ use native.Mathlib.Omega.{arith}
 use lib.ListN.{length, getD, List·getD-eq-default}
 use Rattle.code.specs.declared.Enlarged.{Enlarged}
 use Rattle.code.specs.declared.Limits.{Limits}
-use Rattle.code.specs.Definitions.Bans.{Copy, noCopy, copyAt, origin, nextWord}
+use Rattle.code.specs.Definitions.Bans.{Copy, noCopy, copyAt, origin, numberAfter}
 use Rattle.code.specs.Definitions.Enlarged.{copiesIn}
 use Rattle.code.specs.Laws.Lists.{length-tabulate, getD-tabulate, getD-tabulate-past}
 use Rattle.ban_theory.specs.CopyLists.{CopyAt, Once, origin-word, origin-copy, next-known}
@@ -70,7 +70,7 @@ module _ {l : Limits} {e : Enlarged} (v : Numbered l e) where
   origin-number x = origin-case x (decLt x (e .originals))
 
   -- The number that x has after y is one of the value.
-  pub next-within : (y x : ℕ) → x < e .originals → nextWord (e .originals) (copiesIn e) y x < e .code .count
+  pub next-within : (y x : ℕ) → x < e .originals → numberAfter (e .originals) (copiesIn e) y x < e .code .count
   next-within y x h = omega (arith, next-known (e .originals) (copiesIn e) y x h, all-numbers)
 
   -- The copies are of known words; so no two alike are each of them once.

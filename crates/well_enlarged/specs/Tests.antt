@@ -9,7 +9,7 @@ use Rattle.code.specs.declared.Enlarged.{Enlarged}
 use Rattle.code.specs.declared.Limits.{Limits}
 use Rattle.code.specs.Definitions.Lists.{tabulate}
 use Rattle.code.specs.Definitions.Tables.{noRow}
-use Rattle.code.specs.Definitions.Bans.{Copy, nextWord}
+use Rattle.code.specs.Definitions.Bans.{Copy, numberAfter}
 use Rattle.code.specs.Definitions.Enlarged.{copiesIn}
 use Rattle.well_enlarged.specs.WellEnlarged.{NumberFits, CopyFits}
 
@@ -37,7 +37,7 @@ pub record Lent (l : Limits) (origins behind : List ℕ) (n count : ℕ) : Type 
 
 -- The copy x is the one that stands for its word where it stands.
 abbrev pub AtOwnPlace : Enlarged → ℕ → Type 0
-AtOwnPlace e x = nextWord (e .originals) (copiesIn e) (getD (e .behind) x 0) (getD (e .origins) x 0) ≡ x
+AtOwnPlace e x = numberAfter (e .originals) (copiesIn e) (getD (e .behind) x 0) (getD (e .origins) x 0) ≡ x
 
 -- Number x, if it is a copy.
 abbrev pub IfCopyFits : Enlarged → ℕ → Type 0
@@ -49,7 +49,7 @@ CopiesFit e = (x : ℕ) → x < e .code .count → IfCopyFits e x
 -- Entry y of row x is 0; or x is the number of its word after the word of y, and may follow this.
 pub record EntryFits (row : Row) (origins behind : List ℕ) (n count x y : ℕ) : Type 0 where
   pub base : getD (row .entries) y 0 ≡ 1 → getD (row .entries) (getD origins y 0) 0 ≡ 1
-  pub only : getD (row .entries) y 0 ≡ 1 → nextWord n (copiesAt origins behind n count) (getD origins y 0) (getD origins x 0) ≡ x
+  pub only : getD (row .entries) y 0 ≡ 1 → numberAfter n (copiesAt origins behind n count) (getD origins y 0) (getD origins x 0) ≡ x
 
 abbrev pub RowFits : Enlarged → ℕ → Type 0
 RowFits e x = (y : ℕ) → y < e .code .count → EntryFits (getD (e .code .rows) x noRow) (e .origins) (e .behind) (e .originals) (e .code .count) x y

@@ -7,7 +7,7 @@ use lib.ListN.{length, getD}
 use Rattle.code.specs.declared.Enlarged.{Enlarged}
 use Rattle.code.specs.declared.Limits.{Limits}
 use Rattle.code.specs.Definitions.Tables.{noWord, tableOf}
-use Rattle.code.specs.Definitions.Bans.{nextWord}
+use Rattle.code.specs.Definitions.Bans.{numberAfter}
 use Rattle.code.specs.Definitions.Enlarged.{copiesIn}
 use Rattle.code.specs.Laws.Below.{Some}
 use Rattle.ban_theory.specs.CopyLists.{CopyAt}
@@ -36,7 +36,7 @@ pub record Numbered (l : Limits) (e : Enlarged) : Type 0 where
 
 -- The word w may not come behind the copy x.
 abbrev pub barred : Enlarged → ℕ → ℕ → Bool
-barred e x w = not (tableOf (e .code) .follow (nextWord (e .originals) (copiesIn e) (getD (e .origins) x 0) w) x)
+barred e x w = not (tableOf (e .code) .follow (numberAfter (e .originals) (copiesIn e) (getD (e .origins) x 0) w) x)
 
 -- The copy x has its word's symbols, cannot begin a message, and comes from some ban.
 pub record CopyFits (e : Enlarged) (x : ℕ) : Type 0 where

@@ -10,7 +10,7 @@ ghost use mathlib.Core.List.{[]};
 ghost use mathlib.Core.Path.{_≡_};
 ghost use Prim.Native.Nat.{ℕ, _≤_, _<_};
 ghost use lib.ListN.{length, getD};
-ghost use Rattle.code.specs.Definitions.Bans.{origin, nextWord};
+ghost use Rattle.code.specs.Definitions.Bans.{origin, numberAfter};
 ghost use Rattle.code.specs.Definitions.Enlarged.{plainOf};
 ghost use Rattle.code.specs.Definitions.Operations.{FromLists};
 ghost use Rattle.code.specs.Definitions.Sheets.{limits};
@@ -98,9 +98,16 @@ fn numbered(origins: &[u8], behind: &[u8], n: usize, count: usize) -> bool
 }
 
 // The number of the word x after the word y: that of the copy of x after y, if there is one.
-pub fn next_word(origins: &[u8], behind: &[u8], n: usize, count: usize, y: usize, x: usize) -> usize
+pub fn number_after(
+    origins: &[u8],
+    behind: &[u8],
+    n: usize,
+    count: usize,
+    y: usize,
+    x: usize,
+) -> usize
     requires { ⌜ (n ≤ count) × (count ≤ length (now origins)) × (count ≤ length (now behind)) ⌝ }
-    ensures { λ r. ⌜ r ≡ nextWord n (copiesAt (now (origins .entry)) (now (behind .entry)) n count) y x ⌝ }
+    ensures { λ r. ⌜ r ≡ numberAfter n (copiesAt (now (origins .entry)) (now (behind .entry)) n count) y x ⌝ }
 {
     let mut i = n;
     while i < count {
@@ -149,7 +156,7 @@ fn has_ban(code: Code, origins: &[u8], behind: &[u8], n: usize, x: usize) -> boo
     let of = wide(origins[x]);
     let mut w = 0;
     while w < n {
-        let next = next_word(origins, behind, n, code.count, of, w);
+        let next = number_after(origins, behind, n, code.count, of, w);
         let row = code.rows[next];
         if !is_one(row, x) {
             return true;
@@ -166,7 +173,7 @@ fn copy_fits(code: Code, origins: &[u8], behind: &[u8], n: usize, x: usize) -> b
 {
     let of = wide(origins[x]);
     let after = wide(behind[x]);
-    let place = next_word(origins, behind, n, code.count, after, of);
+    let place = number_after(origins, behind, n, code.count, after, of);
     let copy = code.words[x];
     let word = code.words[of];
     let mark = code.begins[x];
@@ -208,7 +215,7 @@ fn entry_fits(
         return false;
     }
     let of = wide(origins[x]);
-    next_word(origins, behind, n, count, after, of) == x
+    number_after(origins, behind, n, count, after, of) == x
 }
 
 // All entries of row x.

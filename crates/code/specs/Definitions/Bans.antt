@@ -70,9 +70,9 @@ module _ (n : ℕ) (cs : List Copy) where
   standsAfter x y = if ltb x n then not (hasCopy cs y x) else eqb (copyAt x .behind) y
 
   -- the number of the word x after y and y's copies: that of the copy of x after y, if there is one
-  unfoldable pub nextWord : ℕ → ℕ → ℕ
+  unfoldable pub numberAfter : ℕ → ℕ → ℕ
   unfolding hasCopy copyIndex
-  nextWord y x = if hasCopy cs y x then n + copyIndex cs y x else x
+  numberAfter y x = if hasCopy cs y x then n + copyIndex cs y x else x
 
 -- The enlarged code of a table t, by its copies and bans.
 module _ (t : Table) (cs : List Copy) (b : ℕ → ℕ → ℕ → Bool) where
@@ -99,9 +99,9 @@ module _ (t : Table) (cs : List Copy) (b : ℕ → ℕ → ℕ → Bool) where
 module _ (cs : List Copy) (entry : ℕ → ℕ → Bool) where
   -- x never follows y then z where there is a copy of z after y, and x may not follow that; the code is of n words and the copies.
   unfoldable pub bansIn : ℕ → ℕ → ℕ → ℕ → Bool
-  unfolding hasCopy copyIndex nextWord
-  bansIn n x y z = hasCopy cs y z && not (entry (nextWord n cs z x) (n + copyIndex cs y z))
+  unfolding hasCopy copyIndex numberAfter
+  bansIn n x y z = hasCopy cs y z && not (entry (numberAfter n cs z x) (n + copyIndex cs y z))
 
   -- x may follow y where the number of x after y may follow y.
   abbrev pub tableIn : List (List ℕ) → (ℕ → Bool) → Table
-  tableIn ws marks = record { words = ws; follow = λ x y. entry (nextWord (length ws) cs y x) y; begins = marks; banned = bansIn (length ws) }
+  tableIn ws marks = record { words = ws; follow = λ x y. entry (numberAfter (length ws) cs y x) y; begins = marks; banned = bansIn (length ws) }

@@ -12,7 +12,7 @@ use borrow.Author.Tests.{eqb-true, eq-eqb, ne-eqb}
 use Rattle.code.specs.declared.Enlarged.{Enlarged}
 use Rattle.code.specs.declared.Limits.{Limits}
 use Rattle.code.specs.Definitions.Tables.{size, entryOf, tableOf}
-use Rattle.code.specs.Definitions.Bans.{nextWord}
+use Rattle.code.specs.Definitions.Bans.{numberAfter}
 use Rattle.code.specs.Definitions.Enlarged.{copiesIn, originalTable}
 use Rattle.code.specs.Definitions.Operations.{HasForbidden, opening, pair, triple}
 use Rattle.well_enlarged.specs.Back.{original-size}
@@ -23,7 +23,7 @@ use Rattle.encode_permitted.specs.Originals.{Original}
 
 -- the number of the word x after the word y
 abbrev pub nextIn : Enlarged → ℕ → ℕ → ℕ
-nextIn e y x = nextWord (e .originals) (copiesIn e) y x
+nextIn e y x = numberAfter (e .originals) (copiesIn e) y x
 
 -- the number that entry k of s has in the plain code
 abbrev pub numberIn : Enlarged → List ℕ → ℕ → ℕ

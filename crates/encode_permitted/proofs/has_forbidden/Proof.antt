@@ -36,11 +36,11 @@ cast-x : tie.Need-cast-x Inv-loop μ-loop
 cast-x c = omega (arith, c .shared-slice-known4 .given (c .before .before .before .loop .i + 1))
 
 -- there is a next word
-more : (c : tie.After-next-word Inv-loop μ-loop) → c .before .before .before .before .before .before .loop .i + 1 < length (c .before .before .before .before .before .before .before .before .before .before .before .before .before .before .before .args .words .now)
+more : (c : tie.After-number-after Inv-loop μ-loop) → c .before .before .before .before .before .before .loop .i + 1 < length (c .before .before .before .before .before .before .before .before .before .before .before .before .before .before .before .args .words .now)
 more c = omega arith
 
 -- the number that is found has a row
-row-low : (c : tie.After-next-word Inv-loop μ-loop) → c .next-word .result < limits .words
+row-low : (c : tie.After-number-after Inv-loop μ-loop) → c .number-after .result < limits .words
 row-low c = let next = more c in search (next-low limits)
 
 -- and the number in hand a column

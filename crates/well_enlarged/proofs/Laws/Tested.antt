@@ -13,7 +13,7 @@ use Rattle.code.specs.declared.Row.{Row}
 use Rattle.code.specs.declared.Enlarged.{Enlarged}
 use Rattle.code.specs.declared.Limits.{Limits}
 use Rattle.code.specs.Definitions.Tables.{noWord, entryOf, tableOf}
-use Rattle.code.specs.Definitions.Bans.{Copy, noCopy, isCopy, hasCopy, copyIndex, copyAt, origin, nextWord}
+use Rattle.code.specs.Definitions.Bans.{Copy, noCopy, isCopy, hasCopy, copyIndex, copyAt, origin, numberAfter}
 use Rattle.code.specs.Definitions.Enlarged.{copiesIn}
 use Rattle.code.specs.Laws.Below.{Some}
 use Rattle.code.specs.Laws.Lists.{length-tabulate, getD-tabulate, any-tabulate}
@@ -112,7 +112,7 @@ module _ (origins behind : List ℕ) (n count y x : ℕ) where
       getD-tabulate (λ j. numberOf origins behind (n + j)) (count - n) (i - n) noCopy (omega arith) ∙ rw at
 
   pub next-found : (i : ℕ) → n ≤ i → i < count → isCopy y x (numberOf origins behind i) ≡ true → ((k : ℕ) → k < i → Other k)
-      → i ≡ nextWord n (copiesAt origins behind n count) y x
+      → i ≡ numberAfter n (copiesAt origins behind n count) y x
   next-found i h k here before =
       let cs = copiesAt origins behind n count in
       let long = length-tabulate (λ j. numberOf origins behind (n + j)) (count - n) in
@@ -129,7 +129,7 @@ module _ (origins behind : List ℕ) (n count y x : ℕ) where
           let a = and-eq-true-iff (eqb (getD cs j noCopy .behind) y) (eqb (getD cs j noCopy .of) x) .0 e in
           has-copy (record { below = l; behind = eqb-true _ _ (a .0); of = eqb-true _ _ (a .1) })
 
-  pub next-none : ((k : ℕ) → k < count → Other k) → x ≡ nextWord n (copiesAt origins behind n count) y x
+  pub next-none : ((k : ℕ) → k < count → Other k) → x ≡ numberAfter n (copiesAt origins behind n count) y x
   unfolding hasCopy
   next-none before =
       let cs = copiesAt origins behind n count in
@@ -144,7 +144,7 @@ words-same a b symbols =
 
 module _ (e : Enlarged) (x : ℕ) where
   -- A word may not come behind a copy where its number there has no 1.
-  pub barred-entry : (w : ℕ) {next of : ℕ} {t : Bool} → of ≡ getD (e .origins) x 0 → next ≡ nextWord (e .originals) (copiesIn e) of w → Exactly t (entryOf (e .code) next x ≡ 1)
+  pub barred-entry : (w : ℕ) {next of : ℕ} {t : Bool} → of ≡ getD (e .origins) x 0 → next ≡ numberAfter (e .originals) (copiesIn e) of w → Exactly t (entryOf (e .code) next x ≡ 1)
       → barred e x w ≡ not t
   barred-entry w {next} p q one =
       let same = exactly-same (exactly-eq (entryOf (e .code) next x) 1) one in
@@ -156,7 +156,7 @@ module _ (e : Enlarged) (x : ℕ) where
   pub ban-none : ((w : ℕ) → w < e .originals → barred e x w ≡ false) → Exactly false (Some (barred e x) (e .originals))
   ban-none none = exactly-false (λ s. true≢false (sym (s .passes) ∙ none (s .x) (s .below)))
 
-  pub copy-tested : {place mark : ℕ} {t b : Bool} → place ≡ nextWord (e .originals) (copiesIn e) (getD (e .behind) x 0) (getD (e .origins) x 0) → mark ≡ getD (e .code .begins) x 0
+  pub copy-tested : {place mark : ℕ} {t b : Bool} → place ≡ numberAfter (e .originals) (copiesIn e) (getD (e .behind) x 0) (getD (e .origins) x 0) → mark ≡ getD (e .code .begins) x 0
       → Exactly t (getD (e .code .words) x noWord ≡ getD (e .code .words) (getD (e .origins) x 0) noWord) → Exactly b (Some (barred e x) (e .originals))
       → Exactly (eqb place x && (t && (eqb mark 0 && b))) (AtOwnPlace e x × CopyFits e x)
   copy-tested {place} {mark} p m word ban =
@@ -179,7 +179,7 @@ module _ (row : Row) (origins behind : List ℕ) (n count x y : ℕ) where
   entry-new one none = exactly-false (λ f. none (f .base one))
 
   pub entry-one : {next : ℕ} → getD (row .entries) y 0 ≡ 1 → getD (row .entries) (getD origins y 0) 0 ≡ 1
-      → next ≡ nextWord n (copiesAt origins behind n count) (getD origins y 0) (getD origins x 0) → Exactly (eqb next x) (EntryFits row origins behind n count x y)
+      → next ≡ numberAfter n (copiesAt origins behind n count) (getD origins y 0) (getD origins x 0) → Exactly (eqb next x) (EntryFits row origins behind n count x y)
   entry-one {next} one base e =
       exactly-iff ((λ q. record { base = λ i. base; only = λ i. sym e ∙ q }), (λ f. e ∙ f .only one)) (exactly-eq next x)
 
@@ -200,12 +200,12 @@ module _ {l : Limits} {e : Enlarged} (v : Numbered l e) where
     known = λ y. known-case y (decLt y (e .originals)) (decLt y (e .code .count));
   }
 
-  pub next-low : (y x : ℕ) {next : ℕ} → next ≡ nextWord (e .originals) (copiesIn e) y x → x < e .originals → next < l .words
+  pub next-low : (y x : ℕ) {next : ℕ} → next ≡ numberAfter (e .originals) (copiesIn e) y x → x < e .originals → next < l .words
   next-low y x p h = omega (arith, next-within v y x h, v .room)
 
   -- Copies that stand at their own places are each there once,
   placed : ((x : ℕ) → x < e .code .count → e .originals ≤ x → AtOwnPlace e x) → (y z i : ℕ) → CopyAt (copiesIn e) y z i
-      → nextWord (e .originals) (copiesIn e) y z ≡ e .originals + i
+      → numberAfter (e .originals) (copiesIn e) y z ≡ e .originals + i
   placed at y z i c =
       let copy = copy-in e i (c .below) in
       let behind : getD (e .behind) (e .originals + i) 0 ≡ y = ap (λ (d : Copy). d .behind) (sym copy) ∙ c .behind in

@@ -21,7 +21,7 @@ returns c =
     let of = p .before .before .before .wide .ensures in
     let a = p .before .before .before .before .before .before .before .args in
     rw (c .and3 .ensures, c .before .and2 .ensures, c .before .before .and .ensures)
-    (copy-tested (valueOf (a .t1) (a .n) (a .origins .now) (a .behind .now)) (a .x) (rw (p .before .wide2 .ensures, of) at (p .next-word .ensures)) refl
+    (copy-tested (valueOf (a .t1) (a .n) (a .origins .now) (a .behind .now)) (a .x) (rw (p .before .wide2 .ensures, of) at (p .number-after .ensures)) refl
     (rw of at (c .before .before .before .same-word .ensures)) (c .before .before .before .before .has-ban .ensures))
 
 pub copy-fits-spec : {M : Type 1} → statement M

@@ -30,7 +30,7 @@ returns-3 c =
     let one = t .before .before .before .is-one .ensures .yes (not-false _ (t .before .before .if1 .left)) in
     let base = rw (t .wide .ensures) at (c .before .before .before .before .is-one2 .ensures .yes (not-false _ (c .before .before .before .if2 .left))) in
     entry-one (a .row) (a .origins .now) (a .behind .now) (a .n) (a .count) (a .x) (a .y) one base
-    (rw (t .wide .ensures, c .before .wide2 .ensures) at (c .next-word .ensures))
+    (rw (t .wide .ensures, c .before .wide2 .ensures) at (c .number-after .ensures))
 
 pub entry-fits-spec : {M : Type 1} → statement M
 entry-fits-spec =

@@ -19,10 +19,10 @@ abbrev μ-loop : tie.MeasureT-loop
 μ-loop origins behind n x code of w₀ w = n - w
 
 -- the number that is found has a row
-row-low : (c : tie.After-next-word Inv-loop μ-loop) → c .next-word .result < limits .words
+row-low : (c : tie.After-number-after Inv-loop μ-loop) → c .number-after .result < limits .words
 row-low c =
     let s = c .before .before .before .before .before .before .before in
-    next-low (s .pre .0) _ (c .before .before .loop .w) (c .next-word .ensures) (c .before .loop-test .taken)
+    next-low (s .pre .0) _ (c .before .before .loop .w) (c .number-after .ensures) (c .before .loop-test .taken)
 
 returns : tie.Need-returns Inv-loop μ-loop
 returns c =
@@ -31,7 +31,7 @@ returns c =
     let l = t .before .before .loop in
     let e = valueOf (a .t1) (a .n) (a .origins .now) (a .behind .now) in
     ban-found e (a .x) (l .w) (t .before .loop-test .taken)
-    (barred-entry e (a .x) (l .w) (t .before .before .before .wide .ensures) (t .next-word .ensures) (c .before .is-one .ensures) ∙ c .if1 .taken)
+    (barred-entry e (a .x) (l .w) (t .before .before .before .wide .ensures) (t .number-after .ensures) (c .before .is-one .ensures) ∙ c .if1 .taken)
 
 loop-again : tie.Need-loop-again Inv-loop μ-loop
 loop-again c =
@@ -41,7 +41,7 @@ loop-again c =
     let e = valueOf (a .t1) (a .n) (a .origins .now) (a .behind .now) in (
       omega arith,
       below-more (λ k. barred e (a .x) k ≡ false) (l .w) (l .inv .1)
-          (barred-entry e (a .x) (l .w) (t .before .before .before .wide .ensures) (t .next-word .ensures) (c .before .is-one .ensures) ∙ c .if1 .left),
+          (barred-entry e (a .x) (l .w) (t .before .before .before .wide .ensures) (t .number-after .ensures) (c .before .is-one .ensures) ∙ c .if1 .left),
     )
 
 returns-2 : tie.Need-returns-2 Inv-loop μ-loop

@@ -1,12 +1,12 @@
--- `next_word` finds the number of a word after another. The invariant: no number below i is that copy.
+-- `number_after` finds the number of a word after another. The invariant: no number below i is that copy.
 use mathlib.Core.Path.{_≡_, sym, _∙_}
 use Prim.Native.Nat.{ℕ, _≤_, _<_, _-_}
 use native.Mathlib.Omega.{arith}
 use borrow.Author.Count.{below-more}
 use borrow.Author.Needs.{needs}
 use Rattle.well_enlarged.proofs.Laws.Tested.{Other, next-found, next-none}
-use Rattle.well_enlarged.proofs.next_word.Statement.{statement}
-use Rattle.well_enlarged.proofs.next_word.Tie as tie
+use Rattle.well_enlarged.proofs.number_after.Statement.{statement}
+use Rattle.well_enlarged.proofs.number_after.Tie as tie
 
 abbrev Inv-loop : tie.InvT-loop
 Inv-loop origins behind n count y x i₀ i = (n ≤ i) × ((i ≤ count) × ((k : ℕ) → k < i → Other origins behind n count y x k))
@@ -40,8 +40,8 @@ returns-2 c =
     let end : l .i ≡ args .count = omega arith in
     next-none (args .origins .now) (args .behind .now) (args .n) (args .count) (args .y) (args .x) (rw end at (l .inv .1 .1))
 
-pub next-word-spec : {M : Type 1} → statement M
-next-word-spec =
+pub number-after-spec : {M : Type 1} → statement M
+number-after-spec =
     tie.close
     (tie.spec
     Inv-loop
