@@ -1,7 +1,6 @@
 /* Codes with forbidden successors: taking in a sheet, the built-in code of the twelve Turkish types, enlarging a code by a ban
  * list, encoding, reading, taking in the letter classes of a class sheet, the built-in Turkish letters, splitting the words of a
- * text, the verdict, the next word of a message that is still coming in, two sequences that keep one waiting for it longest, and a
- * check of any two that are said to do so.
+ * text, the verdict, and the next word of a message that is still coming in.
  *
  * The functions are proved for every input that this file allows: pointers to as many entries as the length beside them says,
  * no two of them overlapping where one is written, and 8-byte alignment for uint64_t. Nothing else is asked. Where a length is 0
@@ -13,8 +12,8 @@
  * their lengths before everything else: where one of them is too short, the number is FURLAZON_REFUSED_SHORT_BUFFER, whatever else
  * holds. Every other buffer that is too short, `answer` too, gets that number in its place among the others.
  *
- * A refusal changes no buffer, except that FURLAZON_REFUSED_NO_READING and FURLAZON_REFUSED_NO_FINITE_DELAY leave `work` all zero,
- * and so does FURLAZON_REFUSED_MESSAGE_SYMBOL of furlazon_next. A result leaves the whole of `work` zero, and in every
+ * A refusal changes no buffer, except that FURLAZON_REFUSED_NO_READING leaves `work` all zero, and that of furlazon_next
+ * FURLAZON_REFUSED_NO_FINITE_DELAY and FURLAZON_REFUSED_MESSAGE_SYMBOL do so too. A result leaves the whole of `work` zero, and in every
  * other buffer what stands past the written part as it was; but splitting leaves `message`, `first` and `second` zero, each whole.
  *
  * A ban says that word X never follows word Y and then word Z. A code with such bans has copies of words; a table with copies is
@@ -38,9 +37,9 @@ extern "C" {
  * first stays 0 as long as a request may change a declaration, a macro or an image. The library does not tell its version: use it with
  * the header of the same build. */
 #define FURLAZON_VERSION_MAJOR 0
-#define FURLAZON_VERSION_MINOR 8
+#define FURLAZON_VERSION_MINOR 7
 #define FURLAZON_VERSION_PATCH 0
-#define FURLAZON_VERSION "0.8.0"
+#define FURLAZON_VERSION "0.7.0"
 
 /* Limits. */
 #define FURLAZON_ALPHABET 16            /* a symbol is a number below it */
@@ -95,8 +94,7 @@ extern "C" {
 /* Entries of an answer. */
 #define FURLAZON_ANSWER_ENTRIES 4
 
-/* Entries that a verdict needs: in `message`, `first` and `second` each, and in `work`. The next word needs as many in `work`, and two
- * sequences that keep one waiting longest as many in `first`, `second` and `work`. */
+/* Entries that a verdict needs: in `message`, `first` and `second` each, and in `work`. The next word needs as many in `work`. */
 #define FURLAZON_VERDICT_ENTRIES 8384
 #define FURLAZON_VERDICT_WORK 16384
 
@@ -117,14 +115,6 @@ extern "C" {
 #define FURLAZON_AMBIGUOUS 1
 #define FURLAZON_DELAY 2
 #define FURLAZON_WITHOUT_BOUND 3
-
-/* answer[0] of furlazon_waiting. */
-#define FURLAZON_PAIR_SHOWN 1
-#define FURLAZON_NEVER_IN_DOUBT 2
-
-/* answer[0] of furlazon_check. */
-#define FURLAZON_REJECTED 0
-#define FURLAZON_ACCEPTED 1
 
 /* Takes in a code sheet of any bytes.
  * Needs: `table` of FURLAZON_TABLE_BYTES. Refusals: 1 to 7, 13, 15.
@@ -226,32 +216,6 @@ uint64_t furlazon_next(const uint8_t *table, size_t table_length,
                        const uint8_t *message, size_t message_length,
                        uint64_t *work, size_t work_length,
                        uint64_t *answer, size_t answer_length);
-
-/* Shows why fewer symbols than the delay N do not tell the next word: two permitted sequences that share their first words, any number
- * or none, both go on, go on with different words, and agree on the next N - 1 symbols, which both have.
- * Needs: `table` of FURLAZON_TABLE_BYTES; `first` and `second` of FURLAZON_VERDICT_ENTRIES each; `work` of FURLAZON_VERDICT_WORK;
- * `answer` of FURLAZON_ANSWER_ENTRIES. Refusals: 8, 13, 21. After 21 `work` is all zero.
- * Result, one of two:
- *   answer = { FURLAZON_PAIR_SHOWN, N, words, words }: the two sequences stand in `first` and `second`, with these lengths. Which two
- *     they are is not promised; furlazon_check accepts them for N.
- *   answer = { FURLAZON_NEVER_IN_DOUBT, 0, 0, 0 }: the delay is 0, and `first` and `second` are as they were. */
-uint64_t furlazon_waiting(const uint8_t *table, size_t table_length,
-                          uint8_t *first, size_t first_length,
-                          uint8_t *second, size_t second_length,
-                          uint64_t *work, size_t work_length,
-                          uint64_t *answer, size_t answer_length);
-
-/* Checks two sequences, whoever found them: whether they show that N - 1 symbols do not always tell the next word, as furlazon_waiting
- * says it. N may be any number, and the sequences may have any length and any bytes in them.
- * Needs: `table` of FURLAZON_TABLE_BYTES; `answer` of FURLAZON_ANSWER_ENTRIES. Refusals: 13.
- * Result: answer = { FURLAZON_ACCEPTED or FURLAZON_REJECTED, 0, 0, 0 }. Rejected are N = 0, a table that the other functions refuse with
- * 8, a sequence that furlazon_encode refuses with 9 or 10, two that are equal, two of which one is the beginning of the other, two
- * that do not agree on N - 1 symbols after the words that they share, and two of which one has fewer. */
-uint64_t furlazon_check(const uint8_t *table, size_t table_length,
-                        size_t n,
-                        const uint8_t *first, size_t first_length,
-                        const uint8_t *second, size_t second_length,
-                        uint64_t *answer, size_t answer_length);
 
 #ifdef __cplusplus
 }

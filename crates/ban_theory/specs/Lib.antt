@@ -2,7 +2,6 @@ pub mod Covers
 pub mod CoversSame
 pub mod Matches
 pub mod NextWords
-pub mod Waiting
 pub mod Renumbered
 pub mod CopyLists
 pub mod Copies

@@ -1,34 +1,44 @@
 -- The lengths of the lent buffers: when refusal 13 holds, and what is known of them where it does not. The four numbers are the lengths of the message buffer,
 -- of the two reading buffers and of the working buffer.
-use Rattle.std.specs.Prelude.{Bool, ◌⊎◌, ℕ, ◌≤◌, ◌<◌}
+use Rattle.std.specs.Prelude.{◌⊎◌, ℕ, ◌≤◌, ◌<◌, ltb}
 use Rattle.std.proofs.Common.{inl, inr, arith}
-use Rattle.code.specs.Definitions.Operations.{verdict_room}
+use Rattle.code.specs.Definitions.Operations.{verdict_room, verdict_work}
 use Rattle.code.specs.Definitions.Sheets.{limits}
 use Rattle.code.specs.Laws.Buffers.{long-enough}
-use Rattle.code.specs.Laws.Exactly.{Exactly, exactly-iff}
-use Rattle.decipher_rooms.specs.Rooms as Rooms
+use Rattle.code.specs.Laws.Exactly.{Exactly, exactly-iff, exactly-lt}
 
--- 02, request 1: "The verdict's three buffers need 8,384 entries": that of the message too.
+-- 02, request 1: "The verdict's three buffers need 8,384 entries"; 01: "and a working buffer of 16,384 entries"
 abbrev pub Short : (m f g w : ℕ) → Type 0
-Short m f g w = (m < verdict_room limits) ⊎ Rooms.Short f g w
+Short m f g w = (m < verdict_room limits) ⊎ ((f < verdict_room limits) ⊎ ((g < verdict_room limits) ⊎ (w < verdict_work limits)))
 
 pub record Room (m f g w : ℕ) : Type 0 where
   pub message : verdict_room limits ≤ m
-  pub others : Rooms.Room f g w
+  pub first : verdict_room limits ≤ f
+  pub second : verdict_room limits ≤ g
+  pub work : verdict_work limits ≤ w
 
 module _ {m f g w : ℕ} where
-  -- Where the message buffer is long enough, the others decide.
-  pub short-others : {b : Bool} → verdict_room limits ≤ m → Exactly b (Rooms.Short f g w) → Exactly b (Short m f g w)
-  short-others hm x = exactly-iff (λ h. inr h, back) x
+  -- Where the other three are long enough, the working buffer decides.
+  pub short-work : verdict_room limits ≤ m → verdict_room limits ≤ f → verdict_room limits ≤ g → Exactly (ltb w (verdict_work limits)) (Short m f g w)
+  short-work hm hf hg = exactly-iff (λ h. inr (inr (inr h)), back) (exactly-lt w (verdict_work limits))
     where
-      back : Short m f g w → Rooms.Short f g w
+      back : Short m f g w → w < verdict_work limits
       back (inl h) = absurd (omega arith)
-      back (inr h) = h
+      back (inr (inl h)) = absurd (omega arith)
+      back (inr (inr (inl h))) = absurd (omega arith)
+      back (inr (inr (inr h))) = h
 
   pub room-not-short : Room m f g w → Short m f g w → ⊥
   room-not-short r (inl h) = omega (arith, r.message)
-  room-not-short r (inr h) = Rooms.room-not-short r.others h
+  room-not-short r (inr (inl h)) = omega (arith, r.first)
+  room-not-short r (inr (inr (inl h))) = omega (arith, r.second)
+  room-not-short r (inr (inr (inr h))) = omega (arith, r.work)
 
   -- Buffers of which none is too short have room.
   pub has_room : (Short m f g w → ⊥) → Room m f g w
-  has_room none = record { message = long-enough (verdict_room limits) m (λ h. none (inl h)); others = Rooms.has_room (λ h. none (inr h)) }
+  has_room none = record {
+    message = long-enough (verdict_room limits) m (λ h. none (inl h));
+    first = long-enough (verdict_room limits) f (λ h. none (inr (inl h)));
+    second = long-enough (verdict_room limits) g (λ h. none (inr (inr (inl h))));
+    work = long-enough (verdict_work limits) w (λ h. none (inr (inr (inr h))));
+  }

@@ -67,9 +67,9 @@ module _ {e : Enlarged} {places : List ℕ} {n : ℕ} (value : WellEnlarged limi
     laid = laid;
     ended = ended;
     message = r.message;
-    first = r.others.first;
-    second = r.others.second;
-    clear = ap (take n) c ∙ clear-part n k (room_within r.others.work) ∙ ap (λ (i : ℕ). replicate i 0) is;
+    first = r.first;
+    second = r.second;
+    clear = ap (take n) c ∙ clear-part n k (room_within r.work) ∙ ap (λ (i : ℕ). replicate i 0) is;
   }
 
 -- The marks are laid over the whole of a part that is as long, and nothing of it is left.

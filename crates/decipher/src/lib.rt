@@ -22,7 +22,13 @@ fn is_short(message: usize, first: usize, second: usize, work: usize) -> bool
     if message < Pairs::ROOM {
         return true;
     }
-    decipher_rooms::is_short(first, second, work)
+    if first < Pairs::ROOM {
+        return true;
+    }
+    if second < Pairs::ROOM {
+        return true;
+    }
+    work < Pairs::MARKS
 }
 
 // All marks are clear at the start of a verdict: an array of them is laid over the working buffer, where the searches read and set them. What is lent behind it is

@@ -35,11 +35,11 @@ use Rattle.pair_theory.specs.Ambiguity.{ends→readings}
 use Rattle.decipher_bound.specs.declared.Bound.{Bound}
 use Rattle.decipher_bound.specs.declared.Bound.TheVariants.{Delay as Known, Nothing}
 
--- The delay by the walks over the pairs of f, with the height of each pair that was met in the marks xs; or why there is none.
-pub data BoundBy (f xs : List ℕ) : Bound → Type 0 where
-  known : {d : SymbolCount} → NoGoal (open_graph f) → DelayBy f xs (Finite d) → BoundBy f xs (Known d)
-  ambiguous : SomeGoal (open_graph f) → BoundBy f xs Nothing
-  endless : NoGoal (open_graph f) → Endless (pair_graph f) → BoundBy f xs Nothing
+-- The delay by the walks over the pairs of f, or why there is none.
+pub data BoundBy (f : List ℕ) : Bound → Type 0 where
+  known : {d : SymbolCount} → NoGoal (open_graph f) → DelayBy f (Finite d) → BoundBy f (Known d)
+  ambiguous : SomeGoal (open_graph f) → BoundBy f Nothing
+  endless : NoGoal (open_graph f) → Endless (pair_graph f) → BoundBy f Nothing
 
 -- A clear list serves both searches.
 module _ (f w : List ℕ) {w' : List ℕ} (room : room_of f ≤ length w) (clear : w' ≡ replicate (length w) 0) where
@@ -54,39 +54,39 @@ module _ (f w : List ℕ) {w' : List ℕ} (room : room_of f ≤ length w) (clear
 
 -- What `find_delay` returns.
 module _ (f : List ℕ) {b : Bool} (x : Exactly b (SomeGoal (open_graph f))) where
-  pub bound-ends : {xs : List ℕ} → b ≡ true → BoundBy f xs Nothing
+  pub bound-ends : b ≡ true → BoundBy f Nothing
   bound-ends e = ambiguous (x.yes e)
 
   no-goal : b ≡ false → NoGoal (open_graph f)
   no-goal e m g = x.no e (record { symbols = m; goal = g })
 
-  module _ {xs : List ℕ} (e : b ≡ false) where
-    pub bound-delay : {d : SymbolCount} {v : Verdict} → DelayBy f xs v → v ≡ Finite d → BoundBy f xs (Known d)
+  module _ (e : b ≡ false) where
+    pub bound-delay : {d : SymbolCount} {v : Verdict} → DelayBy f v → v ≡ Finite d → BoundBy f (Known d)
     bound-delay {d} h q = known (no-goal e) (rw q at h)
 
-    pub bound-endless : {v : Verdict} → DelayBy f xs v → v ≡ Unbounded → BoundBy f xs Nothing
+    pub bound-endless : {v : Verdict} → DelayBy f v → v ≡ Unbounded → BoundBy f Nothing
     bound-endless (finite l q) z = let w : ◌≡◌ {A = ℕ} 0 1 = cc in absurd (omega arith)
     bound-endless (unbounded u) z = endless (no-goal e) u
 
-    pub bound-never : {n : SymbolCount} {a c : WordCount} {v : Verdict} → DelayBy f xs v → v ≡ Ambiguous n a c → BoundBy f xs Nothing
+    pub bound-never : {n : SymbolCount} {a c : WordCount} {v : Verdict} → DelayBy f v → v ≡ Ambiguous n a c → BoundBy f Nothing
     bound-never (finite l q) z = let w : ◌≡◌ {A = ℕ} 0 1 = cc in absurd (omega arith)
     bound-never (unbounded u) z = endless (no-goal e) u
 
 -- What a bound says: the delay, with its walks,
-pub record KnownBy (f xs : List ℕ) (d : SymbolCount) : Type 0 where
+pub record KnownBy (f : List ℕ) (d : SymbolCount) : Type 0 where
   pub none : NoGoal (open_graph f)
-  pub delay : DelayBy f xs (Finite d)
+  pub delay : DelayBy f (Finite d)
 
-pub was-known : {f xs : List ℕ} {d : SymbolCount} {b : Bound} → BoundBy f xs b → b ≡ Known d → KnownBy f xs d
-was-known {f} {xs} {d} (known {d = c} n h) e =
+pub was-known : {f : List ℕ} {d : SymbolCount} {b : Bound} → BoundBy f b → b ≡ Known d → KnownBy f d
+was-known {f} {d} (known {d = c} n h) e =
     let z : c ≡ d = cc in
-    let k : KnownBy f xs c = record { none = n; delay = h } in
+    let k : KnownBy f c = record { none = n; delay = h } in
     rw z at k
 was-known (ambiguous g) e = let z : ◌≡◌ {A = ℕ} 0 1 = cc in absurd (omega arith)
 was-known (endless n u) e = let z : ◌≡◌ {A = ℕ} 0 1 = cc in absurd (omega arith)
 
 -- 01: "Delays therefore run from 0 to 8,257 at most."
-pub delay-low : {f xs : List ℕ} {d : SymbolCount} {v : Verdict} → Laid f → DelayBy f xs v → v ≡ Finite d → d.0 ≤ unordered_pairs limits + 1
+pub delay-low : {f : List ℕ} {d : SymbolCount} {v : Verdict} → Laid f → DelayBy f v → v ≡ Finite d → d.0 ≤ unordered_pairs limits + 1
 delay-low {f} {d = d} l (finite {d = c} {r = r} w e) q =
     let z : c ≡ d = cc in
     let h : c.0 ≤ r + 1 = rw e (low (some_rivals f)) in
@@ -100,7 +100,7 @@ delay-low {f} {d = d} l (finite {d = c} {r = r} w e) q =
     by h = omega (arith, pairs-limited l, w.low)
 delay-low l (unbounded u) q = let z : ◌≡◌ {A = ℕ} 0 1 = cc in absurd (omega arith)
 
-module _ {f xs : List ℕ} {d : SymbolCount} {b : Bound} (h : BoundBy f xs b) (e : b ≡ Known d) where
+module _ {f : List ℕ} {d : SymbolCount} {b : Bound} (h : BoundBy f b) (e : b ≡ Known d) where
   pub known-low : Laid f → d.0 ≤ unordered_pairs limits + 1
   known-low l = delay-low l (was-known h e).delay refl
 
@@ -109,10 +109,10 @@ module _ {f xs : List ℕ} {d : SymbolCount} {b : Bound} (h : BoundBy f xs b) (e
   known-means laid ended = (delay-means laid ended (was-known h e).none [] [] [] (was-known h e).delay).1
 
 -- or that it has none.
-pub nothing-means : {t : Table} {f xs : List ℕ} {b : Bound} → LaidOut t f → Ended t f → BoundBy f xs b → b ≡ Nothing → NoDelay t
+pub nothing-means : {t : Table} {f : List ℕ} {b : Bound} → LaidOut t f → Ended t f → BoundBy f b → b ≡ Nothing → NoDelay t
 nothing-means laid ended (known n h) e = let z : ◌≡◌ {A = ℕ} 0 1 = cc in absurd (omega arith)
 nothing-means laid ended (ambiguous g) e = λ N d.
     decipherable-not-two (ends→readings laid.fits.plain ((open-finds laid ended.closed).ends g.goal)) (delay-decipherable laid.fits.plain.some d)
-nothing-means {f = f} {xs = xs} laid ended (endless n u) e =
-    let k : DelayBy f xs Unbounded = unbounded u in
+nothing-means {f = f} laid ended (endless n u) e =
+    let k : DelayBy f Unbounded = unbounded u in
     λ N d. delay-bounds d (delay-means laid ended n [] [] [] k).1

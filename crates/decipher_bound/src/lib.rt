@@ -3,7 +3,6 @@
 ghost use Rattle.std.specs.Prelude.{◌≤◌, length};
 ghost use Rattle.pair_places.specs.Flat.{Laid};
 ghost use Rattle.pair_places.specs.Roots.{Numbered};
-ghost use Rattle.pair_storage.specs.Marks.{marks};
 ghost use Rattle.pair_storage.specs.Rooms.{room_of};
 ghost use Rattle.decipher_bound.specs.Bounds.{BoundBy};
 
@@ -16,11 +15,10 @@ pub enum Bound {
     Nothing,
 }
 
-// The delay of a code whose places are laid out. The list may hold anything before; with a delay it is left with the height of each pair that was
-// met.
+// The delay of a code whose places are laid out. The list may hold anything before and after.
 pub fn find_delay(places: &[u8], work: &mut [u64]) -> Bound
     requires { Laid places.now × Numbered places.now × (room_of places.now ≤ length work.old) }
-    ensures { BoundBy places.now (marks places.now work.new) result }
+    ensures { BoundBy places.now result }
 {
     bits::clear(work);
     if pair_shortest::reaches_ends(places, work) {

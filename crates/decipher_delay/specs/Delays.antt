@@ -37,15 +37,14 @@ use Rattle.pair_theory.specs.Searches.{search-decipherable, search-delay, search
 abbrev pub delay_of : (rivals : Bool) (r : ℕ) → ℕ
 delay_of b r = if b then r + 1 else 0
 
--- The delay, or that there is none, by the walks over the pairs of f; with a delay the marks xs have the height of each pair that was met.
-pub data DelayBy (f xs : List ℕ) : Verdict → Type 0 where
-  finite : {d : SymbolCount} {r : ℕ} → LongestWalk f xs r → d.0 ≡ delay_of (some_rivals f) r → DelayBy f xs (Finite d)
-  unbounded : Endless (pair_graph f) → DelayBy f xs Unbounded
+-- The delay, or that there is none, by the walks over the pairs of f.
+pub data DelayBy (f : List ℕ) : Verdict → Type 0 where
+  finite : {d : SymbolCount} {r : ℕ} → LongestWalk f r → d.0 ≡ delay_of (some_rivals f) r → DelayBy f (Finite d)
+  unbounded : Endless (pair_graph f) → DelayBy f Unbounded
 
 -- The verdict is found so, and the working buffer is zero.
 pub record Measured (f w w' : List ℕ) (v : Verdict) : Type 0 where
-  pub xs : List ℕ
-  pub delay : DelayBy f xs v
+  pub delay : DelayBy f v
   pub work : w' ≡ zeroed w
 
 -- A clear list has a clear mark for each cell.
@@ -56,19 +55,19 @@ pub given-laid : {f xs w : List ℕ} → Given f xs w → Laid f
 given-laid g = g.laid
 
 -- The longest walk reads few enough symbols that one more can be counted.
-pub extent-low : {f xs : List ℕ} {e : Extent} {r : ℕ} → Laid f → ExtentOf f xs e → e ≡ Most r → r ≤ unordered_pairs limits
+pub extent-low : {f : List ℕ} {e : Extent} {r : ℕ} → Laid f → ExtentOf f e → e ≡ Most r → r ≤ unordered_pairs limits
 extent-low l x p = omega (arith, pairs-limited l, (was-finite x p).low)
 
-module _ {f xs : List ℕ} where
-  pub by-finite : {e : Extent} {r : ℕ} {b : Bool} {d : SymbolCount} → ExtentOf f xs e → e ≡ Most r → b ≡ some_rivals f → d.0 ≡ delay_of b r → DelayBy f xs (Finite d)
+module _ {f : List ℕ} where
+  pub by-finite : {e : Extent} {r : ℕ} {b : Bool} {d : SymbolCount} → ExtentOf f e → e ≡ Most r → b ≡ some_rivals f → d.0 ≡ delay_of b r → DelayBy f (Finite d)
   by-finite {r = r} x p q h = finite {r = r} (was-finite x p) (rw q at h)
 
-  pub by-unbounded : {e : Extent} → ExtentOf f xs e → e ≡ Without-most → DelayBy f xs Unbounded
+  pub by-unbounded : {e : Extent} → ExtentOf f e → e ≡ Without-most → DelayBy f Unbounded
   by-unbounded (Answer.finite p) q = let z : ◌≡◌ {A = ℕ} 0 1 = cc in absurd (omega arith)
   by-unbounded (Answer.unbounded u) q = unbounded u
 
-  pub measured : {w w' : List ℕ} {n : ℕ} {v : Verdict} → n ≡ length w → w' ≡ replicate n 0 → DelayBy f xs v → Measured f w w' v
-  measured long clear d = record { xs = xs; delay = d; work = rw long at clear }
+  pub measured : {w w' : List ℕ} {n : ℕ} {v : Verdict} → n ≡ length w → w' ≡ replicate n 0 → DelayBy f v → Measured f w w' v
+  measured long clear d = record { delay = d; work = rw long at clear }
 
 module _ {t : Table} {f : List ℕ} (laid : LaidOut t f) (ended : Ended t f) (none : NoGoal (open_graph f)) where
   deciphered : Decipherable t
@@ -79,6 +78,6 @@ module _ {t : Table} {f : List ℕ} (laid : LaidOut t f) (ended : Ended t f) (no
   by-rivals r false e l = no-rivals-delay (none-part laid ended e)
 
   -- Where no walk leads to two ends, the verdict by the walks holds, whatever stands for the message and its readings.
-  pub delay-means : {xs : List ℕ} {v : Verdict} (x s u : List ℕ) → DelayBy f xs v → VerdictMeans t x s u v
+  pub delay-means : {v : Verdict} (x s u : List ℕ) → DelayBy f v → VerdictMeans t x s u v
   delay-means x s u (finite {r = r} l e) = (deciphered, rw e (by-rivals r (some_rivals f) refl l.longest))
   delay-means x s u (unbounded e) = (deciphered, search-without-bound (rival-shows laid ended) laid.fits.plain e)

@@ -22,11 +22,10 @@ fn delay_of(rivals: bool, longest: usize) -> SymbolCount
     SymbolCount(0)
 }
 
-// The verdict on a decipherable code: its delay, or that it is without bound. No pair may be marked in the list; with a delay it is left with the height of each pair
-// that was met.
+// The verdict on a decipherable code: its delay, or that it is without bound. No pair may be marked in the list.
 pub fn measure(places: &[u8], work: &mut [u64]) -> Verdict
     requires { Given places.now (marks places.now work.old) work.old }
-    ensures { DelayBy places.now (marks places.now work.new) result }
+    ensures { DelayBy places.now result }
 {
     match pair_longest::longest(places, work) {
         Extent::Finite(longest) => {

@@ -3,7 +3,6 @@
 ghost use Rattle.code.specs.Definitions.Enlarged.{original_table};
 ghost use Rattle.code.specs.Definitions.Operations.{HasUnknown, HasForbidden};
 ghost use Rattle.code.specs.Definitions.Sheets.{limits};
-ghost use Rattle.code.specs.Definitions.Tables.{Permitted};
 ghost use Rattle.well_enlarged.specs.WellEnlarged.{WellEnlarged};
 ghost use Rattle.code.specs.Laws.Exactly.{Exactly};
 ghost use Rattle.encode_permitted.specs.Originals.{Original};
@@ -55,16 +54,4 @@ pub fn has_forbidden(e: Enlarged, words: &[u8]) -> bool
         i += 1;
     }
     false
-}
-
-// Whether a sequence of word numbers is a permitted sequence of original words.
-pub fn is_permitted(e: Enlarged, words: &[u8]) -> bool
-    requires { WellEnlarged limits e }
-    ensures { Exactly result (Permitted (original_table e) words.now) }
-{
-    if has_unknown(e, words) {
-        false
-    } else {
-        !has_forbidden(e, words)
-    }
 }

@@ -2,8 +2,7 @@
 // search goes through its successors, an entry on the stack; both stand in the list that the caller lends. Each slot of a pair is looked up
 // once: its height through the slots passed stands above the pair in its entry.
 
-ghost use Rattle.std.specs.Prelude.{◌≡◌, ◌+◌, ◌-◌, ◌≤◌, ◌<◌, max};
-ghost use Rattle.code.specs.Laws.Exactly.{Exactly};
+ghost use Rattle.std.specs.Prelude.{◌≡◌, ◌-◌, ◌≤◌, ◌<◌, max};
 ghost use Rattle.pair_storage.specs.Fields.{above_room, mark_room};
 ghost use Rattle.pair_storage.specs.Entries.{entries_in};
 ghost use Rattle.pair_storage.specs.Marks.{marks};
@@ -38,14 +37,6 @@ pub fn height_at(places: &[u8], work: &[u64], pair: Pair) -> usize
     ensures { (result ≡ mark_of places.now (marks places.now work.now) pair - finished_from) × (result < mark_room) }
 {
     pair_storage::mark(places, work, pair) - Mark::FINISHED
-}
-
-// Whether a pair is finished and has this height.
-pub fn has_height(places: &[u8], work: &[u64], pair: Pair, height: usize) -> bool
-    requires { Marked places.now (marks places.now work.now) pair × (height < above_room) }
-    ensures { Exactly result (mark_of places.now (marks places.now work.now) pair ≡ height + finished_from) }
-{
-    pair_storage::mark(places, work, pair) == height + Mark::FINISHED
 }
 
 // The greater of two heights.

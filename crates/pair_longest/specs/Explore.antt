@@ -40,7 +40,6 @@ pub record Explored (f : List ℕ) (v : ℕ) (xs : List ℕ) (n : ℕ) : Type 0 
   pub more : n ≡ edges + 1
   pub height : Height (pair_graph f) v edges
   pub low : n ≤ total (finished (pair_graph f)) xs
-  pub met : 1 ≤ get_or xs v 0
 
 -- A pair that has a mark is a node.
 pub marked-node : {f xs : List ℕ} (p : Pair) → Marked f xs p → pair_cell f p < cell_count f
@@ -89,7 +88,7 @@ run-cycle (closed x) q = unbounded x
 by-mark : {f xs : List ℕ} {v h : ℕ} → Idle (pair_graph f) xs → 1 ≤ get_or xs v 0 → h ≡ get_or xs v 0 - finished_from → Answer f (Explored f v xs) (Finite (h + 1))
 by-mark {v = v} {h = h} i m e =
     let d = all_finished i v m in
-    finite (record { idle = i; edges = h; more = refl; height = rw e (i.marks.height v d); low = omega (arith, i.marks.low v d); met = m })
+    finite (record { idle = i; edges = h; more = refl; height = rw e (i.marks.height v d); low = omega (arith, i.marks.low v d) })
 
 module _ {f xs : List ℕ} {p : Pair} where
   -- The stack is empty: the root is finished.

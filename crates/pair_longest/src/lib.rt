@@ -51,7 +51,7 @@ fn run(places: &[u8], work: &mut [u64], root: Pair) -> Extent
 }
 
 // How many symbols the longest walk from a root reads; a root that an earlier search met is finished.
-pub fn explore(places: &[u8], work: &mut [u64], first: Pair) -> Extent
+fn explore(places: &[u8], work: &mut [u64], first: Pair) -> Extent
     requires { AtRoot places.now (marks places.now work.old) work.old first }
     ensures { Answer places.now (Explored places.now (pair_cell places.now first) (marks places.now work.new)) result }
 {
@@ -104,10 +104,10 @@ fn row(places: &[u8], work: &mut [u64], x: usize, before: usize) -> Extent
     Extent::Finite(most)
 }
 
-// How many symbols the longest walk over the pairs of a code reads, the first pairs being its roots. The marks are left with the heights of the pairs met.
+// How many symbols the longest walk over the pairs of a code reads, the first pairs being its roots.
 pub fn longest(places: &[u8], work: &mut [u64]) -> Extent
     requires { Given places.now (marks places.now work.old) work.old }
-    ensures { ExtentOf places.now (marks places.now work.new) result }
+    ensures { ExtentOf places.now result }
 {
     let words = pair_places::word_count(places);
     let mut most: usize = 0;

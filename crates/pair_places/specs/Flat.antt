@@ -70,13 +70,9 @@ module _ (f : List ℕ) where
   abbrev pub may_come : ℕ → ℕ → Bool
   may_come x y = if eqb y at_start then begins_at x else may_follow x y
 
-  -- how many words some permitted sequence has that ends with word z, 0 where none does; not 0 for the start
-  abbrev pub depth_at : ℕ → ℕ
-  depth_at z = get_or f (endings_from + z) 0
-
   -- word z ends some permitted sequence, or z is the start
   abbrev pub ending_at : ℕ → Bool
-  ending_at z = ltb 0 (depth_at z)
+  ending_at z = eqb (get_or f (endings_from + z) 0) 1
 
   -- some word may not begin
   abbrev pub opens_at : Bool

@@ -1,7 +1,7 @@
 -- Readings in the numbers of original words. In the order of the origins, the first readings of a code with copies by number are by name the first of the table
 -- of original words (Matches); where there are no copies, each number is its own name.
-use Rattle.std.specs.Prelude.{◌≡◌, refl, List, [], ◌∷◌, map, ℕ, ◌≤◌, ◌<◌, get_or}
-use Rattle.std.proofs.Common.{sym, ap, ap₂, ◌∙◌, subst, subst₂, arith}
+use Rattle.std.specs.Prelude.{◌≡◌, refl, List, [], ◌∷◌, ◌++◌, map, ℕ, ◌≤◌, ◌<◌, length, take, drop, get_or}
+use Rattle.std.proofs.Common.{sym, ap, ap₂, ◌∙◌, subst, subst₂, arith, take_at, drop_at}
 use Rattle.std.proofs.lemmas.List.{length-map}
 use Rattle.code.specs.declared.Code.{Code}
 use Rattle.code.specs.declared.Enlarged.{Enlarged}
@@ -24,10 +24,13 @@ use Rattle.read_walks.specs.declared.Found.{Found}
 use Rattle.read_core.specs.Core.{Finds, unreadable, one, two, FindsAll}
 use Rattle.read_core.specs.Counts.{first_count, second_count, reads-within}
 use Rattle.renumbering.specs.Origins.{Origins, ByOrigin}
-use Rattle.renumbering.specs.Renaming.{renamed, renamed-written}
 use Rattle.renumbering.specs.Renumberings.{number_in, renumbered-fits, renumbered-agrees}
 use Rattle.code.specs.Laws.WellFormed.{WellFormed}
 use Rattle.code.specs.Laws.Words.{size-count}
+
+-- A buffer whose first n words have their names.
+abbrev pub renamed : List ℕ → ℕ → List ℕ → List ℕ
+renamed names n b = map (λ (x : ℕ). get_or names x 0) (take n b) ++ drop n b
 
 -- Words below n that two functions name alike have the same names.
 map-within : (n : ℕ) (f g : ℕ → ℕ) → ((x : ℕ) → x < n → f x ≡ g x) → (s : List ℕ) → Within n s → map f s ≡ map g s
@@ -37,6 +40,11 @@ map-within n f g same (x ∷ s) w = ap₂ ◌∷◌ (same x w.0) (map-within n f
 map-own : (n : ℕ) (f : ℕ → ℕ) → ((x : ℕ) → x < n → f x ≡ x) → (s : List ℕ) → Within n s → map f s ≡ s
 map-own n f same [] w = refl
 map-own n f same (x ∷ s) w = ap₂ ◌∷◌ (same x w.0) (map-own n f same s w.1)
+
+-- Names in place of the words of a reading
+renamed-written : (names : List ℕ) {c : ℕ} {b' b'' : List ℕ} (s b : List ℕ) → c ≡ length s → b' ≡ written s b → b'' ≡ renamed names c b' → b'' ≡ written (map (λ (x : ℕ). get_or names x 0) s) b
+renamed-written names s b e p q =
+    q ∙ rw (p, e, take_at s (drop (length s) b) (length s) refl, drop_at s (drop (length s) b) (length s) refl, length-map s (λ (x : ℕ). get_or names x 0))
 
 module _ {l : Limits} {e : Enlarged} (w : WellEnlarged l e) where
   -- The origins of a value are as ordering by them needs.

@@ -3,4 +3,3 @@ pub mod Renumberings
 pub mod Reordering
 pub mod Listing
 pub mod Origins
-pub mod Renaming

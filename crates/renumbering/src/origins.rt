@@ -1,9 +1,8 @@
 // The order in which a code with copies is read: each word, then its copies; and the names of what is read.
 
-ghost use Rattle.std.specs.Prelude.{◌≡◌, ℕ, ◌≤◌, ◌<◌, length, get_or};
+ghost use Rattle.std.specs.Prelude.{◌≡◌, ◌++◌, map, ℕ, ◌≤◌, ◌<◌, length, take, drop, get_or};
 ghost use Rattle.code.specs.Definitions.Sheets.{limits};
 ghost use Rattle.renumbering.specs.Origins.{Origins, ListedTo, ByOrigin};
-ghost use Rattle.renumbering.specs.Renaming.{renamed};
 
 use code::Code;
 
@@ -50,7 +49,7 @@ pub fn by_origin(origins: &[u8], originals: usize, count: usize) -> [u8; Code::W
 // Puts the name of each of the first n words in its place.
 pub fn rename(words: &mut [u8], n: usize, names: &[u8])
     requires { (n ≤ length words.old) × ((i : ℕ) → i < n → get_or words.old i 0 < length names.now) }
-    ensures { words.new ≡ renamed names.now n words.old }
+    ensures { words.new ≡ map (λ (x : ℕ). get_or names.now x 0) (take n words.old) ++ drop n words.old }
 {
     let mut i: usize = 0;
     while i < n {

@@ -34,11 +34,6 @@ pub exactly-not : {r : Bool} {P : Type 0} → Exactly r P → Exactly (not r) (P
 exactly-not {r = true} t = exactly-false (λ n. n (t.yes refl))
 exactly-not {r = false} t = exactly-true (t.no refl)
 
--- Where the contrary is false, it holds.
-pub exactly-not-false : {r : Bool} {P : Type 0} → Exactly r P → not r ≡ false → P
-exactly-not-false {r = true} t e = t.yes refl
-exactly-not-false {r = false} t e = absurd (true≢false e)
-
 -- Every Bool says whether it is true.
 pub exactly-itself : (r : Bool) → Exactly r (r ≡ true)
 exactly-itself r = record { yes = λ e. e; no = λ e f. false≢true (sym e ∙ f) }

@@ -8,7 +8,7 @@ use Prim.Native.Nat.{ℕ, ◌≤◌, ◌<◌}
 use native.Mathlib.Omega.{arith}
 use lib.ListN.{length, take, replicate}
 use lib.Seq.{take_all}
-use borrow.Author.Tests.{not-true}
+use borrow.Author.Tests.{not-true, not-false}
 use Rattle.code.specs.declared.Enlarged.{Enlarged}
 use Rattle.code.specs.declared.Naming.{Naming}
 use Rattle.code.specs.declared.Naming.TheVariants.{Named, Refused}
@@ -100,7 +100,7 @@ module _ {e : Enlarged} (well : WellEnlarged limits e) where
                 ]
 
   -- What the searches say.
-  module _ {places xs : List ℕ} {b : Bound} (laid : LaidOut (table_of e.code) places) (ended : Ended (table_of e.code) places) (h : BoundBy places xs b) where
+  module _ {places : List ℕ} {b : Bound} (laid : LaidOut (table_of e.code) places) (ended : Ended (table_of e.code) places) (h : BoundBy places b) where
     pub way-21 : {m : List ℕ} → b ≡ Nothing → Told e m (Refused NoFiniteDelay)
     way-21 q = not-told (inl (named-endless (value-covers well) (nothing-means laid ended h q), refl))
 
@@ -130,3 +130,6 @@ module _ {e : Enlarged} (m w : List ℕ) where
       pub way-told : {w' : List ℕ} {r : Naming} {k : ℕ} → verdict_work limits ≤ length w → Told e m r → k ≡ length w → w' ≡ replicate k 0 → NamesNext limits e m w w' r
       way-told h (not-told l) q z = unnamed (λ n. n from, (λ n. omega arith, (λ n. omega arith, tt))) l (rw q at z)
       way-told h (told n f) q z = named (λ n. n from, (λ n. omega arith, (λ n. omega arith, tt))) n f (rw q at z)
+
+pub from-tested : {e : Enlarged} {t : Bool} → Exactly t (FromLists limits e) → not t ≡ false → FromLists limits e
+from-tested {t = t} x h = x.yes (not-false t h)

@@ -1,13 +1,12 @@
 -- Words replaced by their names, from the front of a buffer.
 use mathlib.Core.Path.{◌≡◌, sym, ap, ◌∙◌}
-use mathlib.Core.List.{List, map}
+use mathlib.Core.List.{List, ◌++◌, map}
 use Prim.Native.Nat.{ℕ, suc, ◌+◌, ◌≤◌, ◌<◌}
 use native.Mathlib.Omega.{arith}
 use lib.ListN.{length, take, drop, get_or, set, length-map, get_or-map}
 use lib.Seq.{length-take-le, get_or-take, get_or_at, drop-cons}
 use Rattle.code.specs.Definitions.Lists.{tabulate}
 use Rattle.code.specs.Laws.Lists.{length-tabulate, tabulate-list}
-use Rattle.renumbering.specs.Renaming.{renamed}
 use Rattle.renumbering.specs.Reordering.{Filled, filled_more}
 
 -- the name of what stood at i
@@ -24,7 +23,7 @@ module _ (names : List ℕ) (n : ℕ) (was : List ℕ) (room : n ≤ length was)
   pub named_more : i < n → Filled (name_at names was) n was (set now i (name_at names now i)) (i + 1)
   named_more h = filled_more (name_at names was) n was filled h room (name_at names now i) (ap (λ (x : ℕ). get_or names x 0) (unnamed h))
 
-  pub named-all : n ≤ i → now ≡ renamed names n was
+  pub named-all : n ≤ i → now ≡ map (λ (x : ℕ). get_or names x 0) (take n was) ++ drop n was
   named-all h =
       let name : ℕ → ℕ = λ x. get_or names x 0 in
       let end : i ≡ n = omega (arith, filled.upto) in
