@@ -1,5 +1,7 @@
 // Enlarging a code by a list of bans that look two words back: copies of words are collected, and words, origins and matrix filled in by them.
 
+#![tactic(auto)]
+
 pub mod adding;
 pub mod filling;
 
@@ -18,7 +20,7 @@ use code::{Code, Enlarged, Enlargement, Refusal, SheetAnswer};
 use filling::fill;
 
 // Copies as they are collected, behind the words of a code. What stands past the last copy is zero.
-#[derive(Drop)]
+#[derive(Clone, Copy)]
 pub struct Copies {
     // the words of the code
     pub originals: usize,

@@ -1,5 +1,7 @@
 // Enlarging a code by a ban list of any bytes: the lowest refusal that holds, 1, 8, 16 or 17, or the code with the copies that its bans need.
 
+#![tactic(auto)]
+
 ghost use Rattle.std.specs.Prelude.{◌≡◌};
 ghost use Rattle.code.specs.Definitions.Operations.{WithoutCopies, Enlarges};
 ghost use Rattle.code.specs.Definitions.Sheets.{limits};

@@ -10,7 +10,7 @@ ghost use Rattle.ban_list.specs.Ensured.{FieldAt, RecordFrom};
 use csv_records::{byte_at, field_end};
 
 // A field: its number, or how many words there are if it is none of theirs; where it ends; whether it is the last of its record.
-#[derive(Drop)]
+#[derive(Clone, Copy)]
 pub struct Field {
     pub number: usize,
     pub end: usize,
@@ -18,7 +18,7 @@ pub struct Field {
 }
 
 // That a record is no ban; or X, Y, Z, and where the next record begins.
-#[derive(Drop)]
+#[derive(Clone, Copy)]
 pub enum Record {
     Wrong,
     Ban(usize, usize, usize, usize),

@@ -1,6 +1,8 @@
 // Reading a ban list: for every byte string whether it is refused 16, or the bans that it gives. One pass says which bytes they are, and one goes from record to
 // record.
 
+#![tactic(auto)]
+
 pub mod fields;
 
 ghost use Rattle.std.specs.Prelude.{◌≡◌, map, ◌≤◌, length};
@@ -13,7 +15,7 @@ use csv_records::{bad_bytes, body_len};
 use fields::{Record, read_record};
 
 // That a list is refused 16, or how many bans it gives.
-#[derive(Drop)]
+#[derive(Clone, Copy)]
 pub enum BanList {
     Wrong,
     Bans(usize),

@@ -1,5 +1,7 @@
 // The answers as numbers: each function writes the four entries of a result, and gives the number to return.
 
+#![tactic(auto)]
+
 ghost use Rattle.std.specs.Prelude.{◌≡◌, [], ◌∷◌, ◌≤◌, ltb, length};
 ghost use Rattle.code.specs.Definitions.Answers.{refusal_number};
 ghost use Rattle.code.specs.Definitions.Operations.{written};
@@ -7,7 +9,7 @@ ghost use Rattle.c_answers.specs.Answers.{answer_length, encoding_number, encodi
 
 use code::{Encoding, Judgement, Naming, Reading, Refusal, Splitting, Verdict};
 
-#[derive(Drop)]
+#[derive(Clone, Copy)]
 pub struct Answer {}
 
 impl Answer {

@@ -1,6 +1,8 @@
 // The image of a code with copies: the bytes in which a table crosses to C or Rust. For each of the 32 words its 16 symbols and then its length; then the
 // 32 rows of 32 entries each; then the 32 start marks; then the count; then how many words are originals, the 32 origins and the 32 words behind.
 
+#![tactic(auto)]
+
 ghost use Rattle.std.specs.Prelude.{◌≡◌, ◌+◌, ◌≤◌, length};
 ghost use Rattle.std.proofs.lemmas.List.Edits.{sets};
 ghost use Rattle.code.specs.Definitions.Operations.{written};
@@ -10,7 +12,7 @@ ghost use Rattle.c_image.specs.Image.{word_width, rows_place, code_length, image
 use code::{Code, Enlarged, Row, Word};
 use copying::copy_at;
 
-#[derive(Drop)]
+#[derive(Clone, Copy)]
 pub struct Image {}
 
 impl Image {

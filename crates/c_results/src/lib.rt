@@ -1,5 +1,7 @@
 // What the operations for C and Rust give into a lent buffer: a table as its image, classes as their entries.
 
+#![tactic(auto)]
+
 ghost use Rattle.std.specs.Prelude.{◌≡◌, min, ◌≤◌, length};
 ghost use Rattle.c_answers.specs.Answers.{short_number};
 ghost use Rattle.code.specs.declared.SheetAnswer.TheVariants.{Accepted};

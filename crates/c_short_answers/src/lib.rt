@@ -1,6 +1,8 @@
 // The refusals of operations whose answer is too short to be told. Each operation is asked with no room in any buffer: it finds the refusals that come before 13,
 // or 13 holds.
 
+#![tactic(auto)]
+
 ghost use Rattle.std.specs.Prelude.{[]};
 ghost use Rattle.code.specs.Definitions.NextWords.{naming_conditions};
 ghost use Rattle.code.specs.Definitions.Operations.{encoding_conditions, reading_conditions, verdict_conditions};

@@ -1,5 +1,7 @@
 // The records of a class sheet, one at a time: the range of bytes that it names, and their symbol.
 
+#![tactic(auto)]
+
 ghost use Rattle.std.specs.Prelude.{◌≡◌, true, ◌≤◌, ◌<◌, length, drop};
 ghost use Rattle.code.specs.Definitions.ClassSheets.{symbol_of, byte_of, digits};
 ghost use Rattle.code.specs.Definitions.Texts.{other};
@@ -10,7 +12,7 @@ ghost use Rattle.class_records.specs.Ensured.{Formed, RecordFrom};
 use csv_records::{byte_at, field_end, value_of};
 
 // That a record is malformed; or its lowest byte, its highest byte, its symbol, and where the next record begins.
-#[derive(Drop)]
+#[derive(Clone, Copy)]
 pub enum Record {
     Wrong,
     Range(u8, u8, u8, usize),

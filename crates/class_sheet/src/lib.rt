@@ -1,6 +1,8 @@
 // Taking in a class sheet: for every byte string the lowest refusal that holds, or the classes that the sheet gives. One pass says which bytes they are, and one
 // goes from record to record.
 
+#![tactic(auto)]
+
 ghost use Rattle.std.specs.Prelude.{◌≡◌, ◌<◌, length, replicate};
 ghost use Rattle.code.specs.Definitions.ClassSheets.{different_bytes, no_classes, taken_classes};
 ghost use Rattle.code.specs.Definitions.Lists.{any};

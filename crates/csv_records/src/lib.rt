@@ -1,6 +1,8 @@
 // The bytes of an RFC 4180 file of digits, a code sheet or another: which may stand in it, where it ends, and how far a field goes. In specs/ also how such a file
 // is written, and that it is read back.
 
+#![tactic(auto)]
+
 ghost use Rattle.std.specs.Prelude.{◌≡◌, true, false, ◌+◌, ◌≤◌, length, take, drop, get_or};
 ghost use Rattle.code.specs.Definitions.Sheets.{is_digit, value_of, bad_bytes, body};
 ghost use Rattle.csv_records.specs.Fields.{bad_byte, after_cr, leading};

@@ -1,6 +1,8 @@
 // The verdict on a code with copies or without: ambiguous, decipherable with its delay, or decipherable without bound. The shortest message of a walk over the
 // pairs of places to two ends is looked for; where there is none, the longest walk tells the delay.
 
+#![tactic(auto)]
+
 ghost use Rattle.std.specs.Prelude.{◌≡◌, ◌≤◌, length};
 ghost use Rattle.code.specs.Definitions.Enlarged.{original_table};
 ghost use Rattle.code.specs.Definitions.Operations.{zeroed, verdict_work, Judges};

@@ -1,5 +1,7 @@
 // The verdict on an ambiguous code, from a message that has several readings.
 
+#![tactic(auto)]
+
 ghost use Rattle.std.specs.Prelude.{◌≤◌, ◌<◌, length};
 ghost use Rattle.code.specs.Definitions.Enlarged.{original_table};
 ghost use Rattle.code.specs.Definitions.Operations.{unordered_pairs};

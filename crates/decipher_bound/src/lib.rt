@@ -1,5 +1,7 @@
 // The delay of a code, by the searches over its pairs, or that it has none.
 
+#![tactic(auto)]
+
 ghost use Rattle.std.specs.Prelude.{◌≤◌, length};
 ghost use Rattle.pair_places.specs.Flat.{Laid};
 ghost use Rattle.pair_places.specs.Roots.{Numbered};
@@ -9,7 +11,7 @@ ghost use Rattle.decipher_bound.specs.Bounds.{BoundBy};
 use code::{SymbolCount, Verdict};
 
 // The delay, or that there is none: the code is ambiguous, or decipherable without bound.
-#[derive(Drop)]
+#[derive(Clone, Copy)]
 pub enum Bound {
     Delay(SymbolCount),
     Nothing,

@@ -1,5 +1,7 @@
 // The verdict on a decipherable code, from the longest walk over its pairs: its delay, or that it is without bound.
 
+#![tactic(auto)]
+
 ghost use Rattle.std.specs.Prelude.{◌≡◌, ◌≤◌};
 ghost use Rattle.code.specs.Definitions.Operations.{unordered_pairs};
 ghost use Rattle.code.specs.Definitions.Sheets.{limits};

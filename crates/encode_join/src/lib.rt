@@ -1,5 +1,7 @@
 // The message of a sequence, its words' symbols joined: one pass over the sequence counts them, another writes them into a lent buffer.
 
+#![tactic(auto)]
+
 ghost use Rattle.std.specs.Prelude.{◌≡◌, ◌+◌, ◌≤◌, min, length};
 ghost use Rattle.std.proofs.Math.Seq.{paste};
 ghost use Rattle.code.specs.Definitions.Operations.{written};

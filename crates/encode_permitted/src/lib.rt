@@ -1,5 +1,7 @@
 // Whether a sequence of words is permitted: refusals 9 and 10, a pass over the sequence each.
 
+#![tactic(auto)]
+
 ghost use Rattle.code.specs.Definitions.Enlarged.{original_table};
 ghost use Rattle.code.specs.Definitions.Operations.{HasUnknown, HasForbidden};
 ghost use Rattle.code.specs.Definitions.Sheets.{limits};

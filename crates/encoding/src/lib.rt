@@ -1,6 +1,8 @@
 // Encoding: the symbols of a sequence's words, joined in a lent buffer. Refusals 9, 10 and 11 are a pass over the sequence each (`encode_permitted`, `encode_join`); a last
 // pass writes.
 
+#![tactic(auto)]
+
 ghost use Rattle.code.specs.Definitions.Operations.{Encodes};
 ghost use Rattle.code.specs.Definitions.Sheets.{limits};
 

@@ -1,6 +1,8 @@
 // The operations for C and for Rust. A table crosses as its image, a flat run of bytes, and classes as their entries; an answer crosses as the number returned, 0 for a result or the
 // refusal's, and as entries of a lent buffer. include/furlazon.h declares these functions for C.
 
+#![tactic(auto)]
+
 ghost use Rattle.furlazon.specs.Calls.{TakesIn, ClassesCall, TurkishCall, TurkishClassesCall, EnlargeCall, EncodeCall, ReadCall, NextCall, SplitCall, VerdictCall};
 
 use c_answers::{

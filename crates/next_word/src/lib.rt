@@ -1,5 +1,7 @@
 // The next word of a message, from as few symbols as the delay of the code: the one word that begins a permitted sequence with these first symbols.
 
+#![tactic(auto)]
+
 mod telling;
 
 ghost use Rattle.std.specs.Prelude.{◌≤◌, ◌<◌, length, take};

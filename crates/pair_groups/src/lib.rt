@@ -1,5 +1,7 @@
 // One group of the queue: where it ends, and what comes next from its members, symbol after symbol, member after member.
 
+#![tactic(auto)]
+
 mod members;
 
 ghost use Rattle.std.specs.Prelude.{◌+◌, ◌≤◌, ◌<◌, length};
@@ -20,7 +22,7 @@ use pair_slots::{Progress, Turns, inner, key, turning};
 use pair_storage::pair_at;
 
 // A group of the queue: entries `start` to `end` - 1.
-#[derive(Drop)]
+#[derive(Clone, Copy)]
 pub struct Group {
     pub start: usize,
     pub end: usize,

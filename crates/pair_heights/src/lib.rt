@@ -2,6 +2,8 @@
 // search goes through its successors, an entry on the stack; both stand in the list that the caller lends. Each slot of a pair is looked up
 // once: its height through the slots passed stands above the pair in its entry.
 
+#![tactic(auto)]
+
 ghost use Rattle.std.specs.Prelude.{◌≡◌, ◌-◌, ◌≤◌, ◌<◌, max};
 ghost use Rattle.pair_storage.specs.Fields.{above_room, mark_room};
 ghost use Rattle.pair_storage.specs.Entries.{entries_in};
@@ -16,7 +18,7 @@ use code::Code;
 use pair_places::Pair;
 
 // After one transition: how many entries the stack has, or that a cycle is closed.
-#[derive(Drop)]
+#[derive(Clone, Copy)]
 pub enum Progress {
     Depth(usize),
     Cycle,
@@ -24,7 +26,7 @@ pub enum Progress {
 
 // The mark of a pair is 0 before the search meets it, 1 more than its next slot while it is on the stack, and `FINISHED` more than its
 // height after that.
-#[derive(Drop)]
+#[derive(Clone, Copy)]
 struct Mark {}
 
 impl Mark {

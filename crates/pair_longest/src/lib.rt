@@ -1,6 +1,8 @@
 // The longest walk over the pairs of a code, from which its delay follows: a depth-first search from each first pair of two words in turn,
 // over the same marks and the same stack, which stand in one list.
 
+#![tactic(auto)]
+
 ghost use Rattle.std.specs.Prelude.{◌+◌, ◌≤◌, ◌<◌, length};
 ghost use Rattle.code.specs.Definitions.Sheets.{limits};
 ghost use Rattle.pair_places.specs.Steps.{pair_cell};
@@ -17,7 +19,7 @@ use pair_heights::{Progress, advance, height_at};
 use pair_places::Pair;
 
 // How many symbols the longest walk reads, or that no walk is the longest.
-#[derive(Drop)]
+#[derive(Clone, Copy)]
 pub enum Extent {
     Finite(usize),
     Unbounded,

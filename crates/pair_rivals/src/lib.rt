@@ -1,5 +1,7 @@
 // Rivals: words that may both begin, or both follow the last word of one permitted sequence. They are where two sequences part.
 
+#![tactic(auto)]
+
 ghost use Rattle.std.specs.Prelude.{◌≡◌, ◌≤◌, ◌<◌};
 ghost use Rattle.code.specs.Definitions.Sheets.{limits};
 ghost use Rattle.pair_places.specs.Flat.{Laid, both_behind, rivals_at, first_node};

@@ -6,6 +6,8 @@
 // first pair of two ends that comes next has the least. The message is then read off the entries, back to front. The marks of the pairs met
 // and the queue stand in one list, which the caller lends.
 
+#![tactic(auto)]
+
 mod message;
 
 ghost use Rattle.std.specs.Prelude.{◌≡◌, ◌+◌, ◌≤◌, ◌<◌, length};
@@ -23,21 +25,21 @@ use pair_groups::{Group, expand_group, group_end};
 use pair_slots::Progress;
 
 // The length of the message, or that there is none.
-#[derive(Drop)]
+#[derive(Clone, Copy)]
 pub enum Search {
     Found(usize),
     Nothing,
 }
 
 // After a group: a goal comes next by a symbol; or where the next group starts, and how many entries the queue has.
-#[derive(Drop)]
+#[derive(Clone, Copy)]
 enum Expansion {
     Goal(usize),
     Next(usize, usize),
 }
 
 // After the whole search: a goal comes next after the group that starts at an entry, by a symbol; or there is none.
-#[derive(Drop)]
+#[derive(Clone, Copy)]
 enum Exploration {
     Goal(usize, usize),
     Exhausted,

@@ -1,6 +1,8 @@
 // One pair of the search for the shortest message, or the source of all walks: whether it turns, how many of its slots may lead on by a symbol, what stands
 // where one leads, the key of its entry of the queue, and how a pair is met.
 
+#![tactic(auto)]
+
 pub mod meeting;
 
 ghost use Rattle.std.specs.Prelude.{◌≡◌, ◌≤◌, ◌<◌, length, get_or};
@@ -15,7 +17,7 @@ ghost use Rattle.pair_slots.specs.Widths.{inner_of, width};
 use code::Code;
 use pair_places::Pair;
 
-#[derive(Drop)]
+#[derive(Clone, Copy)]
 pub struct Turns {}
 
 impl Turns {
@@ -24,7 +26,7 @@ impl Turns {
 }
 
 // Where a slot leads: to nothing new, to a pair that was not met before, or to a pair of two ends.
-#[derive(Drop)]
+#[derive(Clone, Copy)]
 pub enum Arrival {
     Passed,
     Fresh,
@@ -32,7 +34,7 @@ pub enum Arrival {
 }
 
 // After a part of a group: a goal comes next by a symbol; or how many entries the queue has.
-#[derive(Drop)]
+#[derive(Clone, Copy)]
 pub enum Progress {
     Goal(usize),
     Tail(usize),

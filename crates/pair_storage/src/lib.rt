@@ -2,6 +2,8 @@
 // and entry k. A mark is found by the pair's two places. An entry has the two places as fields of their own, and another number above them; each field is taken out
 // by a shift and a mask.
 
+#![tactic(auto)]
+
 ghost use Rattle.std.specs.Prelude.{◌≡◌, ◌≤◌, ◌<◌, length, get_or};
 ghost use Rattle.code.specs.Definitions.Operations.{written};
 ghost use Rattle.pair_places.specs.Flat.{Laid, place_count, cell_count};
@@ -16,7 +18,7 @@ use pair_places::{Pair, place_count};
 
 // The widths of the fields, in bits: the mark in the lowest, then the higher place, the lower place, and the other number of the entry in those that are left. There
 // is room for 384 places, and for a number for each of their 73,920 pairs.
-#[derive(Drop)]
+#[derive(Clone, Copy)]
 struct Field {}
 
 impl Field {
@@ -31,7 +33,7 @@ impl Field {
     const PLACE_MASK: u64 = (1 << Field::PLACE) - 1;
 }
 
-#[derive(Drop)]
+#[derive(Clone, Copy)]
 struct Queue {}
 
 impl Queue {

@@ -1,5 +1,7 @@
 // The printed result: the bytes of a verdict or a refusal, for whoever writes them out.
 
+#![tactic(auto)]
+
 pub mod puts;
 
 ghost use Rattle.std.specs.Prelude.{◌≡◌, [], ◌∷◌, ◌++◌, map, ◌+◌, ◌≤◌, length};
@@ -16,7 +18,7 @@ use puts::{put_decimal, put_digits, put_reading};
 use writing::put;
 
 // How much of the verdict's three buffers a judgement shows: symbols of the message, words of the first reading and of the second.
-#[derive(Drop)]
+#[derive(Clone, Copy)]
 pub struct Lengths {
     pub message: usize,
     pub first: usize,

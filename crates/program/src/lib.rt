@@ -1,6 +1,8 @@
 // What the programs share: a word of help, the files that their arguments name, standard input and standard output, and refusals told in words. Where a file
 // or a stream fails, a line on standard error tells it: `what`, which names the program and what it could not do, then the file and the system's reason.
 
+#![tactic(auto)]
+
 pub mod refusals;
 
 ghost use Rattle.program.specs.Arguments.{Named};

@@ -1,5 +1,7 @@
 // Finding the readings of a message in a plain code: whether no, one or several permitted sequences of words have it, and the first two of them.
 
+#![tactic(auto)]
+
 ghost use Rattle.std.specs.Prelude.{◌≡◌, ◌+◌, ◌^◌, ◌≤◌, ◌<◌, length};
 ghost use Rattle.code.specs.Definitions.Sheets.{limits};
 ghost use Rattle.code.specs.Definitions.Tables.{table_of};

@@ -1,5 +1,7 @@
 // Which words begin a reading of the rest at which position of a message: a set of words for each position, from the last to the first.
 
+#![tactic(auto)]
+
 ghost use Rattle.std.specs.Prelude.{◌≡◌, ◌+◌, ◌≤◌, ◌<◌, length, replicate};
 ghost use Rattle.code.specs.Definitions.Sheets.{limits};
 ghost use Rattle.read_sets.specs.Sets.{Sized};

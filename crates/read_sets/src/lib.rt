@@ -1,6 +1,8 @@
 // A code as sets of words, numbers whose bit `x` stands for word `x`: for each symbol and index the words that have it there, for each length the words that
 // have it, for each word the words that it may come after. The start counts as one more word, after the last: a word that may begin comes after it.
 
+#![tactic(auto)]
+
 ghost use Rattle.std.specs.Prelude.{◌≡◌, ◌≤◌, ◌<◌, length, replicate};
 ghost use Rattle.code.specs.Definitions.Tables.{table_of};
 ghost use Rattle.code.specs.Definitions.Sheets.{limits};
@@ -13,7 +15,7 @@ ghost use Rattle.read_sets.specs.Rows.{RowSet, LaidRows};
 use bits::put;
 use code::{Code, Row, Word};
 
-#[derive(Drop)]
+#[derive(Clone, Copy)]
 pub struct Sets {}
 
 impl Sets {

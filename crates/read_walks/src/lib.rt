@@ -1,5 +1,7 @@
 // The readings that the marks show: the first, and from the last step where another word could be taken, the second.
 
+#![tactic(auto)]
+
 ghost use Rattle.std.specs.Prelude.{◌≡◌, ◌+◌, ◌^◌, ◌≤◌, ◌<◌, ◌∷◌, ◌++◌, length, take, drop};
 ghost use Rattle.read_marks.specs.Text.{From, Can};
 ghost use Rattle.read_walks.specs.Shown.{shown};
@@ -11,7 +13,7 @@ use copying::copy_at;
 use read_choices::{continues, seek};
 
 // What the marks show: no reading, the length of the only one, or the lengths of the first two. Which refusal that is, if any, is the caller's matter.
-#[derive(Drop)]
+#[derive(Clone, Copy)]
 pub enum Found {
     None,
     One(WordCount),
@@ -20,7 +22,7 @@ pub enum Found {
 
 // How far a walk has come: how many words it took, to which position, and which word last. At step `at`, which began at position `start`, it could also have
 // taken the word `other`, and no step after that one had a choice; where no step had, `other` is the number of words.
-#[derive(Drop)]
+#[derive(Clone, Copy)]
 pub struct Walk {
     pub count: usize,
     pub pos: usize,

@@ -1,5 +1,7 @@
 // Reading a message by a code with copies or without: whether no, one or several permitted sequences of original words have it, and the first two of them.
 
+#![tactic(auto)]
+
 pub mod named;
 
 ghost use Rattle.std.specs.Prelude.{◌≡◌};

@@ -1,5 +1,7 @@
 // Tables with their words in another order, and the order in which a code with copies is read.
 
+#![tactic(auto)]
+
 pub mod origins;
 
 ghost use Rattle.std.specs.Prelude.{◌≡◌, ℕ, ◌<◌, get_or};

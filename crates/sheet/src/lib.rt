@@ -1,6 +1,8 @@
 // Taking in a code sheet: for every byte string the lowest refusal that holds, or the table that the sheet gives. Three passes over the bytes:
 // which bytes they are (`csv`), what the records amount to (`sheet_survey`), and, for an accepted sheet, the table (`sheet_table`).
 
+#![tactic(auto)]
+
 ghost use Rattle.std.specs.Prelude.{◌≡◌, ◌≤◌, length};
 ghost use Rattle.code.specs.Definitions.Sheets.{limits, refused_by, taken, taken_grid};
 ghost use Rattle.code.specs.Laws.Clean.{Clean, record_fields};

@@ -1,5 +1,7 @@
 // What the records of a sheet amount to: one pass from field to field, with counts, and a flag for each refusal that a single record can show.
 
+#![tactic(auto)]
+
 ghost use Rattle.std.specs.Prelude.{◌≡◌, ◌+◌, ◌≤◌, ◌<◌, length, drop};
 ghost use Rattle.code.specs.Definitions.Sheets.{limits};
 ghost use Rattle.code.specs.Laws.Clean.{Clean, record_fields};
@@ -12,7 +14,7 @@ use csv_records::{byte_at, field_end};
 
 // `records` and `fields` count what has ended: records, and fields of the current record. `width` is the number of fields of the first record.
 // Which fields are row entries is known only at the end: so the second field has a flag of its own, and the later ones have another.
-#[derive(Drop)]
+#[derive(Clone, Copy)]
 pub struct Survey {
     pub records: usize,
     pub fields: usize,
@@ -25,7 +27,7 @@ pub struct Survey {
 }
 
 // A survey of what stands before `at`, where a field begins.
-#[derive(Drop)]
+#[derive(Clone, Copy)]
 pub struct Cursor {
     pub survey: Survey,
     pub at: usize,

@@ -1,5 +1,7 @@
 // The table of an accepted sheet, built in one pass from record to record, from the blank table on.
 
+#![tactic(auto)]
+
 ghost use Rattle.std.specs.Prelude.{◌≡◌, ◌+◌, ◌≤◌, length, drop};
 ghost use Rattle.code.specs.Definitions.Sheets.{limits, has_starts, word_of, code_of};
 ghost use Rattle.code.specs.Definitions.Lists.{tabulate};

@@ -1,19 +1,21 @@
 // An input taken whole, from a stream or from a file. A read that fails is not the end of the input, and one that was interrupted is tried again.
 
+#![tactic(auto)]
+
 ghost use Rattle.std.specs.Prelude.{length};
 ghost use Rattle.streams.specs.Inputs.{Holds, Within};
 
 use libc::EINTR;
 
 // The bytes at the start of a buffer, which are the whole input or fill the buffer; or an open or a read failed, and errno says why.
-#[derive(Drop)]
+#[derive(Clone, Copy)]
 pub enum Input {
     Bytes(usize),
     Failed,
 }
 
 // What one read gave.
-#[derive(Drop)]
+#[derive(Clone, Copy)]
 enum Step {
     Bytes(usize),
     End,

@@ -1,6 +1,8 @@
 // Splits the text on standard input into syllables: by the twelve Turkish types and letters, or by the code sheet in the file that its first argument names, and
 // by the letters of the class sheet in the file that its second argument names. Writes the result on standard output.
 
+#![tactic(auto)]
+
 ghost use Rattle.std.specs.Prelude.{◌≡◌, ◌<◌, length};
 ghost use Rattle.code.specs.declared.SheetAnswer.TheVariants.{Accepted};
 ghost use Rattle.code.specs.Definitions.ClassSheets.{FromClassSheet};
@@ -16,7 +18,7 @@ use program::{goes_on, read_named, read_standard, write_standard};
 use streams::Input;
 use well_enlarged::plain;
 
-#[derive(Drop)]
+#[derive(Clone, Copy)]
 pub struct Output {}
 
 impl Output {

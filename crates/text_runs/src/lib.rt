@@ -1,5 +1,7 @@
 // The words of a text: which bytes are letters, and the run of letters that a text begins with.
 
+#![tactic(auto)]
+
 ghost use Rattle.std.specs.Prelude.{◌≡◌, ◌≤◌, length};
 ghost use Rattle.code.specs.Definitions.Texts.{class_of, is_letter};
 ghost use Rattle.text_runs.specs.Runs.{LaysRun};

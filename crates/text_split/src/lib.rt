@@ -1,5 +1,7 @@
 // Splitting a text into syllables: each of its words is read by a code, and shown by what is found.
 
+#![tactic(auto)]
+
 ghost use Rattle.std.specs.Prelude.{◌≡◌, ◌≤◌};
 ghost use Rattle.code.specs.Definitions.Operations.{zeroed};
 ghost use Rattle.code.specs.Definitions.Sheets.{limits};

@@ -1,5 +1,7 @@
 // How a word of a text is shown: with breaks between its syllables, or in brackets.
 
+#![tactic(auto)]
+
 ghost use Rattle.std.specs.Prelude.{[], ◌∷◌, ◌++◌, ◌+◌, ◌*◌, ◌≤◌, length};
 ghost use Rattle.code.specs.Definitions.Lists.{join};
 ghost use Rattle.code.specs.Definitions.Texts.{syllable_break, syllables};
@@ -12,7 +14,7 @@ use code::WordCount;
 use writing::{put, put_field};
 
 // A word with one reading, which has so many syllables; a word without a reading; a word with several.
-#[derive(Drop)]
+#[derive(Clone, Copy)]
 pub enum Kind {
     Split(WordCount),
     None,
@@ -20,7 +22,7 @@ pub enum Kind {
 }
 
 // A word of a text: its kind, its place and its length.
-#[derive(Drop)]
+#[derive(Clone, Copy)]
 pub struct TextWord {
     pub kind: Kind,
     pub offset: usize,

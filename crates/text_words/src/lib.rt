@@ -1,5 +1,7 @@
 // The words of a text one by one. The sets of the code's words are laid out once and serve all of them.
 
+#![tactic(auto)]
+
 ghost use Rattle.std.specs.Prelude.{◌≡◌, ◌<◌, length};
 ghost use Rattle.text_words.specs.Kinds.{kind_of};
 ghost use Rattle.text_words.specs.Records.{Served, Recorded};

@@ -2,6 +2,8 @@
 // enlarged code, its copies, each with the word after which it stands, and the printed result of its verdict; and what becomes of the same list on the code that has
 // copies now. Then it tries tables that no accepted sheet gives. Lines end with CR LF, as those of a printed result do.
 
+#![tactic(auto)]
+
 mod values;
 
 use code::{Enlarged, Sheet, SheetAnswer};

@@ -1,5 +1,7 @@
 // What the programs that try the operations share: the bytes of a file, the fields of a line, a table written out, and whether a working buffer holds one number throughout.
 
+#![tactic(auto)]
+
 pub mod fields;
 pub mod tables;
 

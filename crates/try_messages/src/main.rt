@@ -11,6 +11,8 @@
 //     class BYTE N
 // The program writes the trial, its answer, and what the lent buffers then hold.
 
+#![tactic(auto)]
+
 mod buffers;
 mod class_sheets;
 mod lists;

@@ -56,7 +56,7 @@ pub fn encode(line: &[u8]) {
 }
 
 // How many words of each reading are written.
-#[derive(Drop)]
+#[derive(Clone, Copy)]
 struct Written {
     first: usize,
     second: usize,

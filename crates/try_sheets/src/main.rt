@@ -1,5 +1,8 @@
 // Takes in each file that it is given and writes a line for it: its name, then `refused` and the number, or `accepted` and the table, each word's
 // digits with its start mark and its row.
+
+#![tactic(auto)]
+
 use code::{Sheet, SheetAnswer};
 use libc::STDOUT_FILENO;
 use try_common::tables;

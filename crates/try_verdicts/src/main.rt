@@ -2,6 +2,8 @@
 // entry short, tables that no accepted sheet gives, and the built-in code. Of each trial it writes the lengths of the lent buffers, the printed result, and what the
 // buffers then hold. Lines end with CR LF, as those of a printed result do.
 
+#![tactic(auto)]
+
 mod buffers;
 mod trials;
 

@@ -9,7 +9,7 @@ use code::{Code, Judgement, Verdict};
 use libc::STDOUT_FILENO;
 
 // Lengths of the four buffers.
-#[derive(Drop)]
+#[derive(Clone, Copy)]
 pub struct Lent {
     pub message: usize,
     pub first: usize,
@@ -45,7 +45,7 @@ fn write_result(judgement: Judgement, message: &[u8], first: &[u8], second: &[u8
 }
 
 // How many entries of each buffer for results are written.
-#[derive(Drop)]
+#[derive(Clone, Copy)]
 struct Written {
     message: usize,
     first: usize,

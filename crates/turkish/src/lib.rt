@@ -1,5 +1,7 @@
 // The twelve syllable types of Turkish (source 000, table 1) and which may follow which, as constants, and the code that they make.
 
+#![tactic(auto)]
+
 ghost use Rattle.std.specs.Prelude.{◌≡◌, map, ◌≤◌, length};
 ghost use Rattle.code.specs.Definitions.Sheets.{limits};
 ghost use Rattle.turkish.specs.Types.{types, matrix, word_for, row_for, row_of_types, code_of_types};
@@ -7,7 +9,7 @@ ghost use Rattle.turkish.specs.Types.{types, matrix, word_for, row_for, row_of_t
 use code::blanks::blank_code;
 use code::{Code, Row, Word};
 
-#[derive(Drop)]
+#[derive(Clone, Copy)]
 pub struct Types {}
 
 impl Types {
@@ -20,7 +22,7 @@ impl Types {
 }
 
 // Row X of the follow matrix: entry Y is 1 if type X may come immediately after type Y, else 0.
-#[derive(Drop)]
+#[derive(Clone, Copy)]
 pub struct TypeRow(pub [u8; Types::COUNT]);
 
 // Types A to L; 0 is a vowel, 1 a consonant.

@@ -1,5 +1,7 @@
 // The letters of Turkish text in ISO 8859-9, as a constant table: the class of each byte.
 
+#![tactic(auto)]
+
 ghost use Rattle.std.specs.Prelude.{◌≡◌};
 ghost use Rattle.turkish_letters.specs.Letters.{turkish_classes};
 

@@ -1,5 +1,7 @@
 // Works the follow matrix of the twelve Turkish types out from the two rules, and prints it as the constant table of the crate `turkish`.
 
+#![tactic(auto)]
+
 mod rules;
 
 ghost use Rattle.std.specs.Prelude.{◌+◌, ◌≤◌, ◌<◌, length};
@@ -13,7 +15,7 @@ use rules::row_of;
 use turkish::Types;
 use writing::put;
 
-#[derive(Drop)]
+#[derive(Clone, Copy)]
 pub struct Output {}
 
 impl Output {

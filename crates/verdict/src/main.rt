@@ -1,5 +1,7 @@
 // Takes a sheet on standard input, and a ban list from the file that its argument names, if it has one. Writes the printed result on standard output.
 
+#![tactic(auto)]
+
 ghost use Rattle.std.specs.Prelude.{◌<◌, ◌≡◌, length};
 ghost use Rattle.code.specs.Definitions.Operations.{verdict_room};
 ghost use Rattle.code.specs.Definitions.Sheets.{limits};
@@ -12,7 +14,7 @@ use program::refusals::tell_answer;
 use program::{goes_on, read_named, read_standard, write_standard};
 use streams::Input;
 
-#[derive(Drop)]
+#[derive(Clone, Copy)]
 pub struct Output {}
 
 impl Output {

@@ -1,5 +1,7 @@
 // The part of refusal 8 that is about classes: whether an accepted class sheet gives them.
 
+#![tactic(auto)]
+
 ghost use Rattle.std.specs.Prelude.{◌≡◌, ℕ, ◌≤◌, ◌<◌};
 ghost use Rattle.code.specs.Definitions.Lists.{any};
 ghost use Rattle.code.specs.Definitions.ClassSheets.{different_bytes, FromClassSheet};

@@ -1,6 +1,8 @@
 // Codes with copies: a table without copies as one of them, and the test for refusal 8, whether a sheet and a ban list give a value. The plain code, the numbers
 // of its words and copies, each copy and each entry of the matrix are tested, each by itself.
 
+#![tactic(auto)]
+
 ghost use Rattle.std.specs.Prelude.{[], ◌≡◌, ℕ, ◌≤◌, ◌<◌, length, get_or};
 ghost use Rattle.code.specs.Definitions.Bans.{origin, number_after};
 ghost use Rattle.code.specs.Definitions.Enlarged.{plain_of};

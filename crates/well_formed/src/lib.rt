@@ -1,6 +1,8 @@
 // The part of refusal 8 that is about the table alone: whether an accepted sheet gives it. Each part of the table is held to its bounds, and all that stands
 // past a word, past a row or past the count to zero.
 
+#![tactic(auto)]
+
 ghost use Rattle.std.specs.Prelude.{◌≡◌, ℕ, ◌-◌, ◌≤◌, ◌<◌, max, length};
 ghost use Rattle.code.specs.Definitions.Lists.{tabulate, sum};
 ghost use Rattle.code.specs.Definitions.Sheets.{limits, FromSheet};

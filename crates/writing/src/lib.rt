@@ -1,5 +1,7 @@
 // Bytes written into a buffer one after another, and a buffer cleared.
 
+#![tactic(auto)]
+
 ghost use Rattle.std.specs.Prelude.{◌≡◌, ◌+◌, ◌≤◌, length};
 ghost use Rattle.code.specs.Definitions.Operations.{zeroed};
 ghost use Rattle.writing.specs.Puts.{Puts};
