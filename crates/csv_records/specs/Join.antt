@@ -36,11 +36,11 @@ abbrev pub is_plain : ℕ → Bool
 is_plain a = is_digit a || eqb a 44
 
 plain-cases : (P : ℕ → Type 0) (a : ℕ) → is_plain a ≡ true → (is_digit a ≡ true → P a) → P 44 → P a
-plain-cases P a e is_digit is-comma = by-digit (is_digit a) refl
+plain-cases P a e of-digit of-comma = by-digit (is_digit a) refl
   where
     by-digit : (t : Bool) → is_digit a ≡ t → P a
-    by-digit true p = is_digit p
-    by-digit false p = rw (eqb-true a 44 (rw p at e)) is-comma
+    by-digit true p = of-digit p
+    by-digit false p = rw (eqb-true a 44 (rw p at e)) of-comma
 
 records-plain : (a : ℕ) (s : List ℕ) → is_plain a ≡ true → records (a ∷ s) ≡ push a (records s)
 records-plain a s e = plain-cases (λ b. records (b ∷ s) ≡ push b (records s)) a e (records-digit a s) (records-comma s)

@@ -31,8 +31,8 @@ module _ {g : Graph} where
 
   -- A walk goes on along a path.
   pub extend : {m : List ℕ} {k v : ℕ} (n : ℕ) → Reach g m v → PathFrom g k v → length m + k ≡ n → WalkOf g n
-  extend n r here e = stop n r e
-  extend {m} n r (along {w = w} s p) e = extend n (onward r s refl) p (omega (arith, length-append m (g.symbol w ∷ [])))
+  extend {m = m} n r here e = stop n r e
+  extend {m = m} n r (along {w = w} s p) e = extend {m = m ++ (g.symbol w ∷ [])} n (onward r s refl) p (omega (arith, length-append m (g.symbol w ∷ [])))
 
   -- A walk and a path from its end make one path from the root.
   pub begin : {m : List ℕ} {k v : ℕ} (n : ℕ) → Reach g m v → PathFrom g k v → length m + k ≡ suc n → RootPath g n

@@ -159,11 +159,11 @@ module _ (s : List ℕ) (from : ℕ) (c : Clean (drop from s)) {t : Bool} (first
                 }
 
 -- A record that is formed, with what its fields stand for
-pub range-read : {s : List ℕ} {from : ℕ} {r : Bool} {lowest highest symbol : ℕ} → Formed s from r → not r ≡ false → lowest ≡ byte_of (leading (drop from s))
+pub range-read : {s : List ℕ} {from : ℕ} {r : Bool} {lowest highest symbol : ℕ} → Formed s from r → r ≡ true → lowest ≡ byte_of (leading (drop from s))
     → highest ≡ byte_of (leading (drop (from + 3) s)) → (symbol ≡ symbol_of (leading (drop (from + 6) s))) × (symbol < other)
     → RangeFrom s from lowest highest symbol (from + 9)
 range-read {s} {from} {r} formed n p q z =
-    let b = formed.yes (not-false r n) in
+    let b = formed.yes n in
     record {
       fields = leading (drop from s) ∷ leading (drop (from + 3) s) ∷ leading (drop (from + 6) s) ∷ [];
       first = b.first;

@@ -1,0 +1,23 @@
+use mathlib.Core.Path.{◌≡◌, refl}
+use mathlib.Core.List.{[], ◌++◌}
+use Prim.Native.Nat.{◌-◌, ◌≤◌}
+use lib.ListN.{length, drop, replicate, length-set}
+use Rattle.code.specs.Definitions.Bans.{origin}
+use Rattle.code.specs.Definitions.Lists.{tabulate}
+use Rattle.code.specs.Definitions.Sheets.{limits}
+use Rattle.ban_copies.specs.Adding.{own-next, start}
+use borrow.Author.Rules.{rules}
+use Rattle.ban_copies.proofs.adding.no_copies.Goals as goal
+
+pub loop-x-init : goal.loop-x-init
+unfolding tabulate
+loop-x-init c = (search rules, refl, refl)
+
+pub loop-x-preserved : goal.loop-x-preserved
+loop-x-preserved c =
+    let l = c.loop-x in
+    let n = c.args.n in
+    (search rules, simp length-set l.invariant.1, rw l.invariant.2 (own-next n l.x (search rules) (search rules)))
+
+pub returns : goal.returns
+returns c = let l = c.loop-x in let a = c.args in start a.n a.symbols l.x l.invariant.2 (search rules) (search rules)

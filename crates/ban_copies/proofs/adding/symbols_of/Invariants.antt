@@ -1,0 +1,16 @@
+-- The loop adds the lengths of the words. The invariant: the symbols are those of the words below k, each within its limit.
+use mathlib.Core.Path.{◌≡◌, refl, sym}
+use Prim.Native.Nat.{◌-◌, ◌*◌, ◌≤◌}
+use native.Mathlib.Omega.{arith}
+use Rattle.code.specs.Definitions.Lists.{tabulate, sum}
+use Rattle.code.specs.Definitions.Sheets.{limits}
+use Rattle.code.specs.Laws.Lists.{sum_more}
+use Rattle.code.specs.Laws.WellFormed.{len_of}
+use borrow.Author.Rules.{rules}
+use Rattle.ban_copies.proofs.adding.symbols_of.Given as goal
+
+abbrev pub invariant-loop-k : goal.invariant-loop-k
+invariant-loop-k l = (l.k ≤ limits.words) × (l.symbols ≡ sum (tabulate (len_of l.code) l.k)) × (l.symbols ≤ limits.symbols * l.k)
+
+abbrev pub decreases-loop-k : goal.decreases-loop-k
+decreases-loop-k l = limits.words - l.k

@@ -1,0 +1,20 @@
+-- The loop fills the entries from the front; what stays zero stands past the last copy.
+use mathlib.Core.Path.{◌≡◌, refl}
+use mathlib.Core.List.{◌++◌}
+use Prim.Native.Nat.{◌-◌, ◌≤◌}
+use native.Mathlib.Omega.{arith}
+use lib.ListN.{length, drop, replicate, length-set}
+use Rattle.code.specs.Definitions.Lists.{tabulate}
+use Rattle.code.specs.Definitions.Sheets.{limits}
+use Rattle.code.specs.Laws.Filling.{fill-next}
+use Rattle.ban_theory.specs.Triples.{bans_from}
+use Rattle.ban_copies.specs.Coming.{entry_by, asked}
+use Rattle.ban_copies.proofs.Laws.Filling.{entry_next, row-filled}
+use borrow.Author.Rules.{rules}
+use Rattle.ban_copies.proofs.filling.fill_row.Given as goal
+
+abbrev pub invariant-loop-y : goal.invariant-loop-y
+invariant-loop-y l = (l.y ≤ l.count) × (length l.filled.entries ≡ limits.words) × (l.filled.entries ≡ tabulate (entry_by l.row.entries l.copies.originals (bans_from l.numbers l.bans) l.x) l.y ++ drop l.y (replicate limits.words 0))
+
+abbrev pub decreases-loop-y : goal.decreases-loop-y
+decreases-loop-y l = l.count - l.y

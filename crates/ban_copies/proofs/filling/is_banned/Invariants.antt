@@ -1,0 +1,12 @@
+-- The loop looks at ban after ban. The invariant: none of those passed is on x after y then z.
+use Prim.Native.Nat.{◌-◌, ◌≤◌}
+use native.Mathlib.Omega.{arith}
+use Rattle.ban_copies.specs.Coming.{NoBan, ban-found, ban-passed, ban-none}
+use borrow.Author.Rules.{rules}
+use Rattle.ban_copies.proofs.filling.is_banned.Given as goal
+
+abbrev pub invariant-loop-i : goal.invariant-loop-i
+invariant-loop-i l = (l.i ≤ l.bans) × NoBan l.numbers l.x l.y l.z l.i
+
+abbrev pub decreases-loop-i : goal.decreases-loop-i
+decreases-loop-i l = l.bans - l.i

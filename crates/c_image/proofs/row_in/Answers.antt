@@ -1,0 +1,28 @@
+use mathlib.Core.Path.{◌≡◌, refl, ◌∙◌}
+use mathlib.Core.List.{◌++◌}
+use Prim.Native.Nat.{◌-◌, ◌≤◌}
+use native.Mathlib.Omega.{arith}
+use lib.ListN.{length, drop, replicate, length-set}
+use borrow.Author.Rules.{rules}
+use Rattle.code.specs.Definitions.Lists.{tabulate as filling}
+use Rattle.code.specs.Laws.Filling.{fill-next}
+use Rattle.c_image.specs.Image.{byte_from}
+use Rattle.c_image.proofs.Laws.Unpacking.{filled}
+use Rattle.c_image.proofs.row_in.Goals as goal
+
+pub loop-y-init : goal.loop-y-init
+unfolding filling
+loop-y-init c = (omega arith, refl, refl)
+
+pub loop-y-preserved : goal.loop-y-preserved
+loop-y-preserved c =
+    let l = c.loop-y in
+    let a = c.args in
+    (omega arith, simp length-set l.invariant.1, rw l.invariant.2 (fill-next (byte_from a.table.now a.at) (replicate 32 0) l.y (omega arith)))
+
+pub returns : goal.returns
+returns c =
+    let l = c.loop-y in
+    let a = c.args in
+    let whole = l.invariant.2 ∙ filled (byte_from a.table.now a.at) (replicate 32 0) l.y 32 (omega arith) (omega arith) in
+    rw (← whole)

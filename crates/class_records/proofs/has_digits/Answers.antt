@@ -1,0 +1,7 @@
+-- The digits are counted from the field's end (`digits-counted`).
+use borrow.Author.Rules.{rules}
+use Rattle.class_records.proofs.Laws.Forms.{digits-counted}
+use Rattle.class_records.proofs.has_digits.Goals as goal
+
+pub returns : goal.returns
+returns c = digits-counted _ _ _ c.field_end.ensures.0

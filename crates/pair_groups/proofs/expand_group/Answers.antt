@@ -1,0 +1,36 @@
+use borrow.Author.Rules.{rules}
+use mathlib.Core.Path.{◌≡◌}
+use Prim.Native.Nat.{◌+◌, ◌≤◌, ◌-◌}
+use lib.ListN.{length}
+use Rattle.pair_places.specs.Flat.{pair_count}
+use Rattle.pair_storage.specs.Entries.{entries_in}
+use Rattle.pair_storage.specs.Marks.{marks}
+use Rattle.pair_groups.specs.Ensured.{Stands}
+use Rattle.pair_groups.specs.Parts.{goal-again, group-done, group-known, group-within, known-again}
+use Rattle.pair_groups.specs.Symbols.{symbols-passed, symbol-next}
+use Rattle.pair_groups.proofs.expand_group.Goals as goal
+
+pub next_symbol-symbol-requires : goal.next_symbol-symbol-requires
+next_symbol-symbol-requires c = (search rules, search group-known, search group-within, search rules)
+
+pub loop-symbol-init : goal.loop-symbol-init
+loop-symbol-init c = (search symbols-passed, search rules, search group-within, search rules)
+
+pub next_symbol-symbol-requires-in-loop-symbol : goal.next_symbol-symbol-requires-in-loop-symbol
+next_symbol-symbol-requires-in-loop-symbol c =
+    (search rules, known-again c.expand-symbol.ensures c.e.given.1, search rules, search rules)
+
+pub returns-in-Goal : goal.returns-in-Goal
+returns-in-Goal c = search goal-again
+
+pub loop-symbol-preserved : goal.loop-symbol-preserved
+loop-symbol-preserved c = (search symbol-next, search rules, search rules, (cc))
+
+pub returns : goal.returns
+returns c = search group-done
+
+pub shape_of-work-in-Goal : goal.shape_of-work-in-Goal
+shape_of-work-in-Goal c = cc
+
+pub shape_of-work : goal.shape_of-work
+shape_of-work c = cc

@@ -1,0 +1,35 @@
+use borrow.Author.Rules.{rules}
+use mathlib.Core.Path.{◌≡◌}
+use Prim.Native.Nat.{◌-◌}
+use lib.ListN.{length}
+use Rattle.pair_places.specs.Flat.{cell}
+use Rattle.pair_storage.specs.Entries.{node_at, entries_in}
+use Rattle.pair_storage.specs.Marks.{marks}
+use Rattle.pair_groups.specs.Ensured.{Expanding}
+use Rattle.pair_groups.specs.Parts.{space}
+use Rattle.pair_groups.proofs.Laws.Steps.{same_number}
+use Rattle.pair_groups.proofs.Laws.Straights.{slot_next, slot-goal, slots-ended}
+use Rattle.pair_groups.proofs.members.expand_slots.Goals as goal
+
+pub loop-slot-init : goal.loop-slot-init
+loop-slot-init c = (search rules, search rules, search rules)
+
+pub meet-requires : goal.meet-requires
+meet-requires c = (search rules, search space, search rules, search rules)
+
+pub returns-in-Goal : goal.returns-in-Goal
+returns-in-Goal c = search slot-goal
+
+pub loop-slot-preserved : goal.loop-slot-preserved
+loop-slot-preserved c =
+    let given = c.requires in
+    (search (slot_next, c.loop-slot.invariant.0, c.loop-slot.invariant.1, given.2), search same_number, cc)
+
+pub returns : goal.returns
+returns c = search slots-ended
+
+pub shape_of-work-in-Goal : goal.shape_of-work-in-Goal
+shape_of-work-in-Goal c = cc
+
+pub shape_of-work : goal.shape_of-work
+shape_of-work c = cc

@@ -1,0 +1,27 @@
+-- `expand_word` passes over the slots of a word that does not lead by the symbol. Else it goes through the words in order behind it. The invariant: the slots
+-- before that of the words `x` and `z` are done. The measure is what is left of the words.
+use borrow.Author.Rules.{rules}
+use mathlib.Core.Path.{◌≡◌}
+use Prim.Native.Nat.{◌+◌, ◌*◌, ◌-◌, ◌≤◌}
+use lib.ListN.{length}
+use Rattle.code.specs.Definitions.Sheets.{limits}
+use Rattle.pair_storage.specs.Entries.{node_at, entries_in}
+use Rattle.pair_storage.specs.Marks.{marks}
+use Rattle.pair_slots.specs.Ensured.{Turned}
+use Rattle.pair_slots.specs.Words.{least_behind}
+use Rattle.pair_groups.specs.Ensured.{Expanding}
+use Rattle.pair_groups.specs.Parts.{space}
+use Rattle.pair_groups.proofs.Laws.Steps.{still-turned}
+use Rattle.pair_groups.proofs.Laws.Words.{leads-comes, word_over, word-begun, words-ordered, word_next, word-goal, word-ended}
+use Rattle.pair_groups.proofs.members.expand_word.Given as goal
+
+abbrev pub invariant-loop-z : goal.invariant-loop-z
+invariant-loop-z l =
+    Expanding l.places (marks l.places l.work) l.work l.tail l.group.start l.group.end l.symbol l.member (l.x * limits.words + l.z)
+    × Turned l.places (node_at (entries_in l.places l.work) l.member) l.y
+    × (least_behind l.places l.x ≤ l.z)
+    × (l.z ≤ limits.words)
+    × (length l.work ≡ length l.initial.work)
+
+abbrev pub decreases-loop-z : goal.decreases-loop-z
+decreases-loop-z l = l.n - l.z

@@ -1,0 +1,33 @@
+use borrow.Author.Rules.{rules}
+use mathlib.Core.Path.{◌≡◌}
+use Prim.Native.Nat.{◌*◌, ◌-◌}
+use lib.ListN.{length}
+use Rattle.code.specs.Definitions.Sheets.{limits}
+use Rattle.pair_storage.specs.Entries.{node_at, entries_in}
+use Rattle.pair_storage.specs.Marks.{marks}
+use Rattle.pair_slots.specs.Ensured.{Turned}
+use Rattle.pair_groups.specs.Ensured.{Expanding}
+use Rattle.pair_groups.specs.Parts.{goal-again, expanding-next}
+use Rattle.pair_groups.proofs.Laws.Words.{words-ended}
+use Rattle.pair_groups.proofs.members.expand_words.Goals as goal
+
+pub loop-x-init : goal.loop-x-init
+loop-x-init c = (search rules, search rules, search rules)
+
+pub expand_word-requires : goal.expand_word-requires
+expand_word-requires c = (search rules, search rules, search rules)
+
+pub returns-in-Goal : goal.returns-in-Goal
+returns-in-Goal c = search goal-again
+
+pub loop-x-preserved : goal.loop-x-preserved
+loop-x-preserved c = (search expanding-next, search rules, cc)
+
+pub returns : goal.returns
+returns c = search words-ended
+
+pub shape_of-work-in-Goal : goal.shape_of-work-in-Goal
+shape_of-work-in-Goal c = cc
+
+pub shape_of-work : goal.shape_of-work
+shape_of-work c = cc

@@ -1,0 +1,33 @@
+use borrow.Author.Rules.{rules}
+use mathlib.Core.Path.{◌≡◌}
+use Prim.Native.Nat.{◌+◌, ◌-◌, ◌≤◌}
+use native.Mathlib.Omega.{arith}
+use lib.ListN.{length}
+use Rattle.code.specs.Definitions.Sheets.{limits}
+use Rattle.pair_places.specs.Flat.{cell_count}
+use Rattle.pair_storage.specs.Marks.{marks}
+use Rattle.pair_longest.specs.Answer.{was-unbounded}
+use Rattle.pair_longest.specs.Visit.{Counting, counted}
+use Rattle.pair_longest.specs.Extents.{counting-none, counting-all}
+use Rattle.pair_longest.proofs.longest.Goals as goal
+
+pub loop-x-init : goal.loop-x-init
+loop-x-init c = (search counting-none, search rules, search rules)
+
+pub returns-in-Unbounded : goal.returns-in-Unbounded
+returns-in-Unbounded c = search was-unbounded
+
+pub loop-x-preserved : goal.loop-x-preserved
+loop-x-preserved c = (search counted, search rules, (cc))
+
+pub returns : goal.returns
+returns c = search counting-all
+
+pub shape_of-work-in-Unbounded : goal.shape_of-work-in-Unbounded
+shape_of-work-in-Unbounded c = cc
+
+pub loop-x-smaller : goal.loop-x-smaller
+loop-x-smaller c = omega arith
+
+pub shape_of-work : goal.shape_of-work
+shape_of-work c = cc

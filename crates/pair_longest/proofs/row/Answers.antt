@@ -1,0 +1,31 @@
+use borrow.Author.Rules.{rules}
+use mathlib.Core.Path.{◌≡◌}
+use Prim.Native.Nat.{◌-◌, ◌≤◌, ◌<◌}
+use native.Mathlib.Omega.{arith}
+use lib.ListN.{length}
+use Rattle.pair_places.specs.Flat.{cell_count}
+use Rattle.pair_storage.specs.Marks.{marks}
+use Rattle.pair_longest.specs.Answer.{was-unbounded}
+use Rattle.pair_longest.specs.Visit.{Counting, visiting, counted, row-end}
+use Rattle.pair_longest.proofs.row.Goals as goal
+
+pub visit-requires : goal.visit-requires
+visit-requires c = search visiting
+
+pub returns-in-Unbounded : goal.returns-in-Unbounded
+returns-in-Unbounded c = search was-unbounded
+
+pub loop-y-preserved : goal.loop-y-preserved
+loop-y-preserved c = (search counted, search rules, search rules, (cc))
+
+pub returns : goal.returns
+returns c = search row-end
+
+pub shape_of-work-in-Unbounded : goal.shape_of-work-in-Unbounded
+shape_of-work-in-Unbounded c = cc
+
+pub loop-y-smaller : goal.loop-y-smaller
+loop-y-smaller c = omega arith
+
+pub shape_of-work : goal.shape_of-work
+shape_of-work c = cc

@@ -1,0 +1,35 @@
+use borrow.Author.Rules.{rules}
+use mathlib.Core.Path.{◌≡◌}
+use lib.ListN.{length}
+use Rattle.code.specs.Laws.Cells.{total}
+use Rattle.pair_places.specs.Flat.{pair_graph}
+use Rattle.pair_storage.specs.Entries.{entries_in}
+use Rattle.pair_storage.specs.Marks.{marks}
+use Rattle.pair_heights.specs.Marks.{left}
+use Rattle.pair_heights.specs.Search.{searching}
+use Rattle.pair_longest.specs.Explore.{Running, run_on, run-less, run-cycle, run-mark, run_end}
+use Rattle.pair_longest.proofs.run.Goals as goal
+
+pub advance-requires : goal.advance-requires
+advance-requires c = search searching
+
+pub loop-depth-smaller : goal.loop-depth-smaller
+loop-depth-smaller c = search run-less
+
+pub loop-depth-preserved : goal.loop-depth-preserved
+loop-depth-preserved c = (search run_on, (cc))
+
+pub returns-in-Cycle : goal.returns-in-Cycle
+returns-in-Cycle c = search run-cycle
+
+pub height_at-requires : goal.height_at-requires
+height_at-requires c = (search rules, search run-mark)
+
+pub returns : goal.returns
+returns c = search run_end
+
+pub shape_of-work-in-Cycle : goal.shape_of-work-in-Cycle
+shape_of-work-in-Cycle c = cc
+
+pub shape_of-work : goal.shape_of-work
+shape_of-work c = cc

@@ -1,0 +1,17 @@
+use Prim.Native.Nat.{◌≤◌}
+use Rattle.pair_places.specs.Flat.{behinds, both_behind}
+use Rattle.pair_rivals.specs.Rivals.{NoneFrom, none_from, none-less, rivals-here, rivals-none}
+use borrow.Author.Rules.{rules}
+use Rattle.pair_rivals.proofs.are_rivals.Goals as goal
+
+pub loop-z-init : goal.loop-z-init
+loop-z-init c = (search rules, search none_from)
+
+pub returns-then-both_behind : goal.returns-then-both_behind
+returns-then-both_behind c = search rivals-here
+
+pub loop-z-preserved : goal.loop-z-preserved
+loop-z-preserved c = (search rules, search none-less)
+
+pub returns : goal.returns
+returns c = search rivals-none

@@ -1,0 +1,10 @@
+-- `leads` is `leads_behind`, by whether the word begins with the symbol.
+use borrow.Author.Rules.{rules}
+use Rattle.pair_slots.specs.Words.{leads-by, leads-other}
+use Rattle.pair_slots.proofs.meeting.leads.Goals as goal
+
+pub returns-then-first_symbol-symbol : goal.returns-then-first_symbol-symbol
+returns-then-first_symbol-symbol c = search leads-by
+
+pub returns : goal.returns
+returns c = search leads-other

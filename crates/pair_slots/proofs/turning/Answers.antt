@@ -1,0 +1,19 @@
+-- The source turns behind the start, the end of one word behind that word where openings matter, and no other pair does.
+use Rattle.pair_slots.specs.Leaves.{turns-source, turns-end, turns-inside, turns-apart, turns-closed}
+use borrow.Author.Rules.{rules}
+use Rattle.pair_slots.proofs.turning.Goals as goal
+
+pub returns-then-place_count-low : goal.returns-then-place_count-low
+returns-then-place_count-low c = (search turns-source, search rules)
+
+pub returns-then-opens : goal.returns-then-opens
+returns-then-opens c = (search turns-end, search rules)
+
+pub returns-else-opens : goal.returns-else-opens
+returns-else-opens c = (search turns-closed, search rules)
+
+pub returns-else-is_end : goal.returns-else-is_end
+returns-else-is_end c = (search turns-inside, search rules)
+
+pub returns-else-low-pair : goal.returns-else-low-pair
+returns-else-low-pair c = (search turns-apart, search rules)

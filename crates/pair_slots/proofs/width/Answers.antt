@@ -1,0 +1,15 @@
+-- `width` counts the slots of a pair if the symbol leads it on, else none.
+use borrow.Author.Rules.{rules}
+use native.Mathlib.Omega.{arith}
+use Prim.Native.Nat.{◌+◌}
+use Rattle.pair_slots.specs.Leaves.{width-leads, width-none}
+use Rattle.pair_slots.proofs.width.Goals as goal
+
+pub overflow_cast-places : goal.overflow_cast-places
+overflow_cast-places c = omega (arith, c.shared_slice_known-2-1.given (c.inner-place.result + 1))
+
+pub returns-then-places-place : goal.returns-then-places-place
+returns-then-places-place c = search width-leads
+
+pub returns : goal.returns
+returns c = search width-none

@@ -1,0 +1,73 @@
+use Prim.Native.Nat.{◌+◌, ◌/◌, ◌^◌, ◌≤◌, ◌<◌}
+use borrow.Author.Rules.{rules}
+use lib.ListN.{get_or}
+use mathlib.Core.Path.{◌≡◌, refl, sym, ◌∙◌}
+use native.Mathlib.Omega.{arith}
+use Rattle.bits.specs.Lowest.{lowest-below, left-above, left_less}
+use Rattle.read_choices.specs.Choices.{NoneUsable, none_more, usable-lowest, none-lowest, none_left}
+use Rattle.read_choices.proofs.seek.Goals as goal
+use Rattle.read_choices.proofs.seek.Goals.{After-lowest-skipped}
+
+-- The word found is one of the n.
+below : (c : After-lowest-skipped) → c.loop-left.x + c.lowest-skipped.result < c.args.n
+below c =
+    let l = c.loop-left in
+    lowest-below _ l.x l.invariant.1 c.lowest-skipped.ensures c.requires.0.bound
+
+pub loop-left-init : goal.loop-left-init
+loop-left-init c = (search rules, refl, λ z a b. absurd (omega arith))
+
+pub overflow_add-x : goal.overflow_add-x
+overflow_add-x c = omega (arith, below c, c.requires.0.small)
+
+pub offset_bounds-rows-x : goal.offset_bounds-rows-x
+offset_bounds-rows-x c = omega (arith, below c, c.requires.0.small)
+
+pub bounds-rows-x : goal.bounds-rows-x
+bounds-rows-x c = omega (arith, below (goal.at.bounds-rows-x c).After-lowest-skipped, c.requires.0.rowed)
+
+pub has-requires : goal.has-requires
+has-requires c =
+    let p = c.requires.0 in
+    omega (arith, p.last, p.small)
+
+pub returns-then-has : goal.returns-then-has
+returns-then-has c =
+    let a = c.args in
+    let l = c.loop-left in
+    let f = c.lowest-skipped.ensures in
+    record {
+      low = omega (arith, l.invariant.0);
+      high = omega (arith, below (goal.at.returns-then-has c).After-lowest-skipped);
+      is = λ k. usable-lowest a.work.now a.rows.now a.pos l.x _ _ l.invariant.1 f a.y ∙ sym c.has.ensures ∙ c.if-has.true;
+      none = none-lowest a.work.now a.rows.now a.pos l.x _ _ l.invariant.1 f a.y a.from l.invariant.2;
+    }
+
+pub overflow_shr-left-in-loop-left : goal.overflow_shr-left-in-loop-left
+overflow_shr-left-in-loop-left c = omega (arith, c.lowest-skipped.ensures.near)
+
+pub overflow_add-x-in-loop-left : goal.overflow_add-x-in-loop-left
+overflow_add-x-in-loop-left c = omega (arith, below (goal.at.overflow_add-x-in-loop-left c).After-lowest-skipped, c.requires.0.small)
+
+pub loop-left-smaller : goal.loop-left-smaller
+loop-left-smaller c = left_less _ _ c.loop-left-test.true
+
+pub loop-left-preserved : goal.loop-left-preserved
+loop-left-preserved c =
+    let a = c.args in
+    let l = c.loop-left in
+    let f = c.lowest-skipped.ensures in
+    let off = usable-lowest a.work.now a.rows.now a.pos l.x _ _ l.invariant.1 f a.y ∙ sym c.has.ensures ∙ c.if-has.false in
+    let none = none-lowest a.work.now a.rows.now a.pos l.x _ _ l.invariant.1 f a.y a.from l.invariant.2 in
+    (omega (arith, l.invariant.0), left-above _ l.x l.invariant.1 f, none_more _ _ _ _ _ _ none off)
+
+pub returns : goal.returns
+returns c =
+    let a = c.args in
+    let l = c.loop-left in
+    record {
+      low = c.requires.1;
+      high = omega arith;
+      is = λ h. absurd (omega arith);
+      none = none_left a.work.now a.rows.now a.pos l.x l.left l.invariant.1 a.y a.n a.from l.invariant.2 (omega arith);
+    }

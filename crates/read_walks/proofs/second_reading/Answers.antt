@@ -1,0 +1,26 @@
+-- `read_walks::second_reading` meets its contract: the words stand in order by `second-written`.
+use borrow.Author.Rules.{rules}
+use native.Mathlib.Omega.{arith}
+use Rattle.read_walks.specs.Answers.{second-written}
+use Rattle.read_walks.proofs.second_reading.Goals as goal
+
+pub bounds-lengths-other : goal.bounds-lengths-other
+bounds-lengths-other c =
+    let p = c.requires in
+    omega (arith, p.0.shaped.sized, p.2.known)
+
+pub least_reading-v-requires : goal.least_reading-v-requires
+least_reading-v-requires c =
+    let p = c.requires in
+    (p.0, p.1.begins.after, omega arith, omega (arith, p.1.early, p.2.inside), omega arith, omega arith)
+
+pub overflow_add-result-2 : goal.overflow_add-result-2
+overflow_add-result-2 c =
+    let p = c.requires in
+    let e = c.least_reading-v.ensures in
+    omega (arith, e.room, p.0.near)
+
+pub returns : goal.returns
+returns c =
+    let a = c.args in
+    second-written a.first.now a.second.now a.w c.requires.3 (rw c.copy_branch.ensures at c.least_reading-v.ensures)

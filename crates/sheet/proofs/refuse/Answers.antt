@@ -1,0 +1,6 @@
+-- The table is the blank one.
+use borrow.Author.Rules.{rules}
+use Rattle.sheet.proofs.refuse.Goals as goal
+
+pub returns : goal.returns
+returns c = rw c.blank_code.ensures

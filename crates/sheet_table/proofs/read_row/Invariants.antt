@@ -1,0 +1,18 @@
+-- The loop fills the entries from the front; what stays blank is what the definition has past the row.
+use borrow.Author.Rules.{rules}
+use mathlib.Core.Path.{◌≡◌, ap, ◌∙◌}
+use mathlib.Core.List.{◌++◌}
+use Prim.Native.Nat.{◌-◌, ◌≤◌}
+use native.Mathlib.Omega.{arith}
+use lib.ListN.{length, drop, replicate, length-set}
+use Rattle.code.specs.declared.Row.{Row}
+use Rattle.code.specs.Definitions.Lists.{tabulate}
+use Rattle.code.specs.Laws.Filling.{fill-next}
+use Rattle.sheet_table.specs.Building.{row_byte, row-symbol, row-filled}
+use Rattle.sheet_table.proofs.read_row.Given as goal
+
+abbrev pub invariant-loop-y : goal.invariant-loop-y
+invariant-loop-y l = (l.y ≤ l.n) × (length l.row.entries ≡ 32) × (l.row.entries ≡ tabulate (row_byte l.s l.at l.n) l.y ++ drop l.y (replicate 32 0))
+
+abbrev pub decreases-loop-y : goal.decreases-loop-y
+decreases-loop-y l = l.n - l.y

@@ -1,0 +1,20 @@
+-- The loop fills the symbols from the front; what stays blank is what the definition has past the word.
+use borrow.Author.Rules.{rules}
+use mathlib.Core.Path.{◌≡◌, refl, ap, ◌∙◌}
+use mathlib.Core.List.{◌++◌}
+use Prim.Native.Nat.{◌-◌, ◌≤◌}
+use native.Mathlib.Omega.{arith}
+use lib.ListN.{length, drop, replicate, length-set}
+use Rattle.code.specs.declared.Word.{Word}
+use Rattle.code.specs.Definitions.Lists.{tabulate}
+use Rattle.code.specs.Laws.Filling.{fill-next}
+use Rattle.csv_records.specs.Fields.{leading}
+use Rattle.csv_records.specs.Symbols.{field_symbol, leading-digit, leading-symbol}
+use Rattle.sheet_table.specs.Building.{word_read}
+use Rattle.sheet_table.proofs.read_word.Given as goal
+
+abbrev pub invariant-loop-k : goal.invariant-loop-k
+invariant-loop-k l = (l.k ≤ l.n) × (length l.word.symbols ≡ 16) × (l.word.symbols ≡ tabulate (field_symbol (leading (drop l.at l.s))) l.k ++ drop l.k (replicate 16 0)) × (l.word.len ≡ l.n)
+
+abbrev pub decreases-loop-k : goal.decreases-loop-k
+decreases-loop-k l = l.n - l.k

@@ -1,0 +1,18 @@
+-- `has_ban` says exactly whether some word may not come behind a copy. The invariant: every word below w may.
+use mathlib.Core.Path.{◌≡◌, ◌∙◌}
+use mathlib.Core.Bool.{false}
+use Prim.Native.Nat.{ℕ, ◌≤◌, ◌<◌, ◌-◌}
+use native.Mathlib.Omega.{arith}
+use borrow.Author.Count.{below_more}
+use borrow.Author.Rules.{rules}
+use Rattle.code.specs.Definitions.Sheets.{limits}
+use Rattle.well_enlarged.specs.WellEnlarged.{barred}
+use Rattle.well_enlarged.specs.Tests.{value_of}
+use Rattle.well_enlarged.proofs.Laws.Tested.{barred-entry, ban-found, ban-none, next_low}
+use Rattle.well_enlarged.proofs.has_ban.Given as goal
+
+abbrev pub invariant-loop-w : goal.invariant-loop-w
+invariant-loop-w l = (l.w ≤ l.n) × ((k : ℕ) → k < l.w → barred (value_of l.code l.n l.origins l.behind) l.x k ≡ false)
+
+abbrev pub decreases-loop-w : goal.decreases-loop-w
+decreases-loop-w l = l.n - l.w
