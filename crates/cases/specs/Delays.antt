@@ -12,7 +12,7 @@ use Rattle.code.specs.Definitions.Lists.{sum}
 use Rattle.code.specs.Definitions.Tables.{Table, size}
 use Rattle.code.specs.Definitions.Readings.{Decipherable}
 use Rattle.code.specs.Definitions.Delays.{Delay, WithoutBound}
-use Rattle.code.specs.Laws.Delays.{no-rivals-delay}
+use Rattle.code.proofs.Laws.Delays.{no-rivals-delay}
 use Rattle.pair_theory.specs.Places.{Place, Plain, BothEnd, Parting, Compatible, PairAfter, LongestPath}
 use Rattle.pair_theory.specs.Partings.{PartingEnds, parting-decipherable}
 use Rattle.pair_theory.specs.Sharing.{SomeParting, delay, without-bound}
