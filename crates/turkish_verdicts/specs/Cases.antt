@@ -7,7 +7,8 @@ use Rattle.code.specs.Definitions.Lists.{tabulate}
 use Rattle.code.specs.Definitions.Readings.{Ambiguous, Decipherable}
 use Rattle.code.specs.Definitions.Sheets.{limits}
 use Rattle.code.specs.Definitions.Tables.{table_of}
-use Rattle.cases.specs.Cases.{Expected, ambiguous, delay, check_table, sound-table}
+use Rattle.cases.specs.Cases.{Expected, ambiguous, delay, check_table}
+use Rattle.cases.proofs.Cases.{sound-table}
 use Rattle.turkish.specs.Types.{types, padded, code_of_types}
 
 -- the twelve types, and the first six
