@@ -77,10 +77,10 @@ module _ (t : Table) {S : ℕ → ℕ → Type 0} where
     member-at : {e : LabelledPair} (k : ℕ) → Memᴰ e (layer t l k) → At t S k e
     unfolding layer next_pairs
     member-at zero m = first_out m
-    member-at (suc k) m =
+    member-at {e = e} (suc k) m =
         let s = flat_map-out (next_pairs t) (layer t l k) m in
         let r = flat_map-out (next_pairs_to t s.a) (steps t s.a.p) s.gives in
-        next-out (member-at k s.member) (step-out t r.member) r.gives
+        next-out (member-at {e = s.a} k s.member) (step-out t r.member) r.gives
 
     -- A member of layer k is a compatible pair, which its suc k symbols reach.
     pub layer-out : {e : LabelledPair} (k : ℕ) → Memᴰ e (layer t l k) → Compatible t S e.label e.p e.q × (length e.label ≡ suc k)
