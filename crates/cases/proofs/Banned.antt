@@ -1,20 +1,10 @@
 -- What passes the check of cases with bans holds of the table with its bans.
-use Rattle.std.specs.Prelude.{◌≡◌, refl, Bool, ◌&&◌, List, [], ◌∷◌, map, ℕ, ◌≤◌, ◌<◌, ltb}
-use Rattle.std.proofs.Math.Path.{subst, subst₂}
+use Rattle.std.specs.Prelude.{◌≡◌, refl, ◌&&◌, List}
 use Rattle.std.proofs.Math.Bool.{true, and-eq-true_iff}
-use Rattle.std.proofs.Math.Dec.{leb}
-use borrow.Author.Tests.{ltb-true, leb-true}
-use Rattle.code.specs.Definitions.Lists.{any, every}
+use Rattle.code.specs.Definitions.Lists.{every}
 use Rattle.code.specs.Definitions.Tables.{Table, size}
-use Rattle.code.specs.Definitions.Bans.{Ban, banned_by, with_bans, copies_from, copies_of, origin, number_after, may_come, enlarged}
-use Rattle.code.specs.Definitions.Readings.{OnlyReading, Ambiguous}
-use Rattle.ban_theory.specs.BanLists.{Known, no-ban, ban, copies-serve}
-use Rattle.ban_theory.specs.Copies.{enlarged-covers}
-use Rattle.ban_theory.specs.Covers.{Cover, lift}
-use Rattle.ban_theory.specs.Matches.{named-only, decipherable-named, named-delay, named-unbounded, named-ambiguous}
-use Rattle.pair_theory.specs.Bounded.{every_below, every-below}
-use Rattle.cases.specs.Comparing.{equal, equal-true}
-use Rattle.cases.specs.Cases.{Case, Expected, delay, without_bound, ambiguous, only_reading, case_table, Means, is_non_empty, is_meant, non-empty}
+use Rattle.code.specs.Definitions.Bans.{Ban, banned_by, with_bans}
+use Rattle.cases.specs.Cases.{Expected, case_table, Means, is_non_empty, is_meant, non-empty}
 use Rattle.cases.proofs.Cases.{meant}
 use Rattle.cases.specs.Banned.{BannedCase, BannedHolds, is_known, enlarged_by, in_numbers, is_named, all_known, named-over, check_with, check_banned}
 

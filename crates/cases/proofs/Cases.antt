@@ -1,18 +1,13 @@
 -- What passes the check of cases is as it is expected, by the definitions.
-use Rattle.std.specs.Prelude.{◌≡◌, refl, Bool, true, false, ◌&&◌, List, [], ℕ, leb, eqb, length, get_or}
+use Rattle.std.specs.Prelude.{◌≡◌, refl, true}
 use Rattle.std.proofs.Math.Bool.{and-eq-true_iff}
-use Rattle.std.proofs.Common.{leb-true}
-use Rattle.code.specs.Definitions.Tables.{Table, size, word}
-use Rattle.code.specs.Definitions.Readings.{OnlyReading, Ambiguous, Decipherable}
-use Rattle.code.specs.Definitions.Delays.{Delay, WithoutBound}
-use Rattle.code.specs.Laws.Sequences.{NonEmpty, Free, Plain}
-use Rattle.pair_theory.specs.Bounded.{every_below, every-below}
-use Rattle.cases.specs.Delays.{delay_is, is_without_bound}
+use Rattle.code.specs.Definitions.Tables.{Table}
+use Rattle.code.specs.Laws.Sequences.{Free, Plain}
 use Rattle.cases.proofs.Delays.{delay-means, without-bound-means}
 use Rattle.cases.specs.Messages.{least_is}
 use Rattle.cases.proofs.Messages.{ambiguous-means}
 use Rattle.cases.specs.Enumeration.{readings}
-use Rattle.cases.specs.Readings.{only_of, first_two_of, only-means, first-two-means}
+use Rattle.cases.specs.Readings.{first_two_of, only-means, first-two-means}
 use Rattle.cases.specs.Cases.{Expected, delay, without_bound, ambiguous, only_reading, Case, case_table, Means, Holds, is_non_empty, is_meant, check_table, check, non-empty}
 
 -- What the check computes is so.

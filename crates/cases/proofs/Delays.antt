@@ -1,5 +1,5 @@
 -- What the layers of pairs of rivals show of the delay is so.
-use Rattle.std.specs.Prelude.{◌≡◌, refl, Bool, ◌&&◌, List}
+use Rattle.std.specs.Prelude.{◌≡◌, refl, ◌&&◌, List}
 use Rattle.std.proofs.Common.{sym, ◌∙◌}
 use Rattle.std.proofs.Math.Bool.{true, not, and-eq-true_iff}
 use Rattle.std.proofs.lemmas.Bool.{false≢true, not-true}
@@ -7,7 +7,6 @@ use Prim.Native.Nat.{ℕ, zero, suc, ◌≤◌, ◌<◌}
 use Rattle.std.proofs.Math.Decide.{dec_le}
 use native.Mathlib.Omega.{arith}
 use Rattle.std.proofs.Math.ListN.{length}
-use Rattle.code.specs.Definitions.Lists.{sum}
 use Rattle.code.specs.Definitions.Tables.{Table, size}
 use Rattle.code.specs.Definitions.Readings.{Decipherable}
 use Rattle.code.specs.Definitions.Delays.{Delay, WithoutBound}
@@ -18,12 +17,12 @@ use Rattle.pair_theory.specs.Sharing.{SomeParting, delay, without-bound}
 use Rattle.pair_theory.specs.Walks.{walk-cut, pair-iff}
 use Rattle.pair_theory.specs.Finite.{pair_count}
 use Rattle.pair_theory.specs.Lengths.{short-parting-ends, endless}
-use Rattle.cases.specs.Members.{empty, empty-none, some-member}
+use Rattle.cases.specs.Members.{empty-none, some-member}
 use Rattle.cases.specs.Starts.{word_pair, partings}
 use Rattle.cases.proofs.Starts.{partings-listed}
-use Rattle.cases.specs.Layers.{LabelledPair, layer, every_pair}
+use Rattle.cases.specs.Layers.{layer}
 use Rattle.cases.proofs.Layers.{layer-in, layer-out, pair-passes}
-use Rattle.cases.specs.Ends.{both_end, both_end-law}
+use Rattle.cases.specs.Ends.{both_end-law}
 use Rattle.cases.specs.Delays.{no_partings, is_empty, not_both_end, no_two_ends, some_before, longest_is, delay_is, is_without_bound}
 
 module _ (t : Table) where

@@ -1,5 +1,5 @@
 -- What the layers of pairs of words that may both begin show of the shortest ambiguous message is so.
-use Rattle.std.specs.Prelude.{◌≡◌, true, not, ◌||◌, List, ◌⊎◌, ℕ, ◌≤◌, ◌<◌, length}
+use Rattle.std.specs.Prelude.{◌≡◌, true, not, List, ◌⊎◌, ℕ, ◌≤◌, ◌<◌, length}
 use Rattle.std.proofs.Common.{sym, ◌∙◌, subst, inl, inr, arith}
 use Rattle.std.proofs.Math.Bool.{Bool}
 use Rattle.std.proofs.lemmas.Bool.{false≢true, not-true}
@@ -12,9 +12,8 @@ use Rattle.code.specs.Laws.Readings.{first-two-readings}
 use Rattle.pair_theory.specs.Places.{Plain, TwoEnds}
 use Rattle.pair_theory.specs.Ambiguity.{Stripped, at_most, readings→ends, ambiguous}
 use Rattle.cases.specs.Comparing.{not_before, not-before-true}
-use Rattle.cases.specs.Starts.{beginnings}
 use Rattle.cases.proofs.Starts.{beginnings-listed}
-use Rattle.cases.specs.Layers.{LabelledPair, labelled, every_pair}
+use Rattle.cases.specs.Layers.{labelled}
 use Rattle.cases.proofs.Layers.{pair-passes}
 use Rattle.cases.specs.Ends.{apart_ends, apart-ends}
 use Rattle.cases.specs.Messages.{ends_not_before, least_is}

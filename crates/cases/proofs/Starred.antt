@@ -1,10 +1,8 @@
 -- Every entry of the two tables of codes holds, since both pass the check.
-use Rattle.std.specs.Prelude.{◌≡◌, refl, true, ℕ, replicate}
 use mathlib.Core.List.Memᴰ
-use mathlib.Core.List.{List, [], ◌∷◌, ◌++◌, Memᴰ}
-use Rattle.code.specs.Definitions.Lists.{every}
+use mathlib.Core.List.{Memᴰ}
 use Rattle.cases.specs.Members.{every-member}
-use Rattle.cases.specs.Cases.{Case, delay, without_bound, ambiguous, only_reading, Holds, check}
+use Rattle.cases.specs.Cases.{Case, Holds, check}
 use Rattle.cases.proofs.Cases.{sound}
 use Rattle.cases.specs.Starred.{starred, opened, starred-checked}
 

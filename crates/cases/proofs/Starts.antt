@@ -1,9 +1,9 @@
 -- The lists of the pairs of words from whose first places layers start have exactly these.
-use Rattle.std.specs.Prelude.{◌≡◌, Bool, true, not, ◌&&◌, ◌↔◌, ℕ, ◌<◌, eqb}
+use Rattle.std.specs.Prelude.{◌≡◌, Bool, true, not, ◌↔◌, ℕ, ◌<◌, eqb}
 use Rattle.std.proofs.Math.Path.{subst}
 use Rattle.std.proofs.Math.Bool.{and-eq-true_iff}
 use mathlib.Core.List.Memᴰ
-use mathlib.Core.List.{List, map, flat_map, Memᴰ}
+use mathlib.Core.List.{Memᴰ}
 use Rattle.std.proofs.lemmas.Bool.{eqb-false, not-true}
 use Rattle.std.proofs.Common.{ne_eqb}
 use Rattle.code.specs.Definitions.Tables.{Table, size}

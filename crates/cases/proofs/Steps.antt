@@ -1,9 +1,9 @@
 -- The places to which steps lead from a place are exactly the members of its list.
-use Rattle.std.specs.Prelude.{◌≡◌, Bool, true, ◌&&◌, ◌⊎◌, ℕ, suc, ◌<◌, ltb, length}
+use Rattle.std.specs.Prelude.{◌≡◌, true, ◌⊎◌, ℕ, suc, ◌<◌, length}
 use Rattle.std.proofs.Common.{sym, inl, inr, ltb-true, eqb-true, lt-ltb, eq-eqb}
 use Rattle.std.proofs.Math.Bool.{and-eq-true_iff}
 use mathlib.Core.List.Memᴰ
-use mathlib.Core.List.{List, [], ◌∷◌, ◌++◌, map, Memᴰ}
+use mathlib.Core.List.{[], ◌∷◌, Memᴰ}
 use Rattle.code.specs.Definitions.Tables.{Table, size, word}
 use Rattle.pair_theory.specs.Places.{Place, first_place, next_place, Ends, Step, inside, across}
 use Rattle.pair_theory.specs.Bounded.{is_end}

@@ -1,15 +1,12 @@
 -- The code without its ban and every entry of the table hold, since they pass the checks.
-use Rattle.std.specs.Prelude.{◌≡◌, refl, true, ◌&&◌, ℕ}
 use Rattle.std.proofs.Math.Bool.{and-eq-true_iff}
-use mathlib.Core.List.{List, [], ◌∷◌, Memᴰ}
+use mathlib.Core.List.{Memᴰ}
 use Rattle.code.specs.Definitions.Lists.{every}
-use Rattle.code.specs.Definitions.Bans.{Ban}
 use Rattle.cases.specs.Members.{every-member}
-use Rattle.cases.specs.Cases.{Case, Expected, delay, ambiguous, only_reading, Holds, check}
+use Rattle.cases.specs.Cases.{Holds, check}
 use Rattle.cases.proofs.Cases.{sound}
 use Rattle.cases.specs.Banned.{BannedCase, BannedHolds, check_banned}
 use Rattle.cases.proofs.Banned.{sound-banned}
-use Rattle.cases.specs.Starred.{all_one, all_begin}
 use Rattle.cases.specs.WithBans.{freely, banned, banned-checked}
 
 -- The code without its ban holds, by the definitions,

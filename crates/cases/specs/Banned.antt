@@ -1,6 +1,6 @@
 -- A case with bans that look two words back. What is expected speaks of the table with its bans, in the numbers of its words. The enlarged code computes and has no bans, so
 -- the check for other cases serves for it, and what it shows is named over.
-use Rattle.std.specs.Prelude.{◌≡◌, refl, Bool, ◌&&◌, List, [], ◌∷◌, map, ℕ, ◌≤◌, ◌<◌, ltb}
+use Rattle.std.specs.Prelude.{◌≡◌, Bool, ◌&&◌, List, [], ◌∷◌, map, ℕ, ◌≤◌, ◌<◌, ltb}
 use Rattle.std.proofs.Math.Path.{subst, subst₂}
 use Rattle.std.proofs.Math.Bool.{true, and-eq-true_iff}
 use Rattle.std.proofs.Math.Dec.{leb}
@@ -15,7 +15,7 @@ use Rattle.ban_theory.specs.Covers.{Cover, lift}
 use Rattle.ban_theory.specs.Matches.{named-only, decipherable-named, named-delay, named-unbounded, named-ambiguous}
 use Rattle.pair_theory.specs.Bounded.{every_below, every-below}
 use Rattle.cases.specs.Comparing.{equal, equal-true}
-use Rattle.cases.specs.Cases.{Case, Expected, delay, without_bound, ambiguous, only_reading, case_table, Means, is_non_empty, is_meant, non-empty}
+use Rattle.cases.specs.Cases.{Case, Expected, delay, without_bound, ambiguous, only_reading, case_table, Means, is_non_empty, is_meant}
 
 pub record BannedCase : Type 0 where
   pub code : Case

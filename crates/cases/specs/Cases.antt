@@ -1,16 +1,15 @@
 -- A case: a code's words, start marks and rows, and what is expected of it. A check that computes is shown once, for all cases, to give what the definitions say.
-use Rattle.std.specs.Prelude.{◌≡◌, refl, Bool, true, false, ◌&&◌, List, [], ℕ, leb, eqb, length, get_or}
-use Rattle.std.proofs.Math.Bool.{and-eq-true_iff}
+use Rattle.std.specs.Prelude.{◌≡◌, Bool, true, false, ◌&&◌, List, [], ℕ, leb, eqb, length, get_or}
 use Rattle.std.proofs.Common.{leb-true}
 use Rattle.code.specs.Definitions.Tables.{Table, size, word}
 use Rattle.code.specs.Definitions.Readings.{OnlyReading, Ambiguous, Decipherable}
 use Rattle.code.specs.Definitions.Delays.{Delay, WithoutBound}
-use Rattle.code.specs.Laws.Sequences.{NonEmpty, Free, Plain}
+use Rattle.code.specs.Laws.Sequences.{NonEmpty}
 use Rattle.pair_theory.specs.Bounded.{every_below, every-below}
 use Rattle.cases.specs.Delays.{delay_is, is_without_bound}
 use Rattle.cases.specs.Messages.{least_is}
 use Rattle.cases.specs.Enumeration.{readings}
-use Rattle.cases.specs.Readings.{only_of, first_two_of, only-means, first-two-means}
+use Rattle.cases.specs.Readings.{only_of, first_two_of}
 
 -- A verdict of each kind, or the only reading of a message.
 pub data Expected : Type 0 where

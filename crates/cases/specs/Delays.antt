@@ -1,28 +1,15 @@
 -- The delay from the layers of pairs of rivals. Without rivals it is 0; the first empty layer shows the longest path; and a layer past as many as there are
 -- unordered pairs, if it is not empty, shows that the code is without bound.
-use Rattle.std.specs.Prelude.{◌≡◌, refl, Bool, ◌&&◌, List}
-use Rattle.std.proofs.Common.{sym, ◌∙◌}
-use Rattle.std.proofs.Math.Bool.{true, not, and-eq-true_iff}
-use Rattle.std.proofs.lemmas.Bool.{false≢true, not-true}
-use Prim.Native.Nat.{ℕ, zero, suc, ◌≤◌, ◌<◌}
-use Rattle.std.proofs.Math.Decide.{dec_le}
-use native.Mathlib.Omega.{arith}
-use Rattle.std.proofs.Math.ListN.{length}
+use Rattle.std.specs.Prelude.{Bool, ◌&&◌}
+use Rattle.std.proofs.Math.Bool.{true, not}
+use Prim.Native.Nat.{ℕ, zero, suc}
 use Rattle.code.specs.Definitions.Lists.{sum}
-use Rattle.code.specs.Definitions.Tables.{Table, size}
-use Rattle.code.specs.Definitions.Readings.{Decipherable}
-use Rattle.code.specs.Definitions.Delays.{Delay, WithoutBound}
-use Rattle.code.proofs.Laws.Delays.{no-rivals-delay}
-use Rattle.pair_theory.specs.Places.{Place, Plain, BothEnd, Parting, Compatible, PairAfter, LongestPath}
-use Rattle.pair_theory.specs.Partings.{PartingEnds, parting-decipherable}
-use Rattle.pair_theory.specs.Sharing.{SomeParting, delay, without-bound}
-use Rattle.pair_theory.specs.Walks.{walk-cut, pair-iff}
+use Rattle.code.specs.Definitions.Tables.{Table}
 use Rattle.pair_theory.specs.Finite.{pair_count}
-use Rattle.pair_theory.specs.Lengths.{short-parting-ends, endless}
-use Rattle.cases.specs.Members.{empty, empty-none, some-member}
-use Rattle.cases.specs.Starts.{word_pair, partings}
+use Rattle.cases.specs.Members.{empty}
+use Rattle.cases.specs.Starts.{partings}
 use Rattle.cases.specs.Layers.{LabelledPair, layer, every_pair}
-use Rattle.cases.specs.Ends.{both_end, both_end-law}
+use Rattle.cases.specs.Ends.{both_end}
 
 module _ (t : Table) where
   -- No two different words are rivals.

@@ -1,21 +1,14 @@
 -- The compatible pairs of a table in layers, as lists that compute: the members of a layer are exactly the pairs that its number of symbols reaches, each
 -- with these symbols. The pairs of words from whose first places they start are given as a list.
-use Rattle.std.specs.Prelude.{◌≡◌, refl, Bool, eqb}
-use Rattle.std.proofs.Common.{sym, ◌∙◌, arith}
-use Rattle.std.proofs.Math.Path.{ap, subst}
-use Rattle.std.proofs.Math.Bool.{true}
-use mathlib.Core.List.Memᴰ
-use mathlib.Core.List.{List, [], ◌∷◌, ◌++◌, map, flat_map, Memᴰ}
-use Prim.Native.Nat.{ℕ, zero, suc, ◌-◌, ◌≤◌}
-use Rattle.std.proofs.Math.ListN.{length, length-append}
-use borrow.Author.Tests.{eqb-true, eq-eqb}
+use Rattle.std.specs.Prelude.{Bool, eqb}
+use mathlib.Core.List.{List, [], ◌∷◌, ◌++◌, map, flat_map}
+use Prim.Native.Nat.{ℕ, zero, suc}
 use Rattle.code.specs.Definitions.Lists.{every}
 use Rattle.code.specs.Definitions.Tables.{Table}
-use Rattle.pair_theory.specs.Places.{Place, first_place, symbol, Step, Compatible, FirstPair, CommonStep, Reached, start, onward}
-use Rattle.pair_theory.specs.Pairs.{compatible-reached, compatible-long}
-use Rattle.pair_theory.specs.Bounded.{every_below, every-below}
-use Rattle.cases.specs.Members.{keep, keep-in, keep_out, flat_map-in, flat_map-out, every-member}
-use Rattle.cases.specs.Starts.{WordPair, word_pair, Starting, Lists}
+use Rattle.pair_theory.specs.Places.{Place, first_place, symbol}
+use Rattle.pair_theory.specs.Bounded.{every_below}
+use Rattle.cases.specs.Members.{keep}
+use Rattle.cases.specs.Starts.{WordPair}
 use Rattle.cases.specs.Steps.{steps}
 
 -- A pair of places, and symbols that reach it.

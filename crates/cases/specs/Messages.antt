@@ -1,21 +1,12 @@
 -- The shortest ambiguous message from the layers of pairs of words that may both begin: no layer up to its own has the ends of two different words with
 -- symbols that come before it.
-use Rattle.std.specs.Prelude.{◌≡◌, true, not, ◌||◌, List, ◌⊎◌, ℕ, ◌≤◌, ◌<◌, length}
-use Rattle.std.proofs.Common.{sym, ◌∙◌, subst, inl, inr, arith}
+use Rattle.std.specs.Prelude.{not, ◌||◌, List, ℕ, length}
 use Rattle.std.proofs.Math.Bool.{Bool}
-use Rattle.std.proofs.lemmas.Bool.{false≢true, not-true}
-use Rattle.std.proofs.Math.Decide.{dec_le}
 use Rattle.code.specs.Definitions.Tables.{Table}
-use Rattle.code.specs.Definitions.Orders.{Shortlex, shorter}
-use Rattle.code.specs.Definitions.Readings.{FirstTwo, Ambiguous}
-use Rattle.code.specs.Laws.Below.{or_cases}
-use Rattle.code.specs.Laws.Readings.{first-two-readings}
-use Rattle.pair_theory.specs.Places.{Plain, TwoEnds}
-use Rattle.pair_theory.specs.Ambiguity.{Stripped, at_most, readings→ends, ambiguous}
-use Rattle.cases.specs.Comparing.{not_before, not-before-true}
+use Rattle.cases.specs.Comparing.{not_before}
 use Rattle.cases.specs.Starts.{beginnings}
-use Rattle.cases.specs.Layers.{LabelledPair, labelled, every_pair}
-use Rattle.cases.specs.Ends.{apart_ends, apart-ends}
+use Rattle.cases.specs.Layers.{LabelledPair, every_pair}
+use Rattle.cases.specs.Ends.{apart_ends}
 
 module _ (t : Table) where
   -- if the pair is one of the ends of different words, its symbols do not come before m

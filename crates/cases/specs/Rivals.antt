@@ -1,11 +1,8 @@
 -- Whether two words are rivals, as a test that computes.
-use Rattle.std.specs.Prelude.{◌≡◌, Bool, true, ◌&&◌, ◌||◌, ◌⊎◌, ◌↔◌, ℕ}
-use Rattle.std.proofs.Math.Bool.{and-eq-true_iff}
-use Rattle.std.proofs.Common.{inl, inr}
+use Rattle.std.specs.Prelude.{Bool, ◌&&◌, ◌||◌, ℕ}
 use Rattle.code.specs.Definitions.Tables.{Table, size}
-use Rattle.code.specs.Laws.Below.{or_cases, or_left, or_right, some_below, some_in, some_out}
-use Rattle.code.specs.Laws.Endings.{is_ending, ending-test, ending-word}
-use Rattle.code.specs.Laws.Openings.{Rivals, both-begin, both-follow}
+use Rattle.code.specs.Laws.Below.{some_below}
+use Rattle.code.specs.Laws.Endings.{is_ending}
 
 module _ (t : Table) where
   -- x and y may both begin

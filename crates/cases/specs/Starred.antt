@@ -1,11 +1,9 @@
 -- The codes that 01 marks with a star, and codes of request 1, as two tables. A lone statement, proved by computation, says that both pass the check; so every
 -- entry holds.
 use Rattle.std.specs.Prelude.{◌≡◌, refl, true, ℕ, replicate}
-use mathlib.Core.List.Memᴰ
-use mathlib.Core.List.{List, [], ◌∷◌, ◌++◌, Memᴰ}
+use mathlib.Core.List.{List, [], ◌∷◌, ◌++◌}
 use Rattle.code.specs.Definitions.Lists.{every}
-use Rattle.cases.specs.Members.{every-member}
-use Rattle.cases.specs.Cases.{Case, delay, without_bound, ambiguous, only_reading, Holds, check}
+use Rattle.cases.specs.Cases.{Case, delay, without_bound, ambiguous, only_reading, check}
 
 -- 01: "“All 1” is a matrix without bans."
 abbrev pub all_one : ℕ → List (List ℕ)

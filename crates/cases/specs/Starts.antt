@@ -1,14 +1,8 @@
 -- The pairs of words from whose first places layers start, as lists that compute: different words that are rivals, and words that may both begin.
-use Rattle.std.specs.Prelude.{◌≡◌, Bool, true, not, ◌&&◌, ◌↔◌, ℕ, ◌<◌, eqb}
-use Rattle.std.proofs.Math.Path.{subst}
-use Rattle.std.proofs.Math.Bool.{and-eq-true_iff}
-use mathlib.Core.List.Memᴰ
+use Rattle.std.specs.Prelude.{Bool, not, ◌&&◌, ℕ, ◌<◌, eqb}
 use mathlib.Core.List.{List, map, flat_map, Memᴰ}
-use Rattle.std.proofs.lemmas.Bool.{eqb-false, not-true}
-use Rattle.std.proofs.Common.{ne_eqb}
 use Rattle.code.specs.Definitions.Tables.{Table, size}
-use Rattle.pair_theory.specs.Places.{Parting, Beginning}
-use Rattle.cases.specs.Members.{keep, keep-in, keep_out, numbers, numbers-in, numbers-out, flat_map-in, flat_map-out}
+use Rattle.cases.specs.Members.{keep, numbers}
 use Rattle.cases.specs.Rivals.{both_begin, are_rivals}
 
 pub record WordPair : Type 0 where

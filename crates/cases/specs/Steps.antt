@@ -1,13 +1,10 @@
 -- The places to which steps lead from a place, as a list that computes: exactly these are its members.
-use Rattle.std.specs.Prelude.{◌≡◌, Bool, true, ◌&&◌, ◌⊎◌, ℕ, suc, ◌<◌, ltb, length}
-use Rattle.std.proofs.Common.{sym, inl, inr, ltb-true, eqb-true, lt-ltb, eq-eqb}
-use Rattle.std.proofs.Math.Bool.{and-eq-true_iff}
-use mathlib.Core.List.Memᴰ
-use mathlib.Core.List.{List, [], ◌∷◌, ◌++◌, map, Memᴰ}
+use Rattle.std.specs.Prelude.{Bool, ◌&&◌, ℕ, suc, ltb, length}
+use mathlib.Core.List.{List, [], ◌∷◌, ◌++◌, map}
 use Rattle.code.specs.Definitions.Tables.{Table, size, word}
-use Rattle.pair_theory.specs.Places.{Place, first_place, next_place, Ends, Step, inside, across}
+use Rattle.pair_theory.specs.Places.{Place, first_place, next_place}
 use Rattle.pair_theory.specs.Bounded.{is_end}
-use Rattle.cases.specs.Members.{keep, keep-in, keep_out, numbers, numbers-in, numbers-out}
+use Rattle.cases.specs.Members.{keep, numbers}
 
 module _ (t : Table) where
   -- p stands inside its word

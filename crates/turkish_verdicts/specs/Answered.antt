@@ -13,7 +13,7 @@ use Rattle.decipher.specs.Kinds.{verdict-answered}
 use Rattle.decipher.specs.Shown.{judged-ambiguous}
 use Rattle.ban_meaning.specs.Empty.{plain-lists}
 use Rattle.ban_meaning.specs.Given.{plain-original}
-use Rattle.turkish.specs.Given.{twelve-from-sheet}
+use Rattle.turkish.proofs.Given.{twelve-from-sheet}
 use Rattle.turkish_verdicts.specs.Cases.{twelve, message_twelve, first_twelve, second_twelve, twelve-ambiguous}
 
 abbrev pub verdict_twelve : Verdict
