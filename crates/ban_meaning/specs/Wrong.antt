@@ -113,7 +113,3 @@ refused16-records n s = by (any (bad_ban n) (ban_records s)) refl
     by : (t : Bool) → any (bad_ban n) (ban_records s) ≡ t → (bad_bytes false s || any (bad_ban n) (ban_records s)) ≡ any (bad_ban n) (ban_records s)
     by true e = rw (e, or-true)
     by false e = rw (records-bytes n s e)
-
--- So it meets both of two lists with the same records or neither.
-pub refused16-same : (n : ℕ) (s u : List ℕ) → SameRecords s u → refused16 n s ≡ refused16 n u
-refused16-same n s u r = refused16-records n s ∙ any_same (bad_ban n) r ∙ sym (refused16-records n u)

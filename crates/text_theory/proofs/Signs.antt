@@ -1,10 +1,10 @@
 -- The output of splitting is the text with signs put in, and no letter is lost.
-use Rattle.std.specs.Prelude.{◌≡◌, Bool, true, false, List, [], ◌∷◌, ◌++◌, ℕ, eqb, length, take, drop}
+use Rattle.std.specs.Prelude.{◌≡◌, true, false, List, [], ◌∷◌, ◌++◌, ℕ, length, take, drop}
 use Rattle.std.proofs.Math.Path.{refl}
 use Rattle.std.proofs.Common.{append-nil, arith, take-append-drop}
-use Rattle.code.specs.Definitions.Lists.{if◌then◌else◌, any, sum, join}
+use Rattle.code.specs.Definitions.Lists.{any, sum, join}
 use Rattle.code.specs.Definitions.Tables.{Table}
-use Rattle.code.specs.Definitions.Texts.{is_letter, syllable_break, signs, syllables, lengths_of, Shows, split, none, several, Splits, end, copied, shown}
+use Rattle.code.specs.Definitions.Texts.{is_letter, syllable_break, syllables, lengths_of, Shows, split, none, several, Splits, end, copied, shown}
 use Rattle.text_theory.specs.Runs.{run-rest}
 use Rattle.text_theory.specs.Syllables.{behind-first, reads-length}
 use Rattle.text_theory.specs.Signs.{is_sign, WithSigns, nothing, kept, put, those, signs-those}

@@ -1,13 +1,9 @@
 -- What splitting adds to a text: B7 and brackets put in, and nothing else. Those that were put in taken away, the text is left; a text may hold such bytes itself,
 -- and keeps them. So every letter stands in the output once, in order.
-use Rattle.std.specs.Prelude.{◌≡◌, Bool, true, false, List, [], ◌∷◌, ◌++◌, ℕ, eqb, length, take, drop}
+use Rattle.std.specs.Prelude.{◌≡◌, Bool, true, false, List, [], ◌∷◌, ℕ, eqb}
 use Rattle.std.proofs.Math.Path.{refl}
-use Rattle.std.proofs.Common.{append-nil, arith, take-append-drop}
-use Rattle.code.specs.Definitions.Lists.{if◌then◌else◌, any, sum, join}
-use Rattle.code.specs.Definitions.Tables.{Table}
-use Rattle.code.specs.Definitions.Texts.{is_letter, syllable_break, signs, syllables, lengths_of, Shows, split, none, several, Splits, end, copied, shown}
-use Rattle.text_theory.specs.Runs.{run-rest}
-use Rattle.text_theory.specs.Syllables.{behind-first, reads-length}
+use Rattle.code.specs.Definitions.Lists.{if◌then◌else◌, any}
+use Rattle.code.specs.Definitions.Texts.{signs}
 
 -- B7 and the four brackets
 abbrev pub is_sign : ℕ → Bool

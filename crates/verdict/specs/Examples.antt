@@ -30,7 +30,8 @@ use Rattle.cases.proofs.Messages.{ambiguous-means}
 use Rattle.cases.specs.Readings.{first_two_of, first-two-means}
 use Rattle.ban_meaning.specs.Alike.{same-verdict}
 use Rattle.ban_meaning.specs.Empty.{empty-list}
-use Rattle.ban_meaning.specs.Given.{plain-original, lists-alike}
+use Rattle.ban_meaning.specs.Given.{plain-original}
+use Rattle.ban_meaning.proofs.Given.{lists-alike}
 use Rattle.printing.specs.Printed.{places}
 use Rattle.verdict.specs.Answers.{sheet-accepted, RightFor, Answers}
 use Rattle.verdict.specs.Unique.{answer-right}
