@@ -7,7 +7,6 @@ use Rattle.code.specs.declared.Limits.{Limits}
 use Rattle.code.specs.declared.Refusal.{Refusal}
 use Rattle.code.specs.declared.SheetAnswer.TheVariants.{Refused}
 use Rattle.code.specs.Definitions.BanLists.{bans_of}
-use Rattle.code.specs.Definitions.Enlarged.{blank_enlarged}
 use Rattle.code.specs.Definitions.Operations.{Condition, Lowest, NoneHolds, ban_conditions, Enlarges, refused, enlarged}
 use Rattle.code.specs.Laws.Conditions.{lowest-unique, lowest-none}
 use Rattle.ban_meaning.specs.SameBans.{SameRecords}

@@ -1,15 +1,13 @@
 -- A value that a sheet and a ban list give means the sheet's table with the list's bans.
-use Rattle.std.specs.Prelude.{◌≡◌, refl, Bool, false, List, [], ◌∷◌, ◌++◌, ◌↔◌, ℕ, ◌<◌, take}
+use Rattle.std.specs.Prelude.{◌≡◌, refl, Bool, List, [], ◌∷◌, ◌++◌, ◌↔◌, ℕ, ◌<◌}
 use Rattle.std.proofs.Math.Path.{sym}
-use Rattle.std.proofs.Common.{ap, ◌∙◌, arith, length-take, take_all, ext_get_or}
-use Rattle.std.proofs.lemmas.List.{length-map}
+use Rattle.std.proofs.Common.{ap, ◌∙◌, ext_get_or}
 use Rattle.code.specs.declared.Code.{Code}
 use Rattle.code.specs.declared.Enlarged.{Enlarged}
 use Rattle.code.specs.declared.Limits.{Limits}
 use Rattle.code.specs.declared.SheetAnswer.TheVariants.{Accepted}
-use Rattle.code.specs.Definitions.Tables.{Table, size, word, Permitted, message, symbols_of, table_of}
-use Rattle.code.specs.Definitions.Lists.{any}
-use Rattle.code.specs.Definitions.Bans.{banned_by, with_bans, Copy, has_copy, number_after, bans_in, table_in}
+use Rattle.code.specs.Definitions.Tables.{Table, size, word, Permitted, message, table_of}
+use Rattle.code.specs.Definitions.Bans.{banned_by, with_bans}
 use Rattle.code.specs.Definitions.BanLists.{bans_of}
 use Rattle.code.specs.Definitions.Enlarged.{plain_of, enlarged_code, original_table}
 use Rattle.code.specs.Definitions.Operations.{Enlarges, refused, enlarged, FromLists}
@@ -18,7 +16,6 @@ use Rattle.well_enlarged.specs.FromBans.{FromBans}
 use Rattle.well_enlarged.specs.Made.{from-bans}
 use Rattle.well_enlarged.specs.Back.{original-size}
 use Rattle.well_enlarged.specs.Meaning.{Covers, value-covers, bans-covers, bans-permitted}
-use Rattle.well_enlarged.proofs.Laws.Plain.{no_copies}
 use Rattle.well_enlarged.specs.Listed.{given_by, accepted-never}
 use Rattle.well_formed.specs.Given.{well}
 use Rattle.code.specs.Laws.WellFormed.{WellFormed}

@@ -1,22 +1,20 @@
 -- Lists of the same records forbid the same, and the values of lists that forbid the same are alike.
-use Rattle.std.specs.Prelude.{◌≡◌, refl, List, ◌↔◌, ℕ}
+use Rattle.std.specs.Prelude.{◌≡◌, List, ◌↔◌, ℕ}
 use Rattle.std.proofs.Common.{sym, ◌∙◌, subst}
 use Rattle.std.proofs.Math.Path.{fun_ext}
 use Rattle.code.specs.declared.Enlarged.{Enlarged}
 use Rattle.code.specs.declared.Limits.{Limits}
 use Rattle.code.specs.declared.Verdict.{Verdict}
-use Rattle.code.specs.Definitions.Lists.{any}
 use Rattle.code.specs.Definitions.Tables.{Permitted, table_of}
 use Rattle.code.specs.Definitions.Answers.{VerdictMeans}
-use Rattle.code.specs.Definitions.Bans.{Ban, is_ban, banned_by, with_bans}
-use Rattle.code.specs.Definitions.BanLists.{ban_of, ban_records, bans_of}
+use Rattle.code.specs.Definitions.Bans.{is_ban, with_bans}
+use Rattle.code.specs.Definitions.BanLists.{ban_of, bans_of}
 use Rattle.code.specs.Definitions.Enlarged.{original_table}
 use Rattle.code.specs.Definitions.Operations.{FromLists}
-use Rattle.code.specs.Laws.Lists.{any-map}
 use Rattle.ban_meaning.specs.Alike.{Alike, alike-back, alike-on, same-verdict}
 use Rattle.ban_meaning.specs.Given.{table_with}
 use Rattle.ban_meaning.proofs.Given.{lists-alike}
-use Rattle.ban_meaning.specs.Members.{SameElements, any_same}
+use Rattle.ban_meaning.specs.Members.{any_same}
 use Rattle.ban_meaning.specs.SameBans.{SameBans, SameRecords, banned-records}
 
 -- Lists of the same records forbid the same.

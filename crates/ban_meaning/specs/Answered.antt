@@ -1,17 +1,14 @@
 -- Enlarging by a list has one answer. Lists of the same records get the same one, and if they are accepted the two values are alike.
-use Rattle.std.specs.Prelude.{◌≡◌, refl, List, [], ◌∷◌, ◌↔◌, ℕ, ◌≤◌, length}
-use Rattle.std.proofs.Common.{sym, ap, ◌∙◌, inl, inr, arith}
+use Rattle.std.specs.Prelude.{◌≡◌, List, ℕ}
+use Rattle.std.proofs.Common.{sym, ap, ◌∙◌}
 use Rattle.code.specs.declared.Enlarged.{Enlarged}
 use Rattle.code.specs.declared.Enlargement.{Enlargement}
 use Rattle.code.specs.declared.Limits.{Limits}
 use Rattle.code.specs.declared.Refusal.{Refusal}
 use Rattle.code.specs.declared.SheetAnswer.TheVariants.{Refused}
-use Rattle.code.specs.Definitions.BanLists.{bans_of}
 use Rattle.code.specs.Definitions.Enlarged.{blank_enlarged}
-use Rattle.code.specs.Definitions.Operations.{Condition, Lowest, NoneHolds, ban_conditions, Enlarges, refused, enlarged}
+use Rattle.code.specs.Definitions.Operations.{ban_conditions, Enlarges, refused, enlarged}
 use Rattle.code.specs.Laws.Conditions.{lowest-unique, lowest-none}
-use Rattle.ban_meaning.specs.SameBans.{SameRecords}
-use Rattle.ban_meaning.specs.Copied.{refused17-same}
 
 module _ {l : Limits} {e : Enlarged} where
   -- Enlarging has at most one answer.

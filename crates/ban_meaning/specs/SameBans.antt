@@ -1,22 +1,11 @@
 -- What a ban list means does not depend on the order of its records, nor on records that stand in it more than once. The copies may then be numbered otherwise, but the two
 -- values are alike.
-use Rattle.std.specs.Prelude.{◌≡◌, refl, List, ◌↔◌, ℕ}
-use Rattle.std.proofs.Common.{sym, ◌∙◌, subst}
-use Rattle.std.proofs.Math.Path.{fun_ext}
-use Rattle.code.specs.declared.Enlarged.{Enlarged}
-use Rattle.code.specs.declared.Limits.{Limits}
-use Rattle.code.specs.declared.Verdict.{Verdict}
+use Rattle.std.specs.Prelude.{◌≡◌, refl, List, ℕ}
 use Rattle.code.specs.Definitions.Lists.{any}
-use Rattle.code.specs.Definitions.Tables.{Permitted, table_of}
-use Rattle.code.specs.Definitions.Answers.{VerdictMeans}
-use Rattle.code.specs.Definitions.Bans.{Ban, is_ban, banned_by, with_bans}
+use Rattle.code.specs.Definitions.Bans.{Ban, is_ban, banned_by}
 use Rattle.code.specs.Definitions.BanLists.{ban_of, ban_records, bans_of}
-use Rattle.code.specs.Definitions.Enlarged.{original_table}
-use Rattle.code.specs.Definitions.Operations.{FromLists}
 use Rattle.code.specs.Laws.Lists.{any-map}
-use Rattle.ban_meaning.specs.Alike.{Alike, alike-back, alike-on, same-verdict}
-use Rattle.ban_meaning.specs.Given.{table_with}
-use Rattle.ban_meaning.specs.Members.{SameElements, any_same}
+use Rattle.ban_meaning.specs.Members.{SameElements}
 
 -- Two lists of bans forbid the same.
 abbrev pub SameBans : List Ban → List Ban → Type 0
