@@ -1,15 +1,11 @@
 -- 01's cases 11 and 12 hold, of the codes that types and rules make.
-use Rattle.std.specs.Prelude.{◌≡◌, refl, true, ◌&&◌, List, [], ◌∷◌, ℕ, take}
+use Rattle.std.specs.Prelude.{◌≡◌, refl, true}
 use Rattle.std.proofs.Math.Bool.{and-eq-true_iff}
-use Rattle.code.specs.declared.Code.{Code}
 use Rattle.code.specs.Definitions.Delays.{Delay}
-use Rattle.code.specs.Definitions.Lists.{tabulate}
 use Rattle.code.specs.Definitions.Readings.{Ambiguous, Decipherable}
-use Rattle.code.specs.Definitions.Sheets.{limits}
 use Rattle.code.specs.Definitions.Tables.{table_of}
-use Rattle.cases.specs.Cases.{Expected, ambiguous, delay, check_table}
+use Rattle.cases.specs.Cases.{check_table}
 use Rattle.cases.proofs.Cases.{sound-table}
-use Rattle.turkish.specs.Types.{types, padded, code_of_types}
 use Rattle.turkish_verdicts.specs.Cases.{twelve, six, message_twelve, first_twelve, second_twelve, expected_twelve, expected_six, both-checked}
 
 each-checked : (check_table (table_of twelve) expected_twelve ≡ true) × (check_table (table_of six) expected_six ≡ true)

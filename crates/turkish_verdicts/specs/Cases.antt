@@ -1,14 +1,10 @@
 -- 01's cases 11 and 12, of the codes that types and rules make. One statement, proved by computation, says that both pass the check of the crate `cases`.
 use Rattle.std.specs.Prelude.{◌≡◌, refl, true, ◌&&◌, List, [], ◌∷◌, ℕ, take}
-use Rattle.std.proofs.Math.Bool.{and-eq-true_iff}
 use Rattle.code.specs.declared.Code.{Code}
-use Rattle.code.specs.Definitions.Delays.{Delay}
 use Rattle.code.specs.Definitions.Lists.{tabulate}
-use Rattle.code.specs.Definitions.Readings.{Ambiguous, Decipherable}
 use Rattle.code.specs.Definitions.Sheets.{limits}
 use Rattle.code.specs.Definitions.Tables.{table_of}
 use Rattle.cases.specs.Cases.{Expected, ambiguous, delay, check_table}
-use Rattle.cases.proofs.Cases.{sound-table}
 use Rattle.turkish.specs.Types.{types, padded, code_of_types}
 
 -- the twelve types, and the first six
