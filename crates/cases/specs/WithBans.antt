@@ -1,13 +1,11 @@
 -- Codes with bans that look two words back, as a table, and a code without its ban beside them. A lone statement, proved by computation, says that they pass the checks; so every
 -- entry holds.
 use Rattle.std.specs.Prelude.{◌≡◌, refl, true, ◌&&◌, ℕ}
-use Rattle.std.proofs.Math.Bool.{and-eq-true_iff}
-use mathlib.Core.List.{List, [], ◌∷◌, Memᴰ}
+use mathlib.Core.List.{List, [], ◌∷◌}
 use Rattle.code.specs.Definitions.Lists.{every}
 use Rattle.code.specs.Definitions.Bans.{Ban}
-use Rattle.cases.specs.Members.{every-member}
-use Rattle.cases.specs.Cases.{Case, Expected, delay, ambiguous, only_reading, Holds, check, sound}
-use Rattle.cases.specs.Banned.{BannedCase, BannedHolds, check_banned, sound-banned}
+use Rattle.cases.specs.Cases.{Case, Expected, delay, ambiguous, only_reading, check}
+use Rattle.cases.specs.Banned.{BannedCase, check_banned}
 use Rattle.cases.specs.Starred.{all_one, all_begin}
 
 -- three words 0, 1 and 011, of which each may begin and follow each
@@ -43,11 +41,3 @@ banned =
 pub banned-checked : (check freely && every check_banned banned) ≡ true
 unfolding every check check_banned
 banned-checked = refl
-
--- The code without its ban holds, by the definitions,
-pub freely-holds : Holds freely
-freely-holds = sound freely ((and-eq-true_iff (check freely) (every check_banned banned)).0 banned-checked).0
-
--- and so does every entry of the table.
-pub banned-hold : {c : BannedCase} → Memᴰ c banned → BannedHolds c
-banned-hold {c} m = sound-banned c (every-member check_banned ((and-eq-true_iff (check freely) (every check_banned banned)).0 banned-checked).1 m)

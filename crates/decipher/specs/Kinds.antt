@@ -18,7 +18,7 @@ use Rattle.code.specs.Definitions.Operations.{FromLists, Lowest, verdict_conditi
 use Rattle.code.specs.Definitions.Readings.{Ambiguous, Decipherable}
 use Rattle.code.specs.Definitions.Sheets.{limits}
 use Rattle.code.specs.Definitions.Tables.{Table}
-use Rattle.code.specs.Laws.Verdicts.{verdict-unique}
+use Rattle.code.proofs.Laws.Verdicts.{verdict-unique}
 use Rattle.decipher.specs.Buffers.{Short, Room, room-not-short}
 
 -- The verdict v holds of the table, by some message and readings.

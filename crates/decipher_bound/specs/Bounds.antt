@@ -11,7 +11,7 @@ use Rattle.code.specs.Definitions.NextWords.{NoDelay}
 use Rattle.code.specs.Definitions.Operations.{unordered_pairs}
 use Rattle.code.specs.Definitions.Sheets.{limits}
 use Rattle.code.specs.Definitions.Tables.{Table}
-use Rattle.code.specs.Laws.Delays.{delay-bounds, delay-decipherable}
+use Rattle.code.proofs.Laws.Delays.{delay-bounds, delay-decipherable}
 use Rattle.code.specs.Laws.Readings.{decipherable-not-two}
 use Rattle.decipher_delay.specs.Delays.{delay_of, DelayBy, finite, unbounded, given, delay-means}
 use Rattle.pair_longest.specs.Extents.{Given}

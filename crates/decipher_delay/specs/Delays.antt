@@ -12,7 +12,7 @@ use Rattle.code.specs.Definitions.Operations.{zeroed, unordered_pairs}
 use Rattle.code.specs.Definitions.Readings.{Decipherable}
 use Rattle.code.specs.Definitions.Sheets.{limits}
 use Rattle.code.specs.Definitions.Tables.{Table}
-use Rattle.code.specs.Laws.Delays.{no-rivals-delay}
+use Rattle.code.proofs.Laws.Delays.{no-rivals-delay}
 use Rattle.pair_longest.specs.declared.Extent.{Extent}
 use Rattle.pair_longest.specs.declared.Extent.TheVariants.{Finite as Most, Unbounded as Without-most}
 use Rattle.pair_longest.specs.Answer.{was-finite}

@@ -17,7 +17,7 @@ use Rattle.well_enlarged.specs.Listed.{from-lists}
 use Rattle.c_image.specs.Image.{Packable}
 use Rattle.well_formed.specs.Given.{well}
 use Rattle.turkish.specs.Types.{types, code_of_types}
-use Rattle.turkish.specs.Given.{twelve-from-sheet}
+use Rattle.turkish.proofs.Given.{twelve-from-sheet}
 
 packs : {e : Enlarged} → WellEnlarged limits e → Packable e
 packs w = record {

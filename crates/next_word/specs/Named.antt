@@ -15,7 +15,7 @@ use Rattle.code.specs.Definitions.Readings.{Reads}
 use Rattle.code.specs.Definitions.Sheets.{limits}
 use Rattle.code.specs.Definitions.Tables.{Table, word, begun, message, table_of}
 use Rattle.code.specs.Laws.Conditions.{lowest-none}
-use Rattle.code.specs.Laws.NextWords.{next-only, next-reading, next-is-first, high-by, not-foretold-by, foretells-alike, high-alike, not-foretold-alike}
+use Rattle.code.proofs.Laws.NextWords.{next-only, next-reading, next-is-first, high-by, not-foretold-by, foretells-alike, high-alike, not-foretold-alike}
 use Rattle.code.specs.Laws.Sequences.{rest-linked, permitted-linked, permitted-obeys, rest-obeys, message-below}
 use Rattle.ban_theory.specs.Covers.{lifted-permitted, lifted-message}
 use Rattle.well_enlarged.specs.Listed.{from-lists}

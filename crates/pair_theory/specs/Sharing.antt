@@ -7,8 +7,9 @@ use Rattle.std.proofs.Math.Decide.{dec_le}
 use Rattle.code.specs.Definitions.Tables.{Table, size, message}
 use Rattle.code.specs.Definitions.Readings.{Decipherable}
 use Rattle.code.specs.Definitions.Delays.{SharePrefix, Delay, WithoutBound}
-use Rattle.code.specs.Laws.Delays.{share-fewer, rivals-share}
-use Rattle.code.specs.Laws.Openings.{open-rivals, rivals→share}
+use Rattle.code.proofs.Laws.Delays.{share-fewer, rivals-share}
+use Rattle.code.specs.Laws.Openings.{open-rivals}
+use Rattle.code.proofs.Laws.Openings.{rivals→share}
 use Rattle.code.specs.Laws.Sequences.{first_word, shorter-whole}
 use Rattle.pair_theory.specs.Places.{first_place, Plain, Path, Parting, PairAfter, LongestPath}
 use Rattle.pair_theory.specs.Paths.{along, sequence-from}

@@ -3,7 +3,7 @@
 use Rattle.std.specs.Prelude.{◌≡◌, refl, List, [], ◌∷◌, ◌++◌, ℕ, take}
 use Rattle.code.specs.declared.SheetAnswer.TheVariants.{Accepted}
 use Rattle.code.specs.Definitions.Lists.{every, any, tabulate, sum}
-use Rattle.code.specs.Definitions.Sheets.{limits, body, records, fields, grid, bad_bytes, code_of, taken_grid, taken, FromSheet}
+use Rattle.code.specs.Definitions.Sheets.{limits, body, records, fields, grid, bad_bytes, code_of, taken_grid, taken}
 use Rattle.turkish.specs.Types.{types, padded, code_of_types}
 
 -- sheets/turkish-twelve.csv
@@ -40,6 +40,3 @@ six_sheet =
 pub six-given : taken limits six_sheet ≡ record { answer = Accepted; code = code_of_types limits (take 6 types) }
 unfolding taken taken_grid grid body records fields bad_bytes any every sum tabulate code_of padded code_of_types
 six-given = refl
-
-pub twelve-from-sheet : FromSheet limits (code_of_types limits types)
-twelve-from-sheet = record { sheet = twelve_sheet; gives = twelve-given }

@@ -1,7 +1,7 @@
 -- The table of Turkish letters is what its class sheet gives. The sheet stands here byte for byte, and is taken in by computation.
 use Rattle.std.specs.Prelude.{◌≡◌, refl, List, [], ◌∷◌, ◌++◌, ℕ}
 use Rattle.code.specs.declared.SheetAnswer.TheVariants.{Accepted}
-use Rattle.code.specs.Definitions.ClassSheets.{ranges_of, malformed, takes_sign, refused18, refused19, all_bytes, takers, refused20, class_by, classes_of, taken_classes, FromClassSheet}
+use Rattle.code.specs.Definitions.ClassSheets.{ranges_of, malformed, takes_sign, refused18, refused19, all_bytes, takers, refused20, class_by, classes_of, taken_classes}
 use Rattle.code.specs.Definitions.Lists.{any, every, tabulate}
 use Rattle.code.specs.Definitions.Sheets.{limits, body, records, fields, grid, bad_bytes}
 use Rattle.turkish_letters.specs.Letters.{turkish_classes}
@@ -48,6 +48,3 @@ turkish_class_sheet =
 pub turkish-given : taken_classes limits turkish_class_sheet ≡ record { answer = Accepted; classes = record { entries = turkish_classes } }
 unfolding taken_classes ranges_of malformed takes_sign refused18 refused19 all_bytes takers refused20 class_by classes_of any every tabulate body records fields grid bad_bytes turkish_classes
 turkish-given = refl
-
-pub turkish-from-sheet : FromClassSheet limits (record { entries = turkish_classes })
-turkish-from-sheet = record { sheet = turkish_class_sheet; gives = turkish-given }

@@ -13,8 +13,8 @@ use Rattle.decipher.specs.Kinds.{verdict-answered}
 use Rattle.decipher.specs.Shown.{judged-ambiguous}
 use Rattle.ban_meaning.specs.Empty.{plain-lists}
 use Rattle.ban_meaning.specs.Given.{plain-original}
-use Rattle.turkish.specs.Given.{twelve-from-sheet}
-use Rattle.turkish_verdicts.specs.Cases.{twelve, message_twelve, first_twelve, second_twelve, twelve-ambiguous}
+use Rattle.turkish.proofs.Given.{twelve-from-sheet}
+use Rattle.turkish_verdicts.specs.Cases.{twelve, message_twelve, first_twelve, second_twelve}
 
 abbrev pub verdict_twelve : Verdict
 verdict_twelve = Two-ways (record { 0 = 5 }) (record { 0 = 2 }) (record { 0 = 2 })
@@ -22,13 +22,3 @@ verdict_twelve = Two-ways (record { 0 = 5 }) (record { 0 = 2 }) (record { 0 = 2 
 -- The built-in code is a value that a sheet gives, without a ban.
 pub twelve-lists : FromLists limits (plain_of limits twelve)
 twelve-lists = plain-lists twelve-from-sheet
-
-module _ {m f g w m' f' g' w' : List ℕ} (room : Room (length m) (length f) (length g) (length w)) {r : Judgement}
-    (judges : Judges limits (plain_of limits twelve) m f g w m' f' g' w' r) where
-  pub twelve-answered : r ≡ Judged verdict_twelve
-  twelve-answered =
-      (verdict-answered twelve-lists room judges verdict_twelve).1
-      (record { x = message_twelve; s = first_twelve; u = second_twelve; means = rw (plain-original limits twelve) (twelve-ambiguous, refl, refl, refl) })
-
-  pub twelve-shown : (take 5 m' ≡ message_twelve) × (take 2 f' ≡ first_twelve) × (take 2 g' ≡ second_twelve)
-  twelve-shown = ambiguous-unique (rw (plain-original limits twelve) at (judged-ambiguous (rw twelve-answered at judges))) twelve-ambiguous

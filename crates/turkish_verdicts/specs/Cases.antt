@@ -1,13 +1,10 @@
 -- 01's cases 11 and 12, of the codes that types and rules make. One statement, proved by computation, says that both pass the check of the crate `cases`.
 use Rattle.std.specs.Prelude.{◌≡◌, refl, true, ◌&&◌, List, [], ◌∷◌, ℕ, take}
-use Rattle.std.proofs.Math.Bool.{and-eq-true_iff}
 use Rattle.code.specs.declared.Code.{Code}
-use Rattle.code.specs.Definitions.Delays.{Delay}
 use Rattle.code.specs.Definitions.Lists.{tabulate}
-use Rattle.code.specs.Definitions.Readings.{Ambiguous, Decipherable}
 use Rattle.code.specs.Definitions.Sheets.{limits}
 use Rattle.code.specs.Definitions.Tables.{table_of}
-use Rattle.cases.specs.Cases.{Expected, ambiguous, delay, check_table, sound-table}
+use Rattle.cases.specs.Cases.{Expected, ambiguous, delay, check_table}
 use Rattle.turkish.specs.Types.{types, padded, code_of_types}
 
 -- the twelve types, and the first six
@@ -34,15 +31,6 @@ expected_twelve = ambiguous message_twelve first_twelve second_twelve
 abbrev pub expected_six : Expected
 expected_six = delay 5
 
-both-checked : (check_table (table_of twelve) expected_twelve && check_table (table_of six) expected_six) ≡ true
+pub both-checked : (check_table (table_of twelve) expected_twelve && check_table (table_of six) expected_six) ≡ true
 unfolding check_table tabulate padded code_of_types
 both-checked = refl
-
-each-checked : (check_table (table_of twelve) expected_twelve ≡ true) × (check_table (table_of six) expected_six ≡ true)
-each-checked = (and-eq-true_iff (check_table (table_of twelve) expected_twelve) (check_table (table_of six) expected_six)).0 both-checked
-
-pub twelve-ambiguous : Ambiguous (table_of twelve) message_twelve first_twelve second_twelve
-twelve-ambiguous = sound-table (table_of twelve) (λ x y z. refl) expected_twelve each-checked.0
-
-pub six-delay : Decipherable (table_of six) × Delay (table_of six) 5
-six-delay = sound-table (table_of six) (λ x y z. refl) expected_six each-checked.1

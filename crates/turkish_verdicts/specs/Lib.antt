@@ -1,4 +1,3 @@
 pub mod Cases
-pub mod Lines
 pub mod Answered
 pub mod Words

@@ -27,9 +27,9 @@ use Rattle.code.specs.Definitions.NextWords.{naming_conditions, foretelling_cond
 use Rattle.code.specs.Definitions.Operations.{written, Shown, encoding_conditions, reading_conditions, verdict_conditions, Encodes, ReadsMessage, Judges}
 use Rattle.code.specs.Definitions.Splitting.{splitting_conditions, SplitsText}
 use Rattle.code.specs.Laws.Conditions.{lowest-unique, lowest-none}
-use Rattle.code.specs.Laws.NextWords.{foretells-unique}
+use Rattle.code.proofs.Laws.NextWords.{foretells-unique}
 use Rattle.code.specs.Laws.Readings.{decipherable-not-ambiguous, ambiguous-unique, only-reading-unique, first-two-unique, none-not-only, none-not-two, only-not-two}
-use Rattle.code.specs.Laws.Verdicts.{verdict-unique}
+use Rattle.code.proofs.Laws.Verdicts.{verdict-unique}
 use Rattle.text_theory.specs.Unique.{splits-unique}
 
 symbol-count : (a b : SymbolCount) → a.0 ≡ b.0 → a ≡ b

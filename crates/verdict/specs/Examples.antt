@@ -21,14 +21,17 @@ use Rattle.code.specs.Laws.Sequences.{Plain}
 use Rattle.well_formed.specs.Given.{well}
 use Rattle.csv_records.specs.Digits.{digit_of}
 use Rattle.pair_places.specs.Codes.{code_fits}
-use Rattle.cases.specs.Banned.{check_with, sound-with}
+use Rattle.cases.specs.Banned.{check_with}
+use Rattle.cases.proofs.Banned.{sound-with}
 use Rattle.cases.specs.Cases.{delay}
 use Rattle.cases.specs.Enumeration.{readings}
-use Rattle.cases.specs.Messages.{least_is, ambiguous-means}
+use Rattle.cases.specs.Messages.{least_is}
+use Rattle.cases.proofs.Messages.{ambiguous-means}
 use Rattle.cases.specs.Readings.{first_two_of, first-two-means}
 use Rattle.ban_meaning.specs.Alike.{same-verdict}
 use Rattle.ban_meaning.specs.Empty.{empty-list}
-use Rattle.ban_meaning.specs.Given.{plain-original, lists-alike}
+use Rattle.ban_meaning.specs.Given.{plain-original}
+use Rattle.ban_meaning.proofs.Given.{lists-alike}
 use Rattle.printing.specs.Printed.{places}
 use Rattle.verdict.specs.Answers.{sheet-accepted, RightFor, Answers}
 use Rattle.verdict.specs.Unique.{answer-right}

@@ -14,7 +14,7 @@ use Rattle.code.specs.Definitions.Enlarged.{plain_of, original_table}
 use Rattle.code.specs.Definitions.Operations.{written}
 use Rattle.code.specs.Definitions.Sheets.{limits, taken}
 use Rattle.code.specs.Laws.Readings.{ambiguous-unique}
-use Rattle.code.specs.Laws.Verdicts.{verdict-unique}
+use Rattle.code.proofs.Laws.Verdicts.{verdict-unique}
 use Rattle.ban_meaning.specs.Answered.{enlarges-unique}
 use Rattle.printing.specs.Printed.{printed}
 use Rattle.sheet.proofs.Laws.Either.{not-both, one-refusal}

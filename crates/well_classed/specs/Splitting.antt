@@ -5,7 +5,8 @@ use Rattle.code.specs.declared.Limits.{Limits}
 use Rattle.code.specs.Definitions.ClassSheets.{FromClassSheet}
 use Rattle.code.specs.Definitions.Tables.{Table}
 use Rattle.code.specs.Definitions.Texts.{is_letter, Splits}
-use Rattle.text_theory.specs.Signs.{those, splits-letters}
+use Rattle.text_theory.specs.Signs.{those}
+use Rattle.text_theory.proofs.Signs.{splits-letters}
 use Rattle.well_classed.specs.Given.{given-well}
 use Rattle.well_classed.specs.Signs.{signs-no-letters}
 

@@ -13,7 +13,7 @@ use Rattle.code.specs.declared.Code.{Code}
 use Rattle.code.specs.Definitions.NextWords.{NextWord}
 use Rattle.code.specs.Definitions.Sheets.{limits}
 use Rattle.code.specs.Definitions.Tables.{Table, size, message, table_of}
-use Rattle.code.specs.Laws.NextWords.{next-none, next_known}
+use Rattle.code.proofs.Laws.NextWords.{next-none, next_known}
 use Rattle.code.specs.Laws.Sequences.{shorter-whole}
 use Rattle.read_sets.specs.Sets.{SetsOf, Lays}
 use Rattle.read_marks.specs.Message.{symbols_at, text}

@@ -20,7 +20,7 @@ use Rattle.code.specs.Definitions.NextWords.{NextWord, NoDelay, HighSoon, NotFor
 use Rattle.code.specs.Definitions.Operations.{FromLists, HasHigh, verdict_work}
 use Rattle.code.specs.Definitions.Sheets.{limits}
 use Rattle.code.specs.Definitions.Tables.{table_of}
-use Rattle.code.specs.Laws.NextWords.{next_known, high-by, not-foretold-by}
+use Rattle.code.proofs.Laws.NextWords.{next_known, high-by, not-foretold-by}
 use Rattle.ban_theory.specs.NextWords.{named-next, lifted-next, named-endless}
 use Rattle.ban_theory.specs.Matches.{named-delay}
 use Rattle.well_enlarged.specs.Meaning.{value-covers}

@@ -24,7 +24,7 @@ use Rattle.code.specs.Definitions.Operations.{Lowest}
 use Rattle.code.specs.Definitions.Sheets.{limits, taken, FromSheet}
 use Rattle.code.specs.Definitions.Splitting.{splitting_conditions, SplitsText, refused, split}
 use Rattle.turkish_letters.specs.Letters.{turkish_classes}
-use Rattle.turkish_letters.specs.Given.{turkish-from-sheet}
+use Rattle.turkish_letters.proofs.Given.{turkish-from-sheet}
 use Rattle.ban_meaning.specs.Empty.{plain-lists}
 use Rattle.ban_meaning.specs.Given.{plain-original}
 use Rattle.printing.specs.Printed.{refused_record}
@@ -32,7 +32,7 @@ use Rattle.printing.proofs.Laws.Starts.{starts-counts}
 use Rattle.sheet.proofs.Laws.Either.{not-both, one-refusal}
 use Rattle.sheet.proofs.Laws.Taking.{way_long}
 use Rattle.turkish.specs.Types.{types, code_of_types}
-use Rattle.turkish.specs.Given.{twelve-from-sheet}
+use Rattle.turkish.proofs.Given.{twelve-from-sheet}
 use Rattle.writing.specs.Puts.{Starts}
 use Rattle.syllabify.specs.Answers as Answers
 use Rattle.syllabify.specs.Answers.{code_given, classes_given, Answer, sheet-refused, classes-refused, text-refused, output, output_room, Shown, SplitsGiven, stands, Printed, stays, put, Answers, AnswersInput}

@@ -31,7 +31,8 @@ use Rattle.printing.proofs.Laws.Starts.{starts-counts}
 use Rattle.writing.specs.Puts.{Starts}
 use Rattle.printing.specs.Prints.{lengths_of, Symbols, Printable, Prints, all, none, result}
 use Rattle.ban_meaning.specs.Alike.{same_reads}
-use Rattle.ban_meaning.specs.Given.{table_with, lists-alike}
+use Rattle.ban_meaning.specs.Given.{table_with}
+use Rattle.ban_meaning.proofs.Given.{lists-alike}
 use Rattle.sheet.proofs.Laws.Either.{not-both}
 use Rattle.verdict.specs.Answers.{output_room, Gives, sheet-refused, sheet-accepted, Answers, Shows}
 

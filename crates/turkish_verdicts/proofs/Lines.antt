@@ -5,7 +5,8 @@ use Rattle.code.specs.Definitions.Lists.{tabulate}
 use Rattle.code.specs.Definitions.NextWords.{Foretells}
 use Rattle.code.specs.Definitions.Tables.{table_of, one, more, begun, one_word, two-words}
 use Rattle.turkish.specs.Types.{padded, code_of_types}
-use Rattle.turkish_verdicts.specs.Cases.{six, six-delay}
+use Rattle.turkish_verdicts.specs.Cases.{six}
+use Rattle.turkish_verdicts.proofs.Cases.{six-delay}
 
 -- 1011 is CVCC if the line ends there; as soon as a vowel comes in, the first syllable is CVC, whatever comes behind.
 pub ended-line : Foretells (table_of six) (1 ∷ 0 ∷ 1 ∷ 1 ∷ []) 5

@@ -8,7 +8,7 @@ use Rattle.code.specs.Definitions.Delays.{Delay}
 use Rattle.code.specs.Definitions.NextWords.{NextWord, HighSoon, NotForetold, Foretells}
 use Rattle.code.specs.Definitions.Operations.{HasHigh}
 use Rattle.code.specs.Laws.Sequences.{NonEmpty, first_word, permitted-linked, first-begins}
-use Rattle.code.specs.Laws.Delays.{delay-unique, delay-least}
+use Rattle.code.proofs.Laws.Delays.{delay-unique, delay-least}
 
 module _ {t : Table} {N : ℕ} where
   -- With delay N the first N symbols tell at most one word.

@@ -1,0 +1,18 @@
+-- The code without its ban and every entry of the table hold, since they pass the checks.
+use Rattle.std.proofs.Math.Bool.{and-eq-true_iff}
+use mathlib.Core.List.{Memᴰ}
+use Rattle.code.specs.Definitions.Lists.{every}
+use Rattle.cases.specs.Members.{every-member}
+use Rattle.cases.specs.Cases.{Holds, check}
+use Rattle.cases.proofs.Cases.{sound}
+use Rattle.cases.specs.Banned.{BannedCase, BannedHolds, check_banned}
+use Rattle.cases.proofs.Banned.{sound-banned}
+use Rattle.cases.specs.WithBans.{freely, banned, banned-checked}
+
+-- The code without its ban holds, by the definitions,
+pub freely-holds : Holds freely
+freely-holds = sound freely ((and-eq-true_iff (check freely) (every check_banned banned)).0 banned-checked).0
+
+-- and so does every entry of the table.
+pub banned-hold : {c : BannedCase} → Memᴰ c banned → BannedHolds c
+banned-hold {c} m = sound-banned c (every-member check_banned ((and-eq-true_iff (check freely) (every check_banned banned)).0 banned-checked).1 m)

@@ -1,0 +1,29 @@
+-- What `decipher::verdict` answers for the twelve types, in buffers that are long enough, and what these then begin with.
+use Rattle.std.specs.Prelude.{◌≡◌, refl, List, ℕ, length, take}
+use Rattle.code.specs.declared.Judgement.{Judgement}
+use Rattle.code.specs.declared.Judgement.TheVariants.{Judged}
+use Rattle.code.specs.declared.Verdict.{Verdict}
+use Rattle.code.specs.declared.Verdict.TheVariants.{Ambiguous as Two-ways}
+use Rattle.code.specs.Definitions.Enlarged.{plain_of}
+use Rattle.code.specs.Definitions.Operations.{FromLists, Judges}
+use Rattle.code.specs.Definitions.Sheets.{limits}
+use Rattle.code.specs.Laws.Readings.{ambiguous-unique}
+use Rattle.decipher.specs.Buffers.{Room}
+use Rattle.decipher.specs.Kinds.{verdict-answered}
+use Rattle.decipher.specs.Shown.{judged-ambiguous}
+use Rattle.ban_meaning.specs.Empty.{plain-lists}
+use Rattle.ban_meaning.specs.Given.{plain-original}
+use Rattle.turkish.proofs.Given.{twelve-from-sheet}
+use Rattle.turkish_verdicts.specs.Cases.{twelve, message_twelve, first_twelve, second_twelve}
+use Rattle.turkish_verdicts.proofs.Cases.{twelve-ambiguous}
+use Rattle.turkish_verdicts.specs.Answered.{verdict_twelve, twelve-lists}
+
+module _ {m f g w m' f' g' w' : List ℕ} (room : Room (length m) (length f) (length g) (length w)) {r : Judgement}
+    (judges : Judges limits (plain_of limits twelve) m f g w m' f' g' w' r) where
+  pub twelve-answered : r ≡ Judged verdict_twelve
+  twelve-answered =
+      (verdict-answered twelve-lists room judges verdict_twelve).1
+      (record { x = message_twelve; s = first_twelve; u = second_twelve; means = rw (plain-original limits twelve) (twelve-ambiguous, refl, refl, refl) })
+
+  pub twelve-shown : (take 5 m' ≡ message_twelve) × (take 2 f' ≡ first_twelve) × (take 2 g' ≡ second_twelve)
+  twelve-shown = ambiguous-unique (rw (plain-original limits twelve) at (judged-ambiguous (rw twelve-answered at judges))) twelve-ambiguous
