@@ -18,7 +18,7 @@ loop-symbol-init c = (search symbols-passed, search rules, search group-within, 
 
 pub next_symbol-symbol-requires-in-loop-symbol : goal.next_symbol-symbol-requires-in-loop-symbol
 next_symbol-symbol-requires-in-loop-symbol c =
-    (search rules, known-again c.expand-symbol.ensures c.e.given.1, search rules, search rules)
+    (search rules, known-again c.expand_symbol.ensures c.in-Tail.is, search rules, search rules)
 
 pub returns-in-Goal : goal.returns-in-Goal
 returns-in-Goal c = search goal-again

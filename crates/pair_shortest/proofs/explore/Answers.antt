@@ -1,0 +1,32 @@
+use borrow.Author.Rules.{rules}
+use mathlib.Core.Path.{◌≡◌}
+use Prim.Native.Nat.{◌+◌, ◌≤◌, ◌-◌}
+use lib.ListN.{length}
+use Rattle.pair_places.specs.Flat.{pair_count}
+use Rattle.pair_places.specs.Opens.{open_graph}
+use Rattle.pair_storage.specs.Entries.{entries_in}
+use Rattle.pair_storage.specs.Marks.{marks}
+use Rattle.pair_groups.specs.Queue.{Between}
+use Rattle.pair_shortest.proofs.Laws.Groups.{was-moved, explore-goal, explore-end, explore-less, moved-few}
+use Rattle.pair_shortest.proofs.explore.Goals as goal
+
+pub loop-start-init : goal.loop-start-init
+loop-start-init c = (search rules, search rules, search rules, search rules)
+
+pub returns-in-Goal : goal.returns-in-Goal
+returns-in-Goal c = search explore-goal
+
+pub loop-start-smaller : goal.loop-start-smaller
+loop-start-smaller c = search explore-less
+
+pub loop-start-preserved : goal.loop-start-preserved
+loop-start-preserved c = (search was-moved, search rules, search moved-few, (cc))
+
+pub returns : goal.returns
+returns c = search explore-end
+
+pub shape_of-work-in-Goal : goal.shape_of-work-in-Goal
+shape_of-work-in-Goal c = cc
+
+pub shape_of-work : goal.shape_of-work
+shape_of-work c = cc

@@ -1,0 +1,7 @@
+-- `seed` stores the entry of the source, which is read back as such, and keeps the mark beside it.
+use borrow.Author.Rules.{rules}
+use Rattle.pair_shortest.specs.Writing.{seeded, seeded-marks}
+use Rattle.pair_shortest.proofs.seed.Goals as goal
+
+pub returns : goal.returns
+returns c = (search seeded, search seeded-marks)
