@@ -25,18 +25,18 @@ step() {
 
 in_reference() (cd reference && "$@")
 
-# The proved programs, proved and built anew: by its stamp alone `rt` would take whatever stands in their place for them.
+# The proved programs, built anew.
 programs_built() {
     local program
-    for program in verdict syllabify turkish_matrix; do rm -f "target/bin/$program" "target/stamp/$program"; done
-    rt check verdict syllabify turkish_matrix
+    rm -rf target/bin
+    tools/build verdict syllabify turkish_matrix
     for program in verdict syllabify turkish_matrix; do test -x "target/bin/$program"; done
 }
 
 # The proved archive, built anew.
 archive_built() {
-    rm -f target/staticlib/libfurlazon.a
-    rt staticlib furlazon
+    rm -rf target/staticlib
+    tools/build furlazon
     test -s target/staticlib/libfurlazon.a
 }
 

@@ -1,5 +1,5 @@
 // The operations for C and for Rust. A table crosses as its image, a flat run of bytes, and classes as their entries; an answer crosses as the number returned, 0 for a result or the
-// refusal's, and as entries of a lent buffer. include/furlazon.h declares these functions for C.
+// refusal's, and as entries of a lent buffer. The crate `furlazon_c` exports these functions under their names, and include/furlazon.h declares them for C.
 
 #![tactic(auto)]
 
@@ -18,8 +18,7 @@ use code::{Classes, Refusal, SheetAnswer};
 use well_enlarged::plain;
 
 // Takes in a sheet. 0: accepted, and the table's image stands at the start of `table`. Else the refusal's number, and `table` is as it was.
-#[unsafe(no_mangle)]
-pub extern "C" fn furlazon_take_in(sheet: &[u8], table: &mut [u8]) -> u64
+pub fn furlazon_take_in(sheet: &[u8], table: &mut [u8]) -> u64
     ensures { TakesIn sheet.now table.old table.new result }
 {
     let taken = sheet::take_in(sheet);
@@ -30,8 +29,7 @@ pub extern "C" fn furlazon_take_in(sheet: &[u8], table: &mut [u8]) -> u64
 }
 
 // Takes in a class sheet. 0: accepted, and the class of each byte stands at the start of `classes`. Else the refusal's number, and `classes` is as it was.
-#[unsafe(no_mangle)]
-pub extern "C" fn furlazon_take_classes(sheet: &[u8], classes: &mut [u8]) -> u64
+pub fn furlazon_take_classes(sheet: &[u8], classes: &mut [u8]) -> u64
     ensures { ClassesCall sheet.now classes.old classes.new result }
 {
     let taken = take_classes(sheet);
@@ -41,8 +39,7 @@ pub extern "C" fn furlazon_take_classes(sheet: &[u8], classes: &mut [u8]) -> u64
 }
 
 // Gives the built-in code of the twelve Turkish types. 0: its table's image stands at the start of `table`. Else 13, and `table` is as it was.
-#[unsafe(no_mangle)]
-pub extern "C" fn furlazon_turkish(table: &mut [u8]) -> u64
+pub fn furlazon_turkish(table: &mut [u8]) -> u64
     ensures { TurkishCall table.old table.new result }
 {
     let value = plain(turkish::twelve());
@@ -50,8 +47,7 @@ pub extern "C" fn furlazon_turkish(table: &mut [u8]) -> u64
 }
 
 // Gives the built-in classes of the Turkish letters. 0: they stand at the start of `classes`. Else 13, and `classes` is as it was.
-#[unsafe(no_mangle)]
-pub extern "C" fn furlazon_turkish_classes(classes: &mut [u8]) -> u64
+pub fn furlazon_turkish_classes(classes: &mut [u8]) -> u64
     ensures { TurkishClassesCall classes.old classes.new result }
 {
     let given = turkish_letters::turkish();
@@ -60,8 +56,7 @@ pub extern "C" fn furlazon_turkish_classes(classes: &mut [u8]) -> u64
 
 // Enlarges a table by a list of bans that look two words back. 0: accepted, and the image of the enlarged table stands at the start of `enlarged`. Else the
 // refusal's number, and `enlarged` is as it was.
-#[unsafe(no_mangle)]
-pub extern "C" fn furlazon_enlarge(table: &[u8], bans: &[u8], enlarged: &mut [u8]) -> u64
+pub fn furlazon_enlarge(table: &[u8], bans: &[u8], enlarged: &mut [u8]) -> u64
     ensures { EnlargeCall table.now bans.now enlarged.old enlarged.new result }
 {
     if table.len() < Image::LENGTH {
@@ -76,13 +71,7 @@ pub extern "C" fn furlazon_enlarge(table: &[u8], bans: &[u8], enlarged: &mut [u8
 
 // Encodes a sequence of word numbers. 0: the message stands at the start of `message`, and `answer` has its length. Else the refusal's number, and
 // both are as they were.
-#[unsafe(no_mangle)]
-pub extern "C" fn furlazon_encode(
-    table: &[u8],
-    words: &[u8],
-    message: &mut [u8],
-    answer: &mut [u64],
-) -> u64
+pub fn furlazon_encode(table: &[u8], words: &[u8], message: &mut [u8], answer: &mut [u64]) -> u64
     ensures { EncodeCall table.now words.now message.old answer.old
         message.new answer.new result }
 {
@@ -99,8 +88,7 @@ pub extern "C" fn furlazon_encode(
 
 // Reads a message. 0: the only reading or the first two stand at the start of `first` and `second`; `answer` has 1 or 2, and their lengths. Else the
 // refusal's number, and the buffers are as they were, except that 14 leaves `work` all zero.
-#[unsafe(no_mangle)]
-pub extern "C" fn furlazon_read(
+pub fn furlazon_read(
     table: &[u8],
     message: &[u8],
     first: &mut [u8],
@@ -124,13 +112,7 @@ pub extern "C" fn furlazon_read(
 
 // Names the next word of a message from as many symbols as the table's delay. 0: `answer` has its number, and `work` is all zero. Else the refusal's number, the first
 // that holds of 8, 11, 13, 21, 12 and 14; `answer` is as it was, and so is `work` after 8, 11 and 13, but 21, 12 and 14 leave it all zero.
-#[unsafe(no_mangle)]
-pub extern "C" fn furlazon_next(
-    table: &[u8],
-    message: &[u8],
-    work: &mut [u64],
-    answer: &mut [u64],
-) -> u64
+pub fn furlazon_next(table: &[u8], message: &[u8], work: &mut [u64], answer: &mut [u64]) -> u64
     ensures { NextCall table.now message.now work.old answer.old work.new answer.new result }
 {
     if table.len() < Image::LENGTH {
@@ -146,8 +128,7 @@ pub extern "C" fn furlazon_next(
 
 // Gives the verdict on a table. 0: `answer` has 1, 2 or 3 for ambiguous, decipherable with a delay, or without bound, and the lengths or the delay. For
 // an ambiguous code the message and its first two readings stand at the start of their buffers. Else the refusal's number, and nothing is changed.
-#[unsafe(no_mangle)]
-pub extern "C" fn furlazon_verdict(
+pub fn furlazon_verdict(
     table: &[u8],
     message: &mut [u8],
     first: &mut [u8],
@@ -171,8 +152,7 @@ pub extern "C" fn furlazon_verdict(
 
 // Splits a text of letters of these classes into syllables. 0: the output stands at the start of `out`, `answer` has its length, and `message`, `first`, `second` and `work`
 // are all zero. Else the refusal's number, and nothing is changed.
-#[unsafe(no_mangle)]
-pub extern "C" fn furlazon_split(
+pub fn furlazon_split(
     table: &[u8],
     classes: &[u8],
     text: &[u8],

@@ -1,4 +1,4 @@
-//! Links the proved archive, which `rt staticlib furlazon` writes. FURLAZON_LIBRARY names its folder where that is another one.
+//! Links the proved archive, which `tools/build furlazon` writes. FURLAZON_LIBRARY names its folder where that is another one.
 
 use std::{env, path::PathBuf};
 
