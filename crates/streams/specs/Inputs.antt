@@ -10,14 +10,14 @@ use Rattle.streams.specs.declared.Step.TheVariants.{Bytes as Some, End, Interrup
 -- The bytes of an input stand at the start of a buffer.
 abbrev pub Holds : List ℕ → Input → Type 0
 Holds b (Bytes n) = IsPrefixLen n b
-Holds b Failed = Unit
+Holds b (Failed e) = Unit
 
 -- One read of at most this many bytes gave some of them, or none.
 abbrev pub Within : ℕ → Step → Type 0
 Within most (Some n) = (1 ≤ n) × (n ≤ most)
 Within most End = Unit
 Within most Interrupted = Unit
-Within most Broken = Unit
+Within most (Broken e) = Unit
 
 -- `INTERRUPTIONS`
 abbrev pub most_interruptions : ℕ
