@@ -3,7 +3,7 @@
 
 #![tactic(auto)]
 
-mod failures;
+pub mod failures;
 pub mod refusals;
 
 ghost use Rattle.program.specs.Arguments.{Named};
