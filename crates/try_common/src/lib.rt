@@ -28,6 +28,9 @@ pub fn read_file(rt: &HostRuntime, path: &[u8], bytes: &mut [u8]) -> usize
     }
 }
 
+// The bytes that there are for an argument.
+pub const ARGUMENT: usize = 4096;
+
 // The bytes of argument i, at the start of `word`; none where the program has no such argument. One that is longer counts as empty.
 pub fn argument(rt: &impl Env, i: usize, word: &mut [u8]) -> Option<usize>
     ensures { IfSome result (λ n. IsPrefixLen n word.new) }
