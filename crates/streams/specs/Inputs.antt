@@ -16,7 +16,7 @@ Holds b (Failed e) = Unit
 abbrev pub Within : ℕ → Step → Type 0
 Within most (Some n) = (1 ≤ n) × (n ≤ most)
 Within most End = Unit
-Within most Interrupted = Unit
+Within most (Interrupted e) = Unit
 Within most (Broken e) = Unit
 
 -- `INTERRUPTIONS`

@@ -21,7 +21,7 @@ pub enum Input {
 enum Step {
     Bytes(usize),
     End,
-    Interrupted,
+    Interrupted(Error),
     Failed(Error),
 }
 
@@ -34,7 +34,7 @@ fn read_once<R: Read>(reader: &mut R, part: &mut [u8]) -> Step
     match reader.read(part) {
         Ok(0) => Step::End,
         Ok(n) => Step::Bytes(n),
-        Err(e) if e.kind() == ErrorKind::Interrupted => Step::Interrupted,
+        Err(e) if e.kind() == ErrorKind::Interrupted => Step::Interrupted(e),
         Err(e) => Step::Failed(e),
     }
 }
@@ -51,9 +51,9 @@ pub fn read_input<R: Read>(reader: &mut R, bytes: &mut [u8]) -> Input
             Step::Bytes(n) => done += n,
             Step::End => return Input::Bytes(done),
             Step::Failed(e) => return Input::Failed(e),
-            Step::Interrupted => {
+            Step::Interrupted(e) => {
                 if interruptions == INTERRUPTIONS {
-                    return Input::Failed(Error::from(ErrorKind::Interrupted));
+                    return Input::Failed(e);
                 }
                 interruptions += 1;
             }
