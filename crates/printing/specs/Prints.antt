@@ -41,10 +41,10 @@ pub record Printable (j : Judgement) (m f g : List ℕ) (size : ℕ) : Type 0 wh
   pub room : needed (lengths_of j) ≤ size
 
 -- The printed result of a judgement whose message and readings stand at the start of these buffers.
-abbrev pub result : Judgement → (m f g : List ℕ) → List ℕ
-result j m f g = printed j (take (lengths_of j).message m) (take (lengths_of j).first f) (take (lengths_of j).second g)
+abbrev pub result_of : Judgement → (m f g : List ℕ) → List ℕ
+result_of j m f g = printed j (take (lengths_of j).message m) (take (lengths_of j).first f) (take (lengths_of j).second g)
 
 -- The output buffer o becomes o', and the answer is how many bytes were printed: none, or all.
 pub data Prints (j : Judgement) (m f g o o' : List ℕ) : ℕ → Type 0 where
-  all : {r : ℕ} → Printable j m f g (length o) → r ≡ length (result j m f g) → o' ≡ written (result j m f g) o → Prints j m f g o o' r
+  all : {r : ℕ} → Printable j m f g (length o) → r ≡ length (result_of j m f g) → o' ≡ written (result_of j m f g) o → Prints j m f g o o' r
   none : (Printable j m f g (length o) → ⊥) → o' ≡ o → Prints j m f g o o' 0

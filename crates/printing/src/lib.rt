@@ -11,7 +11,7 @@ ghost use Rattle.csv_records.specs.Digits.{digit_of};
 ghost use Rattle.code.specs.Laws.Exactly.{Exactly};
 ghost use Rattle.printing.specs.Printed.{decimal, record_of, ambiguous, refused_record};
 ghost use Rattle.writing.specs.Puts.{Puts, Starts};
-ghost use Rattle.printing.specs.Prints.{lengths_of, needed, Symbols, Printable, result, Prints};
+ghost use Rattle.printing.specs.Prints.{lengths_of, needed, Symbols, Printable, result_of, Prints};
 
 use code::{Judgement, Refusal, SymbolCount, Verdict, Word, WordCount};
 use puts::{put_decimal, put_digits, put_reading};
@@ -33,7 +33,7 @@ impl Lengths {
 
     // Whether a buffer of this size has room for a result of these lengths.
     fn fit(self, size: usize) -> bool
-        ensures* { λ r. ⌜ Exactly r (needed self ≤ size) ⌝ }
+        ensures { Exactly result (needed self ≤ size) }
     {
         if size < Lengths::FRAME {
             return false;
@@ -51,7 +51,7 @@ impl Lengths {
 }
 
 fn shown(judgement: Judgement) -> Lengths
-    ensures* { λ r. ⌜ r ≡ lengths_of judgement ⌝ }
+    ensures { result ≡ lengths_of judgement }
 {
     match judgement {
         Judgement::Judged(verdict) => match verdict {
@@ -68,7 +68,7 @@ fn shown(judgement: Judgement) -> Lengths
 }
 
 fn no_lengths() -> Lengths
-    ensures* { λ r. ⌜ r ≡ record { message = 0; first = 0; second = 0 } ⌝ }
+    ensures { result ≡ record { message = 0; first = 0; second = 0 } }
 {
     Lengths {
         message: 0,
@@ -79,7 +79,7 @@ fn no_lengths() -> Lengths
 
 // Whether every entry of a message is a symbol.
 fn all_symbols(message: &[u8]) -> bool
-    ensures* { λ r. ⌜ Exactly r (Symbols message.now) ⌝ }
+    ensures { Exactly result (Symbols message.now) }
 {
     let mut i: usize = 0;
     while i < message.len() {
@@ -93,7 +93,7 @@ fn all_symbols(message: &[u8]) -> bool
 
 // Whether the result can be printed.
 fn printable(judgement: Judgement, message: &[u8], first: &[u8], second: &[u8], size: usize) -> bool
-    ensures* { λ r. ⌜ Exactly r (Printable judgement message.now first.now second.now size) ⌝ }
+    ensures { Exactly result (Printable judgement message.now first.now second.now size) }
 {
     let lengths = shown(judgement);
     let n = lengths.message;
@@ -116,7 +116,7 @@ fn printable(judgement: Judgement, message: &[u8], first: &[u8], second: &[u8], 
 // A record of a word, which ends with its comma, and a number.
 fn put_pair(word: &[u8], number: u64, out: &mut [u8]) -> usize
     requires { length word.now + 22 ≤ length out.old }
-    ensures* { λ r. ⌜ Starts (word.now ++ decimal number ++ (13 ∷ 10 ∷ [])) out.old out.new r ⌝ }
+    ensures { Starts (word.now ++ decimal number ++ (13 ∷ 10 ∷ [])) out.old out.new result }
 {
     let comma = put(out, 0, word);
     let end = put_decimal(out, comma, number);
@@ -126,7 +126,7 @@ fn put_pair(word: &[u8], number: u64, out: &mut [u8]) -> usize
 // The record of a refusal: it takes at most 30 bytes.
 pub fn put_refused(refusal: Refusal, out: &mut [u8]) -> usize
     requires { 30 ≤ length out.old }
-    ensures* { λ r. ⌜ Starts (refused_record refusal) out.old out.new r ⌝ }
+    ensures { Starts (refused_record refusal) out.old out.new result }
 {
     put_pair(b"refused,", refusal.number() as u64, out)
 }
@@ -134,7 +134,7 @@ pub fn put_refused(refusal: Refusal, out: &mut [u8]) -> usize
 // The record of an ambiguous message.
 fn put_message(message: &[u8], out: &mut [u8]) -> usize
     requires { (length message.now + 12 ≤ length out.old) × Symbols message.now }
-    ensures* { λ r. ⌜ Puts 0 (record_of (ambiguous ∷ map digit_of message.now ∷ [])) out.old out.new r ⌝ }
+    ensures { Puts 0 (record_of (ambiguous ∷ map digit_of message.now ∷ [])) out.old out.new result }
 {
     let comma = put(out, 0, b"ambiguous,");
     let end = put_digits(out, comma, message);
@@ -152,7 +152,7 @@ fn put_ambiguous(
     out: &mut [u8],
 ) -> usize
     requires { Printable (Judged (Ambiguous symbols earlier later)) message.now first.now second.now (length out.old) }
-    ensures* { λ r. ⌜ Starts (result (Judged (Ambiguous symbols earlier later)) message.now first.now second.now) out.old out.new r ⌝ }
+    ensures { Starts (result_of (Judged (Ambiguous symbols earlier later)) message.now first.now second.now) out.old out.new result }
 {
     let m = symbols.0;
     let f = earlier.0;
@@ -170,7 +170,7 @@ fn put_verdict(
     out: &mut [u8],
 ) -> usize
     requires { Printable (Judged verdict) message.now first.now second.now (length out.old) }
-    ensures* { λ r. ⌜ Starts (result (Judged verdict) message.now first.now second.now) out.old out.new r ⌝ }
+    ensures { Starts (result_of (Judged verdict) message.now first.now second.now) out.old out.new result }
 {
     match verdict {
         Verdict::Ambiguous(symbols, earlier, later) => put_ambiguous(
@@ -189,7 +189,7 @@ fn put_result(
     out: &mut [u8],
 ) -> usize
     requires { Printable judgement message.now first.now second.now (length out.old) }
-    ensures* { λ r. ⌜ Starts (result judgement message.now first.now second.now) out.old out.new r ⌝ }
+    ensures { Starts (result_of judgement message.now first.now second.now) out.old out.new result }
 {
     match judgement {
         Judgement::Judged(verdict) => put_verdict(verdict, message, first, second, out),
@@ -206,7 +206,7 @@ pub fn print_result(
     second: &[u8],
     out: &mut [u8],
 ) -> usize
-    ensures* { λ r. ⌜ Prints judgement message.now first.now second.now out.old out.new r ⌝ }
+    ensures { Prints judgement message.now first.now second.now out.old out.new result }
 {
     if printable(judgement, message, first, second, out.len()) {
         put_result(judgement, message, first, second, out)

@@ -3,97 +3,115 @@
 
 #![tactic(auto)]
 
+pub mod failures;
 pub mod refusals;
 
 ghost use Rattle.program.specs.Arguments.{Named};
 ghost use Rattle.streams.specs.Inputs.{Holds};
 
-use libc::{STDERR_FILENO, STDIN_FILENO, STDOUT_FILENO};
+use failures::{argument_error, tell_failure};
+use std::env::FillError;
+use std::io::Print;
+use std::rt::Env;
 use streams::{Input, read_file, read_input};
 
-fn is_same(a: &[u8], b: &[u8]) -> bool {
-    if a.len() != b.len() {
-        return false;
-    }
-    let mut i: usize = 0;
-    while i < a.len() {
-        if a[i] != b[i] {
-            return false;
+const HELP: [u8; 6] = *b"--help";
+
+// The bytes of the longest path, with the 0 that the system puts behind it.
+const PATH: usize = 4096;
+
+// How many arguments the program has; its own name is one of them.
+pub fn argument_count(rt: &HostRuntime) -> usize {
+    let mut word = [0u8; 1];
+    for i in 0..usize::MAX {
+        if let Err(FillError::NotPresent) = rt.arg(i, &mut word) {
+            return i;
         }
-        i += 1;
     }
-    true
+    usize::MAX
 }
 
 // Whether the first of so many arguments asks for help; the program's own name is one of them.
-fn asks_help(arguments: usize) -> bool {
+fn asks_help(rt: &HostRuntime, arguments: usize) -> bool {
     if arguments < 2 {
         return false;
     }
-    let mut word = io::buffer();
-    let n = os::arg(1, &mut word);
-    is_same(&word[..n], b"--help")
+    let mut word = [0u8; HELP.len()];
+    match rt.arg(1, &mut word) {
+        Ok(n) => word[..n] == HELP[..],
+        Err(_) => false,
+    }
 }
 
 // Whether a program that takes so many arguments at the most goes on. Help that is asked for is written on standard output, and `what` tells that it could not
 // be; that there are too many arguments is told by its usage on standard error.
-pub fn goes_on(arguments: usize, most: usize, what: &[u8], help: &[u8], usage: &[u8]) -> bool {
-    if asks_help(arguments) {
-        write_standard(what, help);
+pub fn goes_on(
+    rt: &HostRuntime,
+    arguments: usize,
+    most: usize,
+    what: &[u8],
+    help: &[u8],
+    usage: &[u8],
+) -> bool {
+    if asks_help(rt, arguments) {
+        write_standard(rt, what, help);
         return false;
     }
     if most < arguments {
-        io::write_all(STDERR_FILENO, usage);
+        failures::say(rt.stderr(), usage);
         return false;
     }
     true
 }
 
-fn is_failed(read: Input) -> bool {
-    match read {
-        Input::Bytes(_) => false,
-        Input::Failed => true,
-    }
-}
-
 // The bytes of the file that argument i names. Where the program has no such argument, there are 0 bytes. A name that is longer than a path may be is not
-// cut: `arg` says so by errno.
-pub fn read_named(i: usize, arguments: usize, what: &[u8], bytes: &mut [u8]) -> Input
+// cut.
+pub fn read_named(
+    rt: &HostRuntime,
+    i: usize,
+    arguments: usize,
+    what: &[u8],
+    bytes: &mut [u8],
+) -> Input
     ensures { Named i arguments bytes.new result }
 {
     if arguments <= i {
         return Input::Bytes(0);
     }
-    let mut path = io::buffer();
-    let n = os::arg(i, &mut path);
-    if os::errno() != 0 {
-        os::fail(what);
-        return Input::Failed;
+    let mut path = [0u8; PATH];
+    let errors = rt.stderr();
+    match rt.arg(i, &mut path) {
+        Err(e) => {
+            let error = argument_error(e);
+            tell_failure(errors, what, error);
+            Input::Failed(error)
+        }
+        Ok(n) => {
+            let read = read_file(rt, &path[..n], bytes);
+            if let Input::Failed(error) = read {
+                failures::say(errors, what);
+                failures::say(errors, b": ");
+                tell_failure(errors, &path[..n], error);
+            }
+            read
+        }
     }
-    let read = read_file(&path[..n], bytes);
-    if is_failed(read) {
-        // a write that succeeds leaves errno as it is
-        io::write_all(STDERR_FILENO, what);
-        io::write_all(STDERR_FILENO, b": ");
-        os::fail(&path[..n]);
-    }
-    read
 }
 
 // The bytes of standard input.
-pub fn read_standard(what: &[u8], bytes: &mut [u8]) -> Input
+pub fn read_standard(rt: &HostRuntime, what: &[u8], bytes: &mut [u8]) -> Input
     ensures { Holds bytes.new result }
 {
-    let read = read_input(STDIN_FILENO, bytes);
-    if is_failed(read) {
-        os::fail(what);
+    let read = read_input(&mut rt.stdin(), bytes);
+    if let Input::Failed(error) = read {
+        tell_failure(rt.stderr(), what, error);
     }
     read
 }
 
 // Writes bytes on standard output.
-pub fn write_standard(what: &[u8], bytes: &[u8]) {
-    if !io::write_all(STDOUT_FILENO, bytes) {
-        os::fail(what);
+pub fn write_standard(rt: &HostRuntime, what: &[u8], bytes: &[u8]) {
+    if let Err(error) = rt.write_all(bytes) {
+        tell_failure(rt.stderr(), what, error);
     }
 }

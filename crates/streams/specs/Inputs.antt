@@ -5,26 +5,26 @@ use Rattle.io.specs.Counts.{IsPrefixLen}
 use Rattle.streams.specs.declared.Input.{Input}
 use Rattle.streams.specs.declared.Input.TheVariants.{Bytes, Failed}
 use Rattle.streams.specs.declared.Step.{Step}
-use Rattle.streams.specs.declared.Step.TheVariants.{Bytes as Some, End, Interrupted, Failed as Broken}
+use Rattle.streams.specs.declared.Step.TheVariants.{Bytes as Got, End, Interrupted, Failed as Broken}
 
 -- The bytes of an input stand at the start of a buffer.
 abbrev pub Holds : List ℕ → Input → Type 0
 Holds b (Bytes n) = IsPrefixLen n b
-Holds b Failed = Unit
+Holds b (Failed e) = Unit
 
 -- One read of at most this many bytes gave some of them, or none.
 abbrev pub Within : ℕ → Step → Type 0
-Within most (Some n) = (1 ≤ n) × (n ≤ most)
+Within most (Got n) = (1 ≤ n) × (n ≤ most)
 Within most End = Unit
-Within most Interrupted = Unit
-Within most Broken = Unit
+Within most (Interrupted e) = Unit
+Within most (Broken e) = Unit
 
 -- `INTERRUPTIONS`
 abbrev pub most_interruptions : ℕ
 most_interruptions = 1000000
 
-pub some-within : {most n : ℕ} {s : Step} → s ≡ Some n → Within most s → (1 ≤ n) × (n ≤ most)
-some-within e w = rw e at w
+pub got-within : {most n : ℕ} {s : Step} → s ≡ Got n → Within most s → (1 ≤ n) × (n ≤ most)
+got-within e w = rw e at w
 
 pub counts : (n : ℕ) (b : List ℕ) → n ≤ length b → IsPrefixLen n b
 counts n b h = (h, sym (length-take-le n b h))

@@ -14,7 +14,8 @@ use class_sheet::take_classes;
 use code::{ClassSheet, Code, Sheet, SheetAnswer, Splitting, Taken, TakenClasses, Text};
 use printing::put_refused;
 use program::refusals::{tell_answer, tell_refusal};
-use program::{goes_on, read_named, read_standard, write_standard};
+use program::{argument_count, goes_on, read_named, read_standard, write_standard};
+use std::io::Stderr;
 use streams::Input;
 use well_enlarged::plain;
 
@@ -55,20 +56,26 @@ fn give_classes(lettered: bool, sheet: &[u8]) -> TakenClasses
 }
 
 // Tells the refusal of a text.
-fn tell_text(s: Splitting) {
+fn tell_text(errors: Stderr, s: Splitting) {
     match s {
         Splitting::Split(_) => {}
-        Splitting::Refused(refusal) => tell_refusal(b"syllabify: the text", refusal),
+        Splitting::Refused(refusal) => tell_refusal(errors, b"syllabify: the text", refusal),
     }
 }
 
 // The refusal of the class sheet, or the text split by an accepted code and its classes.
-fn split_by(code: Code, letters: TakenClasses, text: &[u8], out: &mut [u8]) -> Splitting
+fn split_by(
+    errors: Stderr,
+    code: Code,
+    letters: TakenClasses,
+    text: &[u8],
+    out: &mut [u8],
+) -> Splitting
     requires { FromSheet limits code × (letters.answer ≡ Accepted → FromClassSheet limits letters.classes) × (length out.old ≡ output_room) }
     ensures { SplitsGiven (record { answer = Accepted; code = code }) letters text.now out.old out.new result }
 {
     let answer = letters.answer;
-    tell_answer(b"syllabify: the class sheet", answer);
+    tell_answer(errors, b"syllabify: the class sheet", answer);
     match answer {
         SheetAnswer::Refused(r) => Splitting::Refused(r),
         SheetAnswer::Accepted => {
@@ -87,22 +94,28 @@ fn split_by(code: Code, letters: TakenClasses, text: &[u8], out: &mut [u8]) -> S
                 &mut second,
                 &mut work,
             );
-            tell_text(split);
+            tell_text(errors, split);
             split
         }
     }
 }
 
 // The refusal of the code sheet, which comes first; or what its code gives.
-fn split_given(given: Taken, letters: TakenClasses, text: &[u8], out: &mut [u8]) -> Splitting
+fn split_given(
+    errors: Stderr,
+    given: Taken,
+    letters: TakenClasses,
+    text: &[u8],
+    out: &mut [u8],
+) -> Splitting
     requires { (given.answer ≡ Accepted → FromSheet limits given.code) × (letters.answer ≡ Accepted → FromClassSheet limits letters.classes) × (length out.old ≡ output_room) }
     ensures { SplitsGiven given letters text.now out.old out.new result }
 {
     let answer = given.answer;
-    tell_answer(b"syllabify: the code sheet", answer);
+    tell_answer(errors, b"syllabify: the code sheet", answer);
     match answer {
         SheetAnswer::Refused(refusal) => Splitting::Refused(refusal),
-        SheetAnswer::Accepted => split_by(given.code, letters, text, out),
+        SheetAnswer::Accepted => split_by(errors, given.code, letters, text, out),
     }
 }
 
@@ -119,6 +132,7 @@ fn put_splitting(s: Splitting, out: &mut [u8]) -> usize
 
 // Puts what is printed for a text at the start of `out`, and gives its length. Each sheet is named or not.
 fn answer(
+    errors: Stderr,
     named: bool,
     sheet: &[u8],
     lettered: bool,
@@ -131,13 +145,14 @@ fn answer(
 {
     let given = give(named, sheet);
     let letters = give_classes(lettered, classes);
-    let s = split_given(given, letters, text, out);
+    let s = split_given(errors, given, letters, text, out);
     put_splitting(s, out)
 }
 
 // The answer to the first n bytes of an input, the first k of a code sheet's file and the first j of a class sheet's. Each buffer is longer than what it may hold, so
 // what fills it is refused.
 fn answer_input(
+    errors: Stderr,
     named: bool,
     file: &[u8],
     k: usize,
@@ -152,28 +167,60 @@ fn answer_input(
         × (limits.text < length input.now) × (length out.old ≡ output_room) }
     ensures { AnswersInput named file.now k lettered classes.now j input.now n out.old out.new result }
 {
-    answer(named, &file[..k], lettered, &classes[..j], &input[..n], out)
+    answer(
+        errors,
+        named,
+        &file[..k],
+        lettered,
+        &classes[..j],
+        &input[..n],
+        out,
+    )
 }
 
 // The answer to standard input on standard output, by the sheets at the start of their buffers.
-fn answer_standard(named: bool, file: &[u8], k: usize, lettered: bool, classes: &[u8], j: usize)
+fn answer_standard(
+    rt: &HostRuntime,
+    named: bool,
+    file: &[u8],
+    k: usize,
+    lettered: bool,
+    classes: &[u8],
+    j: usize,
+)
     requires { IsPrefixLen k file.now × IsPrefixLen j classes.now × (limits.bytes < length file.now) × (limits.classes < length classes.now) }
 {
     let mut input = [0u8; Text::BYTES + 1];
-    let read = read_standard(b"syllabify: cannot read standard input", &mut input);
+    let read = read_standard(rt, b"syllabify: cannot read standard input", &mut input);
     let Input::Bytes(n) = read else {
         return;
     };
     let mut out = [0u8; Output::BYTES];
-    let length = answer_input(named, file, k, lettered, classes, j, &input, n, &mut out);
-    write_standard(b"syllabify: cannot write standard output", &out[..length]);
+    let length = answer_input(
+        rt.stderr(),
+        named,
+        file,
+        k,
+        lettered,
+        classes,
+        j,
+        &input,
+        n,
+        &mut out,
+    );
+    write_standard(
+        rt,
+        b"syllabify: cannot write standard output",
+        &out[..length],
+    );
 }
 
 // Splits standard input by the files that the arguments name. What cannot be read or written is told on standard error, and a sheet, a class sheet or a text
 // that was not read whole gets no answer.
-fn main() {
-    let arguments = os::arg_count();
+fn main(rt: HostRuntime) {
+    let arguments = argument_count(&rt);
     let goes = goes_on(
+        &rt,
         arguments,
         3,
         b"syllabify: cannot write standard output",
@@ -185,6 +232,7 @@ fn main() {
     }
     let mut file = [0u8; Sheet::BYTES + 1];
     let listed = read_named(
+        &rt,
         1,
         arguments,
         b"syllabify: cannot read the code sheet",
@@ -195,6 +243,7 @@ fn main() {
     };
     let mut classes = [0u8; ClassSheet::BYTES + 1];
     let classed = read_named(
+        &rt,
         2,
         arguments,
         b"syllabify: cannot read the class sheet",
@@ -203,5 +252,5 @@ fn main() {
     let Input::Bytes(j) = classed else {
         return;
     };
-    answer_standard(1 < arguments, &file, k, 2 < arguments, &classes, j);
+    answer_standard(&rt, 1 < arguments, &file, k, 2 < arguments, &classes, j);
 }

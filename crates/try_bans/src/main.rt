@@ -7,7 +7,8 @@
 mod values;
 
 use code::{Enlarged, Sheet, SheetAnswer};
-use libc::STDOUT_FILENO;
+use std::io;
+use std::io::Print;
 use try_common::fields::field;
 use values::{write_result, write_value};
 
@@ -16,72 +17,71 @@ fn from_sheet(sheet: &[u8]) -> Enlarged {
     well_enlarged::plain(taken.code)
 }
 
-fn write_line(line: &[u8]) {
-    io::write_all(STDOUT_FILENO, line);
-    io::write_all(STDOUT_FILENO, b"\r\n");
+fn write_line(rt: &impl Print, line: &[u8]) -> io::Result<()> {
+    rt.write_all(line)?;
+    rt.write_all(b"\r\n")
 }
 
 // Writes what a list makes of a code, and gives it.
-fn enlarge(value: Enlarged, list: &[u8]) -> Enlarged {
+fn enlarge(rt: &impl Print, value: Enlarged, list: &[u8]) -> io::Result<Enlarged> {
     let enlargement = ban_enlarge::enlarge(value, list);
-    let answer = enlargement.answer;
-    match answer {
-        SheetAnswer::Accepted => io::write_all(STDOUT_FILENO, b"accepted"),
+    match enlargement.answer {
+        SheetAnswer::Accepted => rt.write_all(b"accepted")?,
         SheetAnswer::Refused(r) => {
-            io::write_all(STDOUT_FILENO, b"refused ");
-            io::print_decimal(STDOUT_FILENO, r.number() as u64)
+            rt.write_all(b"refused ")?;
+            rt.print(r.number())?;
         }
-    };
-    write_value(enlargement.enlarged);
-    enlargement.enlarged
+    }
+    write_value(rt, enlargement.enlarged)?;
+    Ok(enlargement.enlarged)
 }
 
-fn try_list(value: Enlarged, list: &[u8]) {
-    let enlarged = enlarge(value, list);
-    write_result(enlarged);
-    enlarge(enlarged, list);
+fn try_list(rt: &impl Print, value: Enlarged, list: &[u8]) -> io::Result<()> {
+    let enlarged = enlarge(rt, value, list)?;
+    write_result(rt, enlarged)?;
+    enlarge(rt, enlarged, list)?;
+    Ok(())
 }
 
-fn try_files(sheet: &[u8], list: &[u8]) {
+fn try_files(rt: &HostRuntime, sheet: &[u8], list: &[u8]) -> io::Result<()> {
     let mut bytes = [0u8; Sheet::BYTES + 1];
-    let n = try_common::read_file(sheet, &mut bytes);
+    let n = try_common::read_file(rt, sheet, &mut bytes);
     let value = from_sheet(&bytes[..n]);
     let mut bans = [0u8; Sheet::BYTES + 1];
-    let k = try_common::read_file(list, &mut bans);
-    try_list(value, &bans[..k]);
+    let k = try_common::read_file(rt, list, &mut bans);
+    try_list(rt, value, &bans[..k])
 }
 
-fn try_argument(names: &[u8]) {
-    write_line(names);
+fn try_argument(rt: &HostRuntime, names: &[u8]) -> io::Result<()> {
+    write_line(rt, names)?;
     let sheet = field(names, 0);
     let a = sheet.from;
     let b = sheet.to;
     let list = field(names, 1);
     let c = list.from;
     let d = list.to;
-    try_files(&names[a..b], &names[c..d]);
+    try_files(rt, &names[a..b], &names[c..d])
 }
 
 // Tables that no accepted sheet gives are refused before what is wrong with the list, but for its length.
-fn try_refusals() {
+fn try_refusals(rt: &impl Print) -> io::Result<()> {
     let mut value = from_sheet(b"0,1,1,1,1\r\n10,1,1,1,1\r\n01,1,1,1,1\r\n101,1,1,1,1\r\n");
     value.originals = 3;
-    write_line(b"code T with three originals");
-    try_list(value, b"0,0,1\r\n");
-    try_list(value, b"0,0,0\r\n");
-    write_line(b"code T with three originals, a list of 4,097 bytes");
+    write_line(rt, b"code T with three originals")?;
+    try_list(rt, value, b"0,0,1\r\n")?;
+    try_list(rt, value, b"0,0,0\r\n")?;
+    write_line(rt, b"code T with three originals, a list of 4,097 bytes")?;
     let long = [b'0'; Sheet::BYTES + 1];
-    try_list(value, &long);
+    try_list(rt, value, &long)
 }
 
-fn main() {
-    let count = os::arg_count();
-    let mut i: usize = 1;
-    while i < count {
-        let mut name = io::buffer();
-        let n = os::arg(i, &mut name);
-        try_argument(&name[..n]);
-        i += 1;
+fn main(rt: HostRuntime) -> io::Result<()> {
+    for i in 1..usize::MAX {
+        let mut names = [0u8; try_common::ARGUMENT];
+        let Some(n) = try_common::argument(&rt, i, &mut names) else {
+            break;
+        };
+        try_argument(&rt, &names[..n])?;
     }
-    try_refusals();
+    try_refusals(&rt)
 }

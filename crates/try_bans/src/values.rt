@@ -1,45 +1,39 @@
 // A code with copies, and the verdict on it, written on standard output.
 
 use code::{Code, Enlarged, Pairs};
-use libc::STDOUT_FILENO;
 use printing::Lengths;
+use std::io;
+use std::io::Print;
 use try_common::tables::write_table;
 
 // Bytes that the longest result may take.
 const BYTES: usize = Lengths::FRAME + Pairs::ROOM + Lengths::NUMBER * (Pairs::ROOM + Pairs::ROOM);
 
-fn write_number(word: u8) {
-    io::print_decimal(STDOUT_FILENO, word as u64);
-}
-
 // Of each copy the word, and after which it stands.
-fn write_copies(e: Enlarged) {
+fn write_copies(rt: &impl Print, e: Enlarged) -> io::Result<()> {
     let code = e.code;
-    let mut x: usize = 0;
-    while x < Code::WORDS {
-        if e.originals <= x {
-            if x < code.count {
-                io::write_all(STDOUT_FILENO, b", ");
-                write_number(e.origins[x]);
-                io::write_all(STDOUT_FILENO, b" after ");
-                write_number(e.behind[x]);
-            }
+    for x in 0..Code::WORDS {
+        if e.originals <= x && x < code.count {
+            rt.write_all(b", ")?;
+            rt.print(e.origins[x])?;
+            rt.write_all(b" after ")?;
+            rt.print(e.behind[x])?;
         }
-        x += 1;
     }
+    Ok(())
 }
 
 // The table, how many of its words are originals, and the copies.
-pub fn write_value(e: Enlarged) {
-    write_table(e.code);
-    io::write_all(STDOUT_FILENO, b"; originals ");
-    io::print_decimal(STDOUT_FILENO, e.originals as u64);
-    write_copies(e);
-    io::write_all(STDOUT_FILENO, b"\r\n");
+pub fn write_value(rt: &impl Print, e: Enlarged) -> io::Result<()> {
+    write_table(rt, e.code)?;
+    rt.write_all(b"; originals ")?;
+    rt.print(e.originals)?;
+    write_copies(rt, e)?;
+    rt.write_all(b"\r\n")
 }
 
 // The printed result of the verdict.
-pub fn write_result(e: Enlarged) {
+pub fn write_result(rt: &impl Print, e: Enlarged) -> io::Result<()> {
     let mut message = [0u8; Pairs::ROOM];
     let mut first = [0u8; Pairs::ROOM];
     let mut second = [0u8; Pairs::ROOM];
@@ -48,6 +42,7 @@ pub fn write_result(e: Enlarged) {
     let mut out = [0u8; BYTES];
     let n = printing::print_result(judgement, &message, &first, &second, &mut out);
     if n <= BYTES {
-        io::write_all(STDOUT_FILENO, &out[0..n]);
+        rt.write_all(&out[0..n])?;
     }
+    Ok(())
 }

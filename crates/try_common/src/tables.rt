@@ -1,7 +1,8 @@
 // A table written on standard output: each word's digits with its start mark and its row.
 
 use code::{Code, Row, Word};
-use libc::STDOUT_FILENO;
+use std::io;
+use std::io::Print;
 
 const DIGITS: [u8; 16] = *b"0123456789ABCDEF";
 
@@ -13,43 +14,33 @@ fn digit(symbol: u8) -> u8 {
     b'?'
 }
 
-fn write_digit(symbol: u8) {
-    let out = [digit(symbol)];
-    io::write_all(STDOUT_FILENO, &out);
+fn write_digit(rt: &impl Print, symbol: u8) -> io::Result<()> {
+    rt.write_all(&[digit(symbol)])
 }
 
-fn write_word(w: Word) {
-    let mut k: usize = 0;
-    while k < Word::SYMBOLS {
-        if k < w.len {
-            write_digit(w.symbols[k]);
-        }
-        k += 1;
+fn write_word(rt: &impl Print, w: Word) -> io::Result<()> {
+    for symbol in w.symbols.iter().take(w.len) {
+        write_digit(rt, *symbol)?;
     }
+    Ok(())
 }
 
-fn write_row(row: Row, n: usize) {
-    let mut y: usize = 0;
-    while y < Code::WORDS {
-        if y < n {
-            write_digit(row.entries[y]);
-        }
-        y += 1;
+fn write_row(rt: &impl Print, row: Row, n: usize) -> io::Result<()> {
+    for entry in row.entries.iter().take(n) {
+        write_digit(rt, *entry)?;
     }
+    Ok(())
 }
 
-pub fn write_table(table: Code) {
+pub fn write_table(rt: &impl Print, table: Code) -> io::Result<()> {
     let n = table.count;
-    let mut x: usize = 0;
-    while x < Code::WORDS {
-        if x < n {
-            io::write_all(STDOUT_FILENO, b" ");
-            write_word(table.words[x]);
-            io::write_all(STDOUT_FILENO, b"/");
-            write_digit(table.begins[x]);
-            io::write_all(STDOUT_FILENO, b"/");
-            write_row(table.rows[x], n);
-        }
-        x += 1;
+    for x in 0..n.min(Code::WORDS) {
+        rt.write_all(b" ")?;
+        write_word(rt, table.words[x])?;
+        rt.write_all(b"/")?;
+        write_digit(rt, table.begins[x])?;
+        rt.write_all(b"/")?;
+        write_row(rt, table.rows[x], n)?;
     }
+    Ok(())
 }

@@ -1,7 +1,8 @@
 // The lent buffers: what they hold before, and whether they hold it after.
 
 use code::{Message, Text};
-use libc::STDOUT_FILENO;
+use std::io;
+use std::io::Print;
 
 // What every entry of a lent buffer holds before. No symbol and no word has this number.
 pub const BEFORE: u8 = 200;
@@ -31,38 +32,37 @@ pub fn is_kept(buffer: &[u8], from: usize) -> bool {
 }
 
 // Writes whether the buffers for results hold what they held before, past what is written.
-pub fn write_kept(kept: bool) {
+pub fn write_kept(rt: &impl Print, kept: bool) -> io::Result<()> {
     if kept {
-        io::write_all(STDOUT_FILENO, b"; buffers kept");
+        rt.write_all(b"; buffers kept")
     } else {
-        io::write_all(STDOUT_FILENO, b"; buffers changed");
+        rt.write_all(b"; buffers changed")
     }
 }
 
 // Writes what became of a buffer: whether it holds what it held before, or is zero throughout.
-fn write_state(kept: bool, zero: bool) {
+fn write_state(rt: &impl Print, kept: bool, zero: bool) -> io::Result<()> {
     if kept {
-        io::write_all(STDOUT_FILENO, b"kept");
-        return;
+        rt.write_all(b"kept")
+    } else if zero {
+        rt.write_all(b"zero")
+    } else {
+        rt.write_all(b"dirty")
     }
-    if zero {
-        io::write_all(STDOUT_FILENO, b"zero");
-        return;
-    }
-    io::write_all(STDOUT_FILENO, b"dirty");
 }
 
 // Writes what became of the working buffer.
-pub fn write_work(work: &[u64]) {
-    io::write_all(STDOUT_FILENO, b"; work ");
+pub fn write_work(rt: &impl Print, work: &[u64]) -> io::Result<()> {
+    rt.write_all(b"; work ")?;
     write_state(
+        rt,
         try_common::is_all(work, WORK_BEFORE),
         try_common::is_all(work, 0),
-    );
+    )
 }
 
 // Writes what became of a buffer that is used beside a result.
-pub fn write_used(name: &[u8], buffer: &[u8]) {
-    io::write_all(STDOUT_FILENO, name);
-    write_state(is_kept(buffer, 0), holds(buffer, 0, 0));
+pub fn write_used(rt: &impl Print, name: &[u8], buffer: &[u8]) -> io::Result<()> {
+    rt.write_all(name)?;
+    write_state(rt, is_kept(buffer, 0), holds(buffer, 0, 0))
 }

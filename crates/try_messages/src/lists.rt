@@ -1,8 +1,9 @@
 // Lists of symbols or words, as text: numbers with commas between. n*c stands for c times n, and - for the empty list.
 
-ghost use Rattle.std.specs.Prelude.{◌+◌, ◌≤◌, ◌<◌, length};
+ghost use Rattle.std.specs.Prelude.{◌+◌, ◌≤◌, ◌<◌, length, IfOk};
 
-use libc::STDOUT_FILENO;
+use std::io;
+use std::io::Print;
 use try_common::fields;
 
 // Runs of more equal entries than this are written as n*c.
@@ -75,44 +76,41 @@ fn run_len(xs: &[u8], at: usize) -> usize
     n
 }
 
-fn write_entry(x: u8) {
-    io::print_decimal(STDOUT_FILENO, x as u64);
-}
-
 // Writes the entry at `at`, or the run of many that begins there. Gives how many entries were written.
-fn write_run(xs: &[u8], at: usize) -> usize
+fn write_run(rt: &impl Print, xs: &[u8], at: usize) -> io::Result<usize>
     requires { at < length xs.now }
-    ensures { (0 < result) × (at + result ≤ length xs.now) }
+    ensures { IfOk result (λ n. (0 < n) × (at + n ≤ length xs.now)) }
 {
-    write_entry(xs[at]);
+    rt.print(xs[at])?;
     let c = run_len(xs, at);
     if c <= WHOLE {
-        return 1;
+        return Ok(1);
     }
-    io::write_all(STDOUT_FILENO, b"*");
-    io::print_decimal(STDOUT_FILENO, c as u64);
-    c
+    rt.write_all(b"*")?;
+    rt.print(c)?;
+    Ok(c)
 }
 
 // Writes a list.
-fn write(xs: &[u8]) {
+fn write(rt: &impl Print, xs: &[u8]) -> io::Result<()> {
     if xs.len() == 0 {
-        io::write_all(STDOUT_FILENO, b"-");
+        rt.write_all(b"-")?;
     }
     let mut i: usize = 0;
     while i < xs.len() {
         if 0 < i {
-            io::write_all(STDOUT_FILENO, b",");
+            rt.write_all(b",")?;
         }
-        i += write_run(xs, i);
+        i += write_run(rt, xs, i)?;
     }
+    Ok(())
 }
 
 // Writes the first n entries of a buffer that has as many.
-pub fn write_first(buffer: &[u8], n: usize) {
+pub fn write_first(rt: &impl Print, buffer: &[u8], n: usize) -> io::Result<()> {
     if n <= buffer.len() {
-        write(&buffer[0..n]);
+        write(rt, &buffer[0..n])
     } else {
-        io::write_all(STDOUT_FILENO, b"?");
+        rt.write_all(b"?")
     }
 }

@@ -21,35 +21,36 @@ mod tables;
 mod texts;
 mod trials;
 
-use libc::STDOUT_FILENO;
+use std::io;
+use std::io::Print;
 use try_common::fields;
 
-fn try_line(line: &[u8]) {
-    io::write_all(STDOUT_FILENO, line);
-    io::write_all(STDOUT_FILENO, b": ");
+fn try_line(rt: &HostRuntime, line: &[u8]) -> io::Result<()> {
+    rt.write_all(line)?;
+    rt.write_all(b": ")?;
     if fields::is(line, 0, b"encode") {
-        trials::encode(line);
+        trials::encode(rt, line)?;
     } else if fields::is(line, 0, b"next") {
-        next::name(line);
+        next::name(rt, line)?;
     } else if fields::is(line, 0, b"split") {
-        texts::split(line);
+        texts::split(rt, line)?;
     } else if fields::is(line, 0, b"split-by") {
-        texts::split_lettered(line);
+        texts::split_lettered(rt, line)?;
     } else if fields::is(line, 0, b"classes") {
-        class_sheets::take(line);
+        class_sheets::take(rt, line)?;
     } else {
-        trials::read(line);
+        trials::read(rt, line)?;
     }
-    io::write_all(STDOUT_FILENO, b"\n");
+    rt.write_all(b"\n")
 }
 
-fn main() {
-    let count = os::arg_count();
-    let mut i: usize = 1;
-    while i < count {
-        let mut line = io::buffer();
-        let n = os::arg(i, &mut line);
-        try_line(&line[..n]);
-        i += 1;
+fn main(rt: HostRuntime) -> io::Result<()> {
+    for i in 1..usize::MAX {
+        let mut line = [0u8; try_common::ARGUMENT];
+        let Some(n) = try_common::argument(&rt, i, &mut line) else {
+            break;
+        };
+        try_line(&rt, &line[..n])?;
     }
+    Ok(())
 }

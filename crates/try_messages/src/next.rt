@@ -2,30 +2,31 @@
 
 use crate::{buffers, tables, trials};
 use code::{Enlarged, Naming};
-use libc::STDOUT_FILENO;
+use std::io;
+use std::io::Print;
 use try_common::fields;
 
-fn write_naming(answer: Naming) {
+fn write_naming(rt: &impl Print, answer: Naming) -> io::Result<()> {
     match answer {
         Naming::Named(x) => {
-            io::write_all(STDOUT_FILENO, b"named ");
-            io::print_decimal(STDOUT_FILENO, x as u64);
+            rt.write_all(b"named ")?;
+            rt.print(x)
         }
-        Naming::Refused(r) => trials::write_refusal(r),
+        Naming::Refused(r) => trials::write_refusal(rt, r),
     }
 }
 
-fn name_in(value: Enlarged, message: &[u8], work: &mut [u64]) {
+fn name_in(rt: &impl Print, value: Enlarged, message: &[u8], work: &mut [u64]) -> io::Result<()> {
     let answer = next_word::next_word(value, message, work);
-    write_naming(answer);
-    buffers::write_work(work);
+    write_naming(rt, answer)?;
+    buffers::write_work(rt, work)
 }
 
-pub fn name(line: &[u8]) {
-    let value = tables::of_trial(line, 4);
+pub fn name(rt: &HostRuntime, line: &[u8]) -> io::Result<()> {
+    let value = tables::of_trial(rt, line, 4);
     let mut message = [0u8; trials::ENTRIES];
     let n = trials::put_list(line, &mut message);
     let room = fields::number_within(line, 3, buffers::ROOM);
     let mut work = [buffers::WORK_BEFORE; buffers::ROOM];
-    name_in(value, &message[0..n], &mut work[0..room]);
+    name_in(rt, value, &message[0..n], &mut work[0..room])
 }

@@ -12,28 +12,28 @@ fn from_sheet(sheet: &[u8]) -> Code {
 }
 
 // The table of the sheet in a file.
-fn from_file(path: &[u8]) -> Code {
+fn from_file(rt: &HostRuntime, path: &[u8]) -> Code {
     let mut bytes = [0u8; Sheet::BYTES + 1];
-    let n = try_common::read_file(path, &mut bytes);
+    let n = try_common::read_file(rt, path, &mut bytes);
     from_sheet(&bytes[..n])
 }
 
 // The code with the copies that the list in a file asks for.
-fn with_bans(value: Enlarged, path: &[u8]) -> Enlarged {
+fn with_bans(rt: &HostRuntime, value: Enlarged, path: &[u8]) -> Enlarged {
     let mut bytes = [0u8; Sheet::BYTES + 1];
-    let n = try_common::read_file(path, &mut bytes);
+    let n = try_common::read_file(rt, path, &mut bytes);
     let enlargement = ban_enlarge::enlarge(value, &bytes[..n]);
     enlargement.enlarged
 }
 
 // The code of a sheet and, behind a plus sign, of a ban list.
-fn from_files(names: &[u8]) -> Enlarged {
+fn from_files(rt: &HostRuntime, names: &[u8]) -> Enlarged {
     let plus = fields::find(names, 0, b'+');
-    let value = well_enlarged::plain(from_file(&names[0..plus]));
+    let value = well_enlarged::plain(from_file(rt, &names[0..plus]));
     let end = names.len();
     if plus < end {
         let from = plus + 1;
-        return with_bans(value, &names[from..end]);
+        return with_bans(rt, value, &names[from..end]);
     }
     value
 }
@@ -147,11 +147,11 @@ fn value_changed(mut value: Enlarged, line: &[u8], k: usize) -> Enlarged
 }
 
 // The code of a trial: field 1 names its files, and a change may stand from field k on.
-pub fn of_trial(line: &[u8], k: usize) -> Enlarged
+pub fn of_trial(rt: &HostRuntime, line: &[u8], k: usize) -> Enlarged
     requires { k < 16 }
 {
     let f = fields::field(line, 1);
     let a = f.from;
     let e = f.to;
-    value_changed(from_files(&line[a..e]), line, k)
+    value_changed(from_files(rt, &line[a..e]), line, k)
 }

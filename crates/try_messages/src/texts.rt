@@ -5,7 +5,8 @@ ghost use Rattle.std.specs.Prelude.{◌≤◌, length};
 use crate::{buffers, class_sheets, lists, tables, trials};
 use code::{Classes, Enlarged, Splitting};
 use copying::copy_at;
-use libc::STDOUT_FILENO;
+use std::io;
+use std::io::Print;
 use try_common::fields;
 
 // Whether the text of a trial is given by its bytes.
@@ -51,32 +52,38 @@ fn put_text(line: &[u8], out: &mut [u8]) -> usize
 }
 
 // Writes the first n bytes of an output, as the text was given.
-fn write_output(quoted: bool, out: &[u8], n: usize) {
-    if quoted {
-        if n <= out.len() {
-            io::write_all(STDOUT_FILENO, &out[0..n]);
-        }
-    } else {
-        lists::write_first(out, n);
+fn write_output(rt: &impl Print, quoted: bool, out: &[u8], n: usize) -> io::Result<()> {
+    if !quoted {
+        return lists::write_first(rt, out, n);
     }
+    if n <= out.len() {
+        rt.write_all(&out[0..n])?;
+    }
+    Ok(())
 }
 
 // Writes the answer to splitting, and gives how many bytes it says are written.
-fn write_splitting(answer: Splitting, quoted: bool, out: &[u8]) -> usize {
+fn write_splitting(
+    rt: &impl Print,
+    answer: Splitting,
+    quoted: bool,
+    out: &[u8],
+) -> io::Result<usize> {
     match answer {
         Splitting::Split(n) => {
-            io::write_all(STDOUT_FILENO, b"split ");
-            write_output(quoted, out, n.0);
-            n.0
+            rt.write_all(b"split ")?;
+            write_output(rt, quoted, out, n.0)?;
+            Ok(n.0)
         }
         Splitting::Refused(r) => {
-            trials::write_refusal(r);
-            0
+            trials::write_refusal(rt, r)?;
+            Ok(0)
         }
     }
 }
 
 fn split_in(
+    rt: &impl Print,
     value: Enlarged,
     letters: Classes,
     quoted: bool,
@@ -86,17 +93,17 @@ fn split_in(
     first: &mut [u8],
     second: &mut [u8],
     work: &mut [u64],
-) {
+) -> io::Result<()> {
     let answer = text_split::split(value, letters, text, out, message, first, second, work);
-    let n = write_splitting(answer, quoted, out);
-    buffers::write_kept(buffers::is_kept(out, n));
-    buffers::write_used(b"; message ", message);
-    buffers::write_used(b"; readings ", first);
-    buffers::write_used(b" ", second);
-    buffers::write_work(work);
+    let n = write_splitting(rt, answer, quoted, out)?;
+    buffers::write_kept(rt, buffers::is_kept(out, n))?;
+    buffers::write_used(rt, b"; message ", message)?;
+    buffers::write_used(rt, b"; readings ", first)?;
+    buffers::write_used(rt, b" ", second)?;
+    buffers::write_work(rt, work)
 }
 
-fn split_by(line: &[u8], value: Enlarged, letters: Classes) {
+fn split_by(rt: &impl Print, line: &[u8], value: Enlarged, letters: Classes) -> io::Result<()> {
     let mut text = [0u8; trials::ENTRIES];
     let n = put_text(line, &mut text);
     let a = fields::number_within(line, 3, buffers::OUTPUT);
@@ -110,6 +117,7 @@ fn split_by(line: &[u8], value: Enlarged, letters: Classes) {
     let mut second = [buffers::BEFORE; buffers::ROOM];
     let mut work = [buffers::WORK_BEFORE; buffers::ROOM];
     split_in(
+        rt,
         value,
         letters,
         is_quoted(line),
@@ -119,17 +127,17 @@ fn split_by(line: &[u8], value: Enlarged, letters: Classes) {
         &mut first[0..c],
         &mut second[0..d],
         &mut work[0..e],
-    );
+    )
 }
 
 // By the Turkish letters.
-pub fn split(line: &[u8]) {
-    let value = tables::of_trial(line, 8);
-    split_by(line, value, turkish_letters::turkish());
+pub fn split(rt: &HostRuntime, line: &[u8]) -> io::Result<()> {
+    let value = tables::of_trial(rt, line, 8);
+    split_by(rt, line, value, turkish_letters::turkish())
 }
 
 // By the letters of a class sheet.
-pub fn split_lettered(line: &[u8]) {
-    let value = tables::of_trial(line, 9);
-    split_by(line, value, class_sheets::of_trial(line, 8));
+pub fn split_lettered(rt: &HostRuntime, line: &[u8]) -> io::Result<()> {
+    let value = tables::of_trial(rt, line, 9);
+    split_by(rt, line, value, class_sheets::of_trial(rt, line, 8))
 }

@@ -4,7 +4,8 @@ ghost use Rattle.std.specs.Prelude.{◌≤◌, length};
 
 use crate::{buffers, lists, tables};
 use code::{Encoding, Enlarged, Reading, Refusal};
-use libc::STDOUT_FILENO;
+use std::io;
+use std::io::Print;
 use try_common::fields;
 
 // The entries that there are for the words or the message of a trial.
@@ -20,39 +21,39 @@ pub fn put_list(line: &[u8], out: &mut [u8]) -> usize
     lists::put(&line[a..e], out)
 }
 
-pub fn write_refusal(r: Refusal) {
-    io::write_all(STDOUT_FILENO, b"refused ");
-    io::print_decimal(STDOUT_FILENO, r.number() as u64);
+pub fn write_refusal(rt: &impl Print, r: Refusal) -> io::Result<()> {
+    rt.write_all(b"refused ")?;
+    rt.print(r.number())
 }
 
 // Writes the answer to encoding, and gives how many symbols it says are written.
-fn write_encoding(answer: Encoding, message: &[u8]) -> usize {
+fn write_encoding(rt: &impl Print, answer: Encoding, message: &[u8]) -> io::Result<usize> {
     match answer {
         Encoding::Encoded(n) => {
-            io::write_all(STDOUT_FILENO, b"encoded ");
-            lists::write_first(message, n.0);
-            n.0
+            rt.write_all(b"encoded ")?;
+            lists::write_first(rt, message, n.0)?;
+            Ok(n.0)
         }
         Encoding::Refused(r) => {
-            write_refusal(r);
-            0
+            write_refusal(rt, r)?;
+            Ok(0)
         }
     }
 }
 
-fn encode_in(value: Enlarged, words: &[u8], message: &mut [u8]) {
+fn encode_in(rt: &impl Print, value: Enlarged, words: &[u8], message: &mut [u8]) -> io::Result<()> {
     let answer = encoding::encode(value, words, message);
-    let n = write_encoding(answer, message);
-    buffers::write_kept(buffers::is_kept(message, n));
+    let n = write_encoding(rt, answer, message)?;
+    buffers::write_kept(rt, buffers::is_kept(message, n))
 }
 
-pub fn encode(line: &[u8]) {
-    let value = tables::of_trial(line, 4);
+pub fn encode(rt: &HostRuntime, line: &[u8]) -> io::Result<()> {
+    let value = tables::of_trial(rt, line, 4);
     let mut words = [0u8; ENTRIES];
     let n = put_list(line, &mut words);
     let room = fields::number_within(line, 3, buffers::ROOM);
     let mut message = [buffers::BEFORE; buffers::ROOM];
-    encode_in(value, &words[0..n], &mut message[0..room]);
+    encode_in(rt, value, &words[0..n], &mut message[0..room])
 }
 
 // How many words of each reading are written.
@@ -63,54 +64,68 @@ struct Written {
 }
 
 // Writes the answer to reading, and gives how many words it says are written.
-fn write_reading(answer: Reading, first: &[u8], second: &[u8]) -> Written {
+fn write_reading(
+    rt: &impl Print,
+    answer: Reading,
+    first: &[u8],
+    second: &[u8],
+) -> io::Result<Written> {
     match answer {
         Reading::One(n) => {
-            io::write_all(STDOUT_FILENO, b"one ");
-            lists::write_first(first, n.0);
-            Written {
+            rt.write_all(b"one ")?;
+            lists::write_first(rt, first, n.0)?;
+            Ok(Written {
                 first: n.0,
                 second: 0,
-            }
+            })
         }
         Reading::Two(n, k) => {
-            io::write_all(STDOUT_FILENO, b"two ");
-            lists::write_first(first, n.0);
-            io::write_all(STDOUT_FILENO, b" ");
-            lists::write_first(second, k.0);
-            Written {
+            rt.write_all(b"two ")?;
+            lists::write_first(rt, first, n.0)?;
+            rt.write_all(b" ")?;
+            lists::write_first(rt, second, k.0)?;
+            Ok(Written {
                 first: n.0,
                 second: k.0,
-            }
+            })
         }
         Reading::Refused(r) => {
-            write_refusal(r);
-            Written {
+            write_refusal(rt, r)?;
+            Ok(Written {
                 first: 0,
                 second: 0,
-            }
+            })
         }
     }
 }
 
 // Writes whether both reading buffers were kept past what is written.
-fn write_both_kept(first: &[u8], second: &[u8], written: Written) {
-    if buffers::is_kept(first, written.first) {
-        buffers::write_kept(buffers::is_kept(second, written.second));
-    } else {
-        buffers::write_kept(false);
-    }
+fn write_both_kept(
+    rt: &impl Print,
+    first: &[u8],
+    second: &[u8],
+    written: Written,
+) -> io::Result<()> {
+    let kept = buffers::is_kept(first, written.first) && buffers::is_kept(second, written.second);
+    buffers::write_kept(rt, kept)
 }
 
-fn read_in(value: Enlarged, message: &[u8], first: &mut [u8], second: &mut [u8], work: &mut [u64]) {
+fn read_in(
+    rt: &impl Print,
+    value: Enlarged,
+    message: &[u8],
+    first: &mut [u8],
+    second: &mut [u8],
+    work: &mut [u64],
+) -> io::Result<()> {
     let answer = reading::read(value, message, first, second, work);
-    let written = write_reading(answer, first, second);
-    write_both_kept(first, second, written);
-    buffers::write_work(work);
+    let written = write_reading(rt, answer, first, second)?;
+    write_both_kept(rt, first, second, written)?;
+    buffers::write_work(rt, work)
 }
 
-pub fn read(line: &[u8]) {
-    let value = tables::of_trial(line, 6);
+pub fn read(rt: &HostRuntime, line: &[u8]) -> io::Result<()> {
+    let value = tables::of_trial(rt, line, 6);
     let mut message = [0u8; ENTRIES];
     let n = put_list(line, &mut message);
     let a = fields::number_within(line, 3, buffers::ROOM);
@@ -120,10 +135,11 @@ pub fn read(line: &[u8]) {
     let mut second = [buffers::BEFORE; buffers::ROOM];
     let mut work = [buffers::WORK_BEFORE; buffers::ROOM];
     read_in(
+        rt,
         value,
         &message[0..n],
         &mut first[0..a],
         &mut second[0..b],
         &mut work[0..c],
-    );
+    )
 }

@@ -4,40 +4,40 @@
 #![tactic(auto)]
 
 use code::{Sheet, SheetAnswer};
-use libc::STDOUT_FILENO;
-use try_common::tables;
+use std::io;
+use std::io::Print;
+use try_common::tables::write_table;
 
-fn write_answer(sheet: &[u8]) {
+fn write_answer(rt: &impl Print, sheet: &[u8]) -> io::Result<()> {
     let taken = sheet::take_in(sheet);
-    let answer = taken.answer;
-    match answer {
+    match taken.answer {
         SheetAnswer::Accepted => {
-            io::write_all(STDOUT_FILENO, b"accepted");
-            tables::write_table(taken.code);
+            rt.write_all(b"accepted")?;
+            write_table(rt, taken.code)?;
         }
         SheetAnswer::Refused(r) => {
-            io::write_all(STDOUT_FILENO, b"refused ");
-            io::print_decimal(STDOUT_FILENO, r.number() as u64);
+            rt.write_all(b"refused ")?;
+            rt.print(r.number())?;
         }
     }
-    io::write_all(STDOUT_FILENO, b"\n");
+    rt.write_all(b"\n")
 }
 
-fn try_file(path: &[u8]) {
-    io::write_all(STDOUT_FILENO, path);
-    io::write_all(STDOUT_FILENO, b": ");
+fn try_file(rt: &HostRuntime, path: &[u8]) -> io::Result<()> {
+    rt.write_all(path)?;
+    rt.write_all(b": ")?;
     let mut bytes = [0u8; Sheet::BYTES + 1];
-    let n = try_common::read_file(path, &mut bytes);
-    write_answer(&bytes[..n]);
+    let n = try_common::read_file(rt, path, &mut bytes);
+    write_answer(rt, &bytes[..n])
 }
 
-fn main() {
-    let count = os::arg_count();
-    let mut i: usize = 1;
-    while i < count {
-        let mut name = io::buffer();
-        let n = os::arg(i, &mut name);
-        try_file(&name[..n]);
-        i += 1;
+fn main(rt: HostRuntime) -> io::Result<()> {
+    for i in 1..usize::MAX {
+        let mut name = [0u8; try_common::ARGUMENT];
+        let Some(n) = try_common::argument(&rt, i, &mut name) else {
+            break;
+        };
+        try_file(&rt, &name[..n])?;
     }
+    Ok(())
 }

@@ -1,7 +1,8 @@
 // The lent buffers: what they hold before, and whether they hold it after.
 
 use code::Pairs;
-use libc::STDOUT_FILENO;
+use std::io;
+use std::io::Print;
 
 // The greatest lengths at which the buffers are lent: some more than a verdict needs.
 pub const ENTRIES: usize = Pairs::ROOM + 46;
@@ -27,14 +28,12 @@ pub fn is_kept(buffer: &[u8], from: usize) -> bool {
 }
 
 // Writes what became of the working buffer.
-pub fn write_work(work: &[u64]) {
+pub fn write_work(rt: &impl Print, work: &[u64]) -> io::Result<()> {
     if try_common::is_all(work, WORK_BEFORE) {
-        io::write_all(STDOUT_FILENO, b", work kept\r\n");
-        return;
+        rt.write_all(b", work kept\r\n")
+    } else if try_common::is_all(work, 0) {
+        rt.write_all(b", work zero\r\n")
+    } else {
+        rt.write_all(b", work dirty\r\n")
     }
-    if try_common::is_all(work, 0) {
-        io::write_all(STDOUT_FILENO, b", work zero\r\n");
-        return;
-    }
-    io::write_all(STDOUT_FILENO, b", work dirty\r\n");
 }

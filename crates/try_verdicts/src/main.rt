@@ -8,7 +8,8 @@ mod buffers;
 mod trials;
 
 use code::{Code, Pairs, Sheet};
-use libc::STDOUT_FILENO;
+use std::io;
+use std::io::Print;
 use trials::{Lent, try_table};
 
 // What a verdict needs, and more than that.
@@ -31,93 +32,93 @@ fn from_sheet(sheet: &[u8]) -> Code {
     taken.code
 }
 
-fn try_code(code: Code) {
-    try_table(code, NEEDED);
-    try_table(code, LONGER);
+fn try_code(rt: &impl Print, code: Code) -> io::Result<()> {
+    try_table(rt, code, NEEDED)?;
+    try_table(rt, code, LONGER)
 }
 
-fn write_name(name: &[u8]) {
-    io::write_all(STDOUT_FILENO, name);
-    io::write_all(STDOUT_FILENO, b"\r\n");
+fn write_name(rt: &impl Print, name: &[u8]) -> io::Result<()> {
+    rt.write_all(name)?;
+    rt.write_all(b"\r\n")
 }
 
-fn try_file(path: &[u8]) {
-    write_name(path);
+fn try_file(rt: &HostRuntime, path: &[u8]) -> io::Result<()> {
+    write_name(rt, path)?;
     let mut bytes = [0u8; Sheet::BYTES + 1];
-    let n = try_common::read_file(path, &mut bytes);
-    try_code(from_sheet(&bytes[..n]));
+    let n = try_common::read_file(rt, path, &mut bytes);
+    try_code(rt, from_sheet(&bytes[..n]))
 }
 
 // Each buffer one entry short.
-fn try_short(code: Code) {
+fn try_short(rt: &impl Print, code: Code) -> io::Result<()> {
     let mut lent = NEEDED;
     lent.message = Pairs::ROOM - 1;
-    try_table(code, lent);
+    try_table(rt, code, lent)?;
     lent = NEEDED;
     lent.first = Pairs::ROOM - 1;
-    try_table(code, lent);
+    try_table(rt, code, lent)?;
     lent = NEEDED;
     lent.second = Pairs::ROOM - 1;
-    try_table(code, lent);
+    try_table(rt, code, lent)?;
     lent = NEEDED;
     lent.work = Pairs::MARKS - 1;
-    try_table(code, lent);
+    try_table(rt, code, lent)
 }
 
 // No sheet gives a table with another count of words; this is refused before short buffers are.
-fn try_count(mut code: Code, count: usize) {
+fn try_count(rt: &impl Print, mut code: Code, count: usize) -> io::Result<()> {
     code.count = count;
-    try_table(code, LONGER);
+    try_table(rt, code, LONGER)?;
     let none = Lent {
         message: 0,
         first: 0,
         second: 0,
         work: 0,
     };
-    try_table(code, none);
+    try_table(rt, code, none)
 }
 
 // Nor one with such a start mark.
-fn try_mark(mut code: Code, word: usize, mark: u8) {
+fn try_mark(rt: &impl Print, mut code: Code, word: usize, mark: u8) -> io::Result<()> {
     if word < Code::WORDS {
         code.begins[word] = mark;
-        try_table(code, LONGER);
+        try_table(rt, code, LONGER)?;
     }
+    Ok(())
 }
 
-fn try_refusals() {
+fn try_refusals(rt: &impl Print) -> io::Result<()> {
     let t = from_sheet(b"0,1,1,1,1\r\n10,1,1,1,1\r\n01,1,1,1,1\r\n101,1,1,1,1\r\n");
     let u = from_sheet(b"0,1,1,0,0\r\n10,1,1,1,1\r\n01,1,1,0,0\r\n101,1,1,1,1\r\n");
-    write_name(b"short for code T");
-    try_short(t);
-    write_name(b"short for code U");
-    try_short(u);
-    write_name(b"code T with count 0");
-    try_count(t, 0);
-    write_name(b"code T with count 3");
-    try_count(t, 3);
-    write_name(b"code U with count 33");
-    try_count(u, 33);
-    write_name(b"code T with start mark 2");
-    try_mark(t, 3, 2);
-    write_name(b"code U with the start mark of a fifth word");
-    try_mark(u, 4, 1);
+    write_name(rt, b"short for code T")?;
+    try_short(rt, t)?;
+    write_name(rt, b"short for code U")?;
+    try_short(rt, u)?;
+    write_name(rt, b"code T with count 0")?;
+    try_count(rt, t, 0)?;
+    write_name(rt, b"code T with count 3")?;
+    try_count(rt, t, 3)?;
+    write_name(rt, b"code U with count 33")?;
+    try_count(rt, u, 33)?;
+    write_name(rt, b"code T with start mark 2")?;
+    try_mark(rt, t, 3, 2)?;
+    write_name(rt, b"code U with the start mark of a fifth word")?;
+    try_mark(rt, u, 4, 1)
 }
 
-fn try_built_in() {
-    write_name(b"the twelve Turkish types, built in");
-    try_code(turkish::twelve());
+fn try_built_in(rt: &impl Print) -> io::Result<()> {
+    write_name(rt, b"the twelve Turkish types, built in")?;
+    try_code(rt, turkish::twelve())
 }
 
-fn main() {
-    let count = os::arg_count();
-    let mut i: usize = 1;
-    while i < count {
-        let mut name = io::buffer();
-        let n = os::arg(i, &mut name);
-        try_file(&name[..n]);
-        i += 1;
+fn main(rt: HostRuntime) -> io::Result<()> {
+    for i in 1..usize::MAX {
+        let mut name = [0u8; try_common::ARGUMENT];
+        let Some(n) = try_common::argument(&rt, i, &mut name) else {
+            break;
+        };
+        try_file(&rt, &name[..n])?;
     }
-    try_refusals();
-    try_built_in();
+    try_refusals(&rt)?;
+    try_built_in(&rt)
 }

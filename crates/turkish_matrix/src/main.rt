@@ -10,7 +10,7 @@ ghost use Rattle.turkish.specs.Types.{types};
 ghost use Rattle.turkish_matrix.specs.Printed.{end_of, line_of, lines, printed};
 
 use printing::puts::put_numbers;
-use program::{goes_on, write_standard};
+use program::{argument_count, goes_on, write_standard};
 use rules::row_of;
 use turkish::Types;
 use writing::put;
@@ -68,9 +68,10 @@ fn print_table(out: &mut [u8]) -> usize
     put(out, end, b"];\n")
 }
 
-fn main() {
+fn main(rt: HostRuntime) {
     let goes = goes_on(
-        os::arg_count(),
+        &rt,
+        argument_count(&rt),
         1,
         b"turkish_matrix: cannot write standard output",
         b"usage: turkish_matrix\nPrints which of the twelve Turkish syllable types may follow which, worked out from two rules, as a constant of the source.\n",
@@ -82,6 +83,7 @@ fn main() {
     let mut out = [0u8; Output::BYTES];
     let length = print_table(&mut out);
     write_standard(
+        &rt,
         b"turkish_matrix: cannot write standard output",
         &out[..length],
     );

@@ -11,7 +11,7 @@ use Rattle.code.specs.Definitions.Enlarged.{plain_of, original_table}
 use Rattle.code.specs.Definitions.Operations.{Enlarges, verdict_room, written}
 use Rattle.code.specs.Definitions.Sheets.{limits, taken}
 use Rattle.printing.specs.Printed.{printed}
-use Rattle.printing.specs.Prints.{Printable, result}
+use Rattle.printing.specs.Prints.{Printable, result_of}
 
 -- the bytes that the longest result may take: a message and two readings that fill the verdict's buffers
 abbrev pub output_room : ℕ
@@ -58,4 +58,4 @@ pub record Shows (sheet list m f g : List ℕ) (j : Judgement) : Type 0 where
   pub second : List ℕ
   pub right : RightFor sheet list message first second j
   pub printable : Printable j m f g output_room
-  pub same : result j m f g ≡ printed j message first second
+  pub same : result_of j m f g ≡ printed j message first second

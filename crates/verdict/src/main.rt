@@ -11,7 +11,8 @@ ghost use Rattle.verdict.specs.Answers.{output_room, Gives, Shows, Answers, Answ
 use code::{Enlargement, Judgement, Pairs, Sheet, SheetAnswer};
 use printing::Lengths;
 use program::refusals::tell_answer;
-use program::{goes_on, read_named, read_standard, write_standard};
+use program::{argument_count, goes_on, read_named, read_standard, write_standard};
+use std::io::Stderr;
 use streams::Input;
 
 #[derive(Clone, Copy)]
@@ -25,12 +26,12 @@ impl Output {
 }
 
 // What a sheet and a ban list give: the refusal of the sheet; else that of the list, or the sheet's table with the copies that the list needs.
-fn give(sheet: &[u8], list: &[u8]) -> Enlargement
+fn give(errors: Stderr, sheet: &[u8], list: &[u8]) -> Enlargement
     ensures { Gives sheet.now list.now result }
 {
     let taken = sheet::take_in(sheet);
     let answer = taken.answer;
-    tell_answer(b"verdict: the sheet", answer);
+    tell_answer(errors, b"verdict: the sheet", answer);
     let value = well_enlarged::plain(taken.code);
     match answer {
         SheetAnswer::Refused(_) => Enlargement {
@@ -40,7 +41,7 @@ fn give(sheet: &[u8], list: &[u8]) -> Enlargement
         SheetAnswer::Accepted => {
             let given = ban_enlarge::enlarge(value, list);
             let listed = given.answer;
-            tell_answer(b"verdict: the ban list", listed);
+            tell_answer(errors, b"verdict: the ban list", listed);
             given
         }
     }
@@ -48,6 +49,7 @@ fn give(sheet: &[u8], list: &[u8]) -> Enlargement
 
 // The refusal of a sheet or a ban list, or the verdict on what they give. An ambiguous message and its readings stand at the start of their buffers.
 fn judge(
+    errors: Stderr,
     sheet: &[u8],
     list: &[u8],
     message: &mut [u8],
@@ -57,7 +59,7 @@ fn judge(
     requires { (length message.old ≡ verdict_room limits) × (length first.old ≡ verdict_room limits) × (length second.old ≡ verdict_room limits) }
     ensures { Shows sheet.now list.now message.new first.new second.new result }
 {
-    let given = give(sheet, list);
+    let given = give(errors, sheet, list);
     let answer = given.answer;
     match answer {
         SheetAnswer::Refused(refusal) => Judgement::Refused(refusal),
@@ -69,30 +71,38 @@ fn judge(
 }
 
 // Puts the printed result of a sheet and a ban list at the start of `out`, and gives its length.
-fn answer(sheet: &[u8], list: &[u8], out: &mut [u8]) -> usize
+fn answer(errors: Stderr, sheet: &[u8], list: &[u8], out: &mut [u8]) -> usize
     requires { length out.old ≡ output_room }
     ensures { Answers sheet.now list.now out.old out.new result }
 {
     let mut message = [0u8; Pairs::ROOM];
     let mut first = [0u8; Pairs::ROOM];
     let mut second = [0u8; Pairs::ROOM];
-    let judgement = judge(sheet, list, &mut message, &mut first, &mut second);
+    let judgement = judge(errors, sheet, list, &mut message, &mut first, &mut second);
     printing::print_result(judgement, &message, &first, &second, out)
 }
 
 // The answer to the first n bytes of an input and the first k of a file. Each buffer is longer than a sheet or a list may be, so what fills it is refused.
-fn answer_input(input: &[u8], n: usize, file: &[u8], k: usize, out: &mut [u8]) -> usize
+fn answer_input(
+    errors: Stderr,
+    input: &[u8],
+    n: usize,
+    file: &[u8],
+    k: usize,
+    out: &mut [u8],
+) -> usize
     requires { IsPrefixLen n input.now × IsPrefixLen k file.now × (limits.bytes < length input.now) × (limits.bytes < length file.now) × (length out.old ≡ output_room) }
     ensures { AnswersInput input.now n file.now k out.old out.new result }
 {
-    answer(&input[..n], &file[..k], out)
+    answer(errors, &input[..n], &file[..k], out)
 }
 
 // The answer to standard input, and to the file that the argument names, on standard output. What cannot be read or written is told on standard error, and a
 // sheet or a list that was not read whole gets no answer.
-fn main() {
-    let arguments = os::arg_count();
+fn main(rt: HostRuntime) {
+    let arguments = argument_count(&rt);
     let goes = goes_on(
+        &rt,
         arguments,
         2,
         b"verdict: cannot write standard output",
@@ -105,6 +115,7 @@ fn main() {
     let mut file = [0u8; Sheet::BYTES + 1];
     // Without an argument the list has 0 bytes, which hold no ban.
     let listed = read_named(
+        &rt,
         1,
         arguments,
         b"verdict: cannot read the ban list",
@@ -114,11 +125,15 @@ fn main() {
         return;
     };
     let mut input = [0u8; Sheet::BYTES + 1];
-    let read = read_standard(b"verdict: cannot read standard input", &mut input);
+    let read = read_standard(&rt, b"verdict: cannot read standard input", &mut input);
     let Input::Bytes(n) = read else {
         return;
     };
     let mut out = [0u8; Output::BYTES];
-    let length = answer_input(&input, n, &file, k, &mut out);
-    write_standard(b"verdict: cannot write standard output", &out[..length]);
+    let length = answer_input(rt.stderr(), &input, n, &file, k, &mut out);
+    write_standard(
+        &rt,
+        b"verdict: cannot write standard output",
+        &out[..length],
+    );
 }

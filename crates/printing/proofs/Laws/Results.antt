@@ -14,7 +14,7 @@ use Rattle.csv_records.specs.Digits.{digit_of}
 use Rattle.printing.specs.Printed.{decimal, record_of, ambiguous}
 use Rattle.printing.proofs.Laws.Lengths.{length-pair, decimal-word}
 use Rattle.writing.specs.Puts.{Puts, Starts, puts_then, puts-length, starts}
-use Rattle.printing.specs.Prints.{Symbols, Printable, result}
+use Rattle.printing.specs.Prints.{Symbols, Printable, result_of}
 
 -- A word and a number
 
@@ -63,7 +63,7 @@ module _ {a : SymbolCount} {b c : WordCount} {m f g : List ℕ} (o : List ℕ) (
           (arith, shown.room, message-end, puts-length message, puts-length first, length-take-le b.0 f shown.first, length-take-le c.0 g shown.second)
 
       pub ambiguous-put : {e : List ℕ} {r : ℕ} → Puts l (record_of (map decimal (take c.0 g))) q e r → r ≤ l + 4 * length (take c.0 g) + 2
-          → Starts (result (Judged (Two-ways a b c)) m f g) o e r
+          → Starts (result_of (Judged (Two-ways a b c)) m f g) o e r
       ambiguous-put second second-most =
           let whole = puts_then (puts_then message first) second in
           starts whole (omega (arith, whole.end, second-room, puts-length message, puts-length first))

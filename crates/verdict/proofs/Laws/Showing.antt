@@ -29,7 +29,7 @@ use Rattle.pair_places.specs.Codes.{code_fits}
 use Rattle.printing.specs.Printed.{printed}
 use Rattle.printing.proofs.Laws.Starts.{starts-counts}
 use Rattle.writing.specs.Puts.{Starts}
-use Rattle.printing.specs.Prints.{lengths_of, Symbols, Printable, Prints, all, none, result}
+use Rattle.printing.specs.Prints.{lengths_of, Symbols, Printable, Prints, all, none, result_of}
 use Rattle.ban_meaning.specs.Alike.{same_reads}
 use Rattle.ban_meaning.specs.Given.{table_with}
 use Rattle.ban_meaning.proofs.Given.{lists-alike}
@@ -114,7 +114,7 @@ module _ {sheet list : List ℕ} {g : Enlargement} (gives : Gives sheet list g) 
         }
 
     -- A verdict that is not ambiguous shows nothing of the buffers.
-    shows-plain : (v : Verdict) → VerdictMeans (original_table g.enlarged) x s u v → Printable (Judged v) m' f' h' output_room → result (Judged v) m' f' h' ≡ printed (Judged v) x s u
+    shows-plain : (v : Verdict) → VerdictMeans (original_table g.enlarged) x s u v → Printable (Judged v) m' f' h' output_room → result_of (Judged v) m' f' h' ≡ printed (Judged v) x s u
         → Shows sheet list m' f' h' (Judged v)
     shows-plain v means printable same =
         record { message = x; first = s; second = u; right = record { given = g; gives = gives; right = (accepted, means) }; printable = printable; same = same }
