@@ -1,5 +1,5 @@
 -- Which word may come after which in a code with copies: what the arrays of the copies, a row of the code's matrix and the bans say.
-use Rattle.std.specs.Prelude.{◌≡◌, Bool, true, ◌&&◌, List, ℕ, ◌+◌, ◌*◌, ◌≤◌, ◌<◌, eqb, length}
+use Rattle.std.specs.Prelude.{◌≡◌, Bool, true, ◌&&◌, List, ℕ, ◌+◌, ◌*◌, ◌≤◌, ◌<◌, eqb, length, if◌then◌else◌}
 use Rattle.std.proofs.Math.Path.{sym, ap}
 use Rattle.std.proofs.Common.{◌∙◌, arith, below_more}
 use Rattle.std.proofs.Math.Bool.{false, not}
@@ -7,7 +7,6 @@ use Rattle.std.proofs.Math.Dec.{ltb}
 use Rattle.std.proofs.Math.ListN.{get_or}
 use borrow.Author.Tests.{lt-ltb, le-ltb, eq-eqb, ne_eqb}
 use Rattle.code.specs.declared.Code.{Code}
-use Rattle.code.specs.Definitions.Lists.{if◌then◌else◌}
 use Rattle.code.specs.Definitions.Sheets.{limits}
 use Rattle.code.specs.Definitions.Tables.{no_row, table_of}
 use Rattle.code.specs.Definitions.Bans.{Ban, Copy, is_copy, has_copy, is_ban, banned_by, copies_of, copy_at, origin, stands_after, unbanned, may_come}

@@ -1,7 +1,7 @@
 // The words and the matrix of a code with copies: which word may come after which, row by row.
 
-ghost use Rattle.std.specs.Prelude.{◌≡◌, ◌+◌, ◌*◌, ◌≤◌, ◌<◌, length, get_or};
-ghost use Rattle.code.specs.Definitions.Lists.{if◌then◌else◌, tabulate};
+ghost use Rattle.std.specs.Prelude.{◌≡◌, ◌+◌, ◌*◌, ◌≤◌, ◌<◌, length, get_or, if◌then◌else◌};
+ghost use Rattle.code.specs.Definitions.Lists.{tabulate};
 ghost use Rattle.code.specs.Definitions.Bans.{is_ban, banned_by, copies_of, stands_after};
 ghost use Rattle.code.specs.Definitions.Enlarged.{enlarged_code};
 ghost use Rattle.code.specs.Definitions.Sheets.{limits};

@@ -1,5 +1,5 @@
 -- Enlarging by a list, way by way: one lemma for each refusal, and one for what the bans give.
-use Rattle.std.specs.Prelude.{◌≡◌, Bool, false, not, List, ℕ, ◌*◌, ◌≤◌, ◌<◌, length}
+use Rattle.std.specs.Prelude.{◌≡◌, Bool, false, not, List, ℕ, ◌*◌, ◌≤◌, ◌<◌, length, if◌then◌else◌}
 use Rattle.std.proofs.Math.Path.{refl}
 use Rattle.std.proofs.Common.{sym, ◌∙◌, inl, inr, arith}
 use Rattle.std.proofs.Math.Bool.{true, true≢false}
@@ -13,7 +13,6 @@ use Rattle.code.specs.declared.SheetAnswer.TheVariants.{Accepted, Refused}
 use Rattle.code.specs.Definitions.BanLists.{refused16, bans_of}
 use Rattle.code.specs.Definitions.Bans.{Ban}
 use Rattle.code.specs.Definitions.Enlarged.{blank_enlarged, enlarged_code, enlargement, refused17}
-use Rattle.code.specs.Definitions.Lists.{if◌then◌else◌}
 use Rattle.code.specs.Definitions.Sheets.{limits}
 use Rattle.code.specs.Definitions.Operations.{WithoutCopies, Enlarges, refused, enlarged}
 use Rattle.ban_list.specs.declared.BanList.{BanList}

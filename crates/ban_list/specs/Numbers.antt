@@ -1,5 +1,5 @@
 -- Reading a number digit by digit: as soon as it is too large or a byte is no decimal digit the field is no number, so no digit behind that is read.
-use Rattle.std.specs.Prelude.{◌≡◌, Bool, ◌&&◌, List, [], ◌∷◌, ℕ, ◌+◌, ◌-◌, ◌*◌, ◌≤◌, ◌<◌, ltb, drop, get_or}
+use Rattle.std.specs.Prelude.{◌≡◌, Bool, ◌&&◌, List, [], ◌∷◌, ℕ, ◌+◌, ◌-◌, ◌*◌, ◌≤◌, ◌<◌, ltb, drop, get_or, if◌then◌else◌}
 use Rattle.std.proofs.Math.Path.{refl}
 use Rattle.std.proofs.Common.{sym, ap, ◌∙◌, drop_of_length-le}
 use Rattle.std.proofs.Math.Bool.{true, false, not, and-false, or-true, and-eq-true_iff}
@@ -8,7 +8,7 @@ use native.Mathlib.Omega.{arith}
 use Rattle.std.proofs.Math.Dec.{leb, eqb}
 use Rattle.std.proofs.Math.ListN.{length}
 use borrow.Author.Tests.{ltb-true, ltb-false, le-ltb, le-leb, lt-leb, eqb-false, ne_eqb, eq-eqb}
-use Rattle.code.specs.Definitions.Lists.{if◌then◌else◌, every}
+use Rattle.code.specs.Definitions.Lists.{every}
 use Rattle.code.specs.Definitions.Sheets.{is_digit}
 use Rattle.code.specs.Definitions.BanLists.{is_decimal, decimal, number_of, no_leading_zero, is_number}
 use Rattle.csv_records.specs.Fields.{leading, leading-first, digit-from}

@@ -1,12 +1,12 @@
 -- Lists that forbid the same make the same copies, but for their order. So they pass the limits together.
-use Rattle.std.specs.Prelude.{◌≡◌, refl, Bool, true, false, ◌||◌, List, [], ◌∷◌, ◌++◌, map, ◌⊎◌, ℕ, ◌+◌, ◌≤◌, ltb, eqb, length}
+use Rattle.std.specs.Prelude.{◌≡◌, refl, Bool, true, false, ◌||◌, List, [], ◌∷◌, ◌++◌, map, ◌⊎◌, ℕ, ◌+◌, ◌≤◌, ltb, eqb, length, if◌then◌else◌}
 use Rattle.std.proofs.Common.{sym, ap, ap₂, ◌∙◌, subst₂, inl, inr, arith, eqb-true, eq-eqb}
 use Rattle.std.proofs.lemmas.Bool.{false≢true}
 use Rattle.std.proofs.Math.Bool.{and-eq-true_iff}
 use Rattle.std.proofs.lemmas.List.{map-append}
 use Rattle.code.specs.declared.Code.{Code}
 use Rattle.code.specs.declared.Limits.{Limits}
-use Rattle.code.specs.Definitions.Lists.{if◌then◌else◌, any, sum}
+use Rattle.code.specs.Definitions.Lists.{any, sum}
 use Rattle.code.specs.Definitions.Tables.{word, table_of}
 use Rattle.code.specs.Definitions.Bans.{Ban, Copy, banned_by, is_copy, has_copy, copy_index, copies_from, copies_of, enlarged}
 use Rattle.code.specs.Definitions.Enlarged.{refused17}

@@ -1,5 +1,5 @@
 -- A list of 0 bytes is accepted, and gives the sheet's own table.
-use Rattle.std.specs.Prelude.{◌≡◌, refl, Bool, true, false, ℕ, ◌+◌, ◌≤◌, ◌<◌, eqb, get_or}
+use Rattle.std.specs.Prelude.{◌≡◌, refl, Bool, true, false, ℕ, ◌+◌, ◌≤◌, ◌<◌, eqb, get_or, if◌then◌else◌}
 use Rattle.std.proofs.Common.{sym, ◌∙◌, true≢false}
 use Rattle.std.proofs.Math.Path.{ap}
 use Rattle.std.proofs.Math.Bool.{and-true, and-false}
@@ -12,7 +12,7 @@ use Rattle.code.specs.declared.Code.{Code}
 use Rattle.code.specs.declared.Enlargement.{Enlargement}
 use Rattle.code.specs.declared.Limits.{Limits}
 use Rattle.code.specs.declared.SheetAnswer.TheVariants.{Accepted}
-use Rattle.code.specs.Definitions.Lists.{if◌then◌else◌, any, tabulate, sum}
+use Rattle.code.specs.Definitions.Lists.{any, tabulate, sum}
 use Rattle.code.specs.Definitions.Tables.{no_word, no_row, entry_of, table_of}
 use Rattle.code.specs.Definitions.Sheets.{bad_bytes, FromSheet}
 use Rattle.code.specs.Definitions.Bans.{banned_by, copies_from, copies_of, origin, may_come, enlarged}

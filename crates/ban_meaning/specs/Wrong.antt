@@ -1,9 +1,9 @@
 -- A wrong byte makes a wrong record, so refusal 16 depends on the records alone. Lists of the same records are accepted or refused alike.
-use Rattle.std.specs.Prelude.{◌≡◌, refl, Bool, true, false, not, ◌&&◌, ◌||◌, List, [], ◌∷◌, map, ◌⊎◌, ℕ, ◌-◌, ltb, leb, eqb, length, take, get_or}
+use Rattle.std.specs.Prelude.{◌≡◌, refl, Bool, true, false, not, ◌&&◌, ◌||◌, List, [], ◌∷◌, map, ◌⊎◌, ℕ, ◌-◌, ltb, leb, eqb, length, take, get_or, if◌then◌else◌}
 use Rattle.std.proofs.Common.{◌∙◌, inl, inr, arith, eqb-true, ne_eqb, leb-true}
 use Rattle.std.proofs.Math.Bool.{or-true, and-eq-true_iff}
 use Rattle.std.proofs.lemmas.Bool.{not-false}
-use Rattle.code.specs.Definitions.Lists.{if◌then◌else◌, any, every}
+use Rattle.code.specs.Definitions.Lists.{any, every}
 use Rattle.code.specs.Definitions.Sheets.{crlf, body, push, records, fields, grid, bad_bytes}
 use Rattle.code.specs.Definitions.BanLists.{is_decimal, number_of, no_leading_zero, is_number, ban_of, bad_ban, ban_records, refused16}
 use Rattle.code.specs.Laws.Clean.{bad-end, end-split}

@@ -1,10 +1,10 @@
 -- Lists of copies: the copy of z after y stands where it is looked for, and after each word and its copies there is exactly one number for each word.
-use Rattle.std.specs.Prelude.{◌≡◌, refl, Bool, true, false, not, ◌||◌, List, [], ◌∷◌, ℕ, suc, ◌+◌, ◌-◌, ◌≤◌, ◌<◌, eqb, length, get_or}
+use Rattle.std.specs.Prelude.{◌≡◌, refl, Bool, true, false, not, ◌||◌, List, [], ◌∷◌, ℕ, suc, ◌+◌, ◌-◌, ◌≤◌, ◌<◌, eqb, length, get_or, if◌then◌else◌}
 use Rattle.std.proofs.Common.{sym, ap, ◌∙◌, subst, true≢false, arith, eqb-true, lt-ltb, le-ltb, eq-eqb}
 use Rattle.std.proofs.lemmas.Bool.{false≢true, not-true}
 use Rattle.std.proofs.Math.Bool.{and-eq-true_iff}
 use Rattle.std.proofs.Math.Decide.{dec_lt}
-use Rattle.code.specs.Definitions.Lists.{if◌then◌else◌, any}
+use Rattle.code.specs.Definitions.Lists.{any}
 use Rattle.code.specs.Definitions.Bans.{Copy, no_copy, is_copy, has_copy, copy_index, copy_at, origin, stands_after, number_after}
 use Rattle.code.specs.Laws.Lists.{any_at}
 

@@ -1,11 +1,11 @@
 -- The field of a word number: one decimal digit, or two without a leading zero. It is read back as the number.
-use Rattle.std.specs.Prelude.{◌≡◌, ltb, length}
+use Rattle.std.specs.Prelude.{◌≡◌, ltb, length, if◌then◌else◌}
 use Rattle.std.proofs.Math.Bool.{true}
 use mathlib.Core.List.{List, [], ◌∷◌}
 use Prim.Native.Nat.{ℕ, ◌+◌, ◌/◌, ◌%◌, ◌≤◌, ◌<◌}
 use Rattle.std.proofs.Math.Decide.{dec_lt}
 use Rattle.std.proofs.Common.{arith, lt-ltb, le-ltb, le-leb, ne_eqb}
-use Rattle.code.specs.Definitions.Lists.{if◌then◌else◌, every}
+use Rattle.code.specs.Definitions.Lists.{every}
 use Rattle.code.specs.Definitions.Sheets.{is_digit}
 use Rattle.code.specs.Definitions.BanLists.{is_decimal, decimal, number_of, is_number}
 

@@ -1,12 +1,11 @@
 -- The answer to a sheet or a list for C and Rust: the number that is returned, and what the lent buffer then holds.
-use Rattle.std.specs.Prelude.{◌≡◌, List, ℕ, min, ltb, length, take}
+use Rattle.std.specs.Prelude.{◌≡◌, List, ℕ, min, ltb, length, take, if◌then◌else◌}
 use Rattle.c_answers.specs.Answers.{short_number}
 use Rattle.code.specs.declared.Classes.{Classes}
 use Rattle.code.specs.declared.SheetAnswer.{SheetAnswer}
 use Rattle.code.specs.declared.SheetAnswer.TheVariants.{Accepted, Refused}
 use Rattle.code.specs.Definitions.Answers.{refusal_number}
 use Rattle.code.specs.Definitions.ClassSheets.{different_bytes}
-use Rattle.code.specs.Definitions.Lists.{if◌then◌else◌}
 use Rattle.code.specs.Definitions.Operations.{written}
 
 -- Where the buffer has not the n bytes that are needed, 13 holds beside the own refusal of a sheet or a list, which is below it or, from 15 on, above.

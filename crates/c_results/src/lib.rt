@@ -2,12 +2,11 @@
 
 #![tactic(auto)]
 
-ghost use Rattle.std.specs.Prelude.{◌≡◌, min, ◌≤◌, length};
+ghost use Rattle.std.specs.Prelude.{◌≡◌, min, ◌≤◌, length, if◌then◌else◌};
 ghost use Rattle.c_answers.specs.Answers.{short_number};
 ghost use Rattle.code.specs.declared.SheetAnswer.TheVariants.{Accepted};
 ghost use Rattle.code.specs.Definitions.Answers.{refusal_number};
 ghost use Rattle.code.specs.Definitions.ClassSheets.{different_bytes};
-ghost use Rattle.code.specs.Definitions.Lists.{if◌then◌else◌};
 ghost use Rattle.c_image.specs.Image.{image_length, image_of, Packable};
 ghost use Rattle.c_results.specs.Given.{Answered, classes_in};
 

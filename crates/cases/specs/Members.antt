@@ -1,12 +1,12 @@
 -- Members of the lists that the checks compute: of what a test keeps, of lists joined to one, and of the numbers below a bound.
-use Rattle.std.specs.Prelude.{◌≡◌, Bool, true, false, ◌⊎◌, ℕ, zero, suc, ◌<◌}
+use Rattle.std.specs.Prelude.{◌≡◌, Bool, true, false, ◌⊎◌, ℕ, zero, suc, ◌<◌, if◌then◌else◌}
 use Rattle.std.proofs.Math.Path.{refl, ap}
 use Rattle.std.proofs.Common.{sym, ◌∙◌, inl, inr, arith}
 use Rattle.std.proofs.Math.Bool.{false≢true, and-eq-true_iff}
 use mathlib.Core.List.Memᴰ
 use mathlib.Core.List.{List, [], ◌∷◌, flat_map, Memᴰ}
 use Rattle.std.proofs.Math.Decide.{ℕ_discrete}
-use Rattle.code.specs.Definitions.Lists.{if◌then◌else◌, every, tabulate}
+use Rattle.code.specs.Definitions.Lists.{every, tabulate}
 
 module _ {A : Type 0} where
   unfoldable pub empty : List A → Bool

@@ -1,5 +1,5 @@
 -- Filling a table of classes byte by byte: a byte that has no class yet gets the symbol, and it is told whether one had.
-use Rattle.std.specs.Prelude.{◌≡◌, refl, Bool, ◌&&◌, ◌||◌, List, ℕ, ◌+◌, ◌-◌, ◌≤◌, ◌<◌, ltb, leb, length, set}
+use Rattle.std.specs.Prelude.{◌≡◌, refl, Bool, ◌&&◌, ◌||◌, List, ℕ, ◌+◌, ◌-◌, ◌≤◌, ◌<◌, ltb, leb, length, set, if◌then◌else◌}
 use Rattle.std.proofs.Math.Path.{sym, ap}
 use Rattle.std.proofs.Common.{◌∙◌, arith, get_or-set_same}
 use Rattle.std.proofs.Math.Bool.{true, false, and-false}
@@ -8,7 +8,7 @@ use Rattle.std.proofs.Math.ListN.{length-set}
 use Rattle.std.proofs.Math.Seq.{get_or-set_other}
 use borrow.Author.Tests.{lt-ltb, le-ltb, le-leb, lt-leb}
 use Rattle.code.specs.Definitions.ClassSheets.{different_bytes, all_bytes}
-use Rattle.code.specs.Definitions.Lists.{if◌then◌else◌, any, tabulate}
+use Rattle.code.specs.Definitions.Lists.{any, tabulate}
 use Rattle.code.specs.Definitions.Texts.{other, class_of, is_letter}
 use Rattle.code.specs.Laws.Lists.{any-tabulate, any_found, any-alike}
 

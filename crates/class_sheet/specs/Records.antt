@@ -1,12 +1,12 @@
 -- What the records of a class sheet without wrong bytes give.
-use Rattle.std.specs.Prelude.{◌≡◌, Bool, ◌||◌, List, map, ℕ}
+use Rattle.std.specs.Prelude.{◌≡◌, Bool, ◌||◌, List, map, ℕ, if◌then◌else◌}
 use Rattle.code.specs.declared.Refusal.{Refusal}
 use Rattle.code.specs.declared.Refusal.TheVariants.{ClassRecord, ClassRange, ClassOverlap}
 use Rattle.code.specs.declared.SheetAnswer.{SheetAnswer}
 use Rattle.code.specs.declared.SheetAnswer.TheVariants.{Accepted, Refused}
 use Rattle.code.specs.declared.TakenClasses.{TakenClasses}
 use Rattle.code.specs.Definitions.ClassSheets.{Range, range_of, malformed, takes_sign, refused19, refused20, classes_of, no_classes}
-use Rattle.code.specs.Definitions.Lists.{if◌then◌else◌, any}
+use Rattle.code.specs.Definitions.Lists.{any}
 
 abbrev pub ranges_in : List (List (List ℕ)) → List Range
 ranges_in g = map range_of g

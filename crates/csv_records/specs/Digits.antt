@@ -1,10 +1,9 @@
 -- Digits and the symbols they stand for; and the first field of every record of a sheet without refusal 2 is digits.
-use Rattle.std.specs.Prelude.{◌≡◌, refl, Bool, true, false, List, [], ◌∷◌, ℕ, zero, suc, ◌+◌, ◌-◌, ◌<◌, ltb, leb, drop, get_or}
+use Rattle.std.specs.Prelude.{◌≡◌, refl, Bool, true, false, List, [], ◌∷◌, ℕ, zero, suc, ◌+◌, ◌-◌, ◌<◌, ltb, leb, drop, get_or, if◌then◌else◌}
 use Rattle.std.proofs.Math.Bool.{and-false, and-eq-true_iff}
 use Rattle.std.proofs.Common.{arith, get_or-drop, leb-true, le-leb, lt-ltb, le-ltb}
 use Rattle.std.proofs.Math.Decide.{dec_lt}
 use Rattle.std.proofs.lemmas.Bool.{lt-leb}
-use Rattle.code.specs.Definitions.Lists.{if◌then◌else◌}
 use Rattle.code.specs.Definitions.Sheets.{is_digit, value_of, push, first_field}
 use Rattle.code.specs.Laws.Clean.{Clean, none, digit, comma, line, record_fields, record_fields-none, record_fields-digit, record_fields-comma, record_fields-line}
 

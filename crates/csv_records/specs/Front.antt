@@ -1,11 +1,11 @@
 -- What stands at the front of a clean byte string: the digits of a field, and after them the end, a comma or a CR LF. A pass goes from field to field by this.
-use Rattle.std.specs.Prelude.{◌≡◌, Bool, true, ℕ, suc, ◌+◌, ◌≤◌, ◌<◌, leb, length, drop, get_or}
+use Rattle.std.specs.Prelude.{◌≡◌, Bool, true, ℕ, suc, ◌+◌, ◌≤◌, ◌<◌, leb, length, drop, get_or, if◌then◌else◌}
 use Rattle.std.proofs.Common.{sym, ◌∙◌, add-one, arith, length-drop, drop_of_length-le, drop-cons, drop-drop, le-leb}
 use mathlib.Core.List.{List, [], ◌∷◌, nil≢cons, head-eq_of_cons-eq, tail-eq_of_cons-eq}
 use Rattle.std.proofs.Math.Decide.{dec_lt}
 use Rattle.std.proofs.Math.ListN.{get_or-eq_default}
 use Rattle.std.proofs.lemmas.Bool.{lt-leb}
-use Rattle.code.specs.Definitions.Lists.{if◌then◌else◌, any}
+use Rattle.code.specs.Definitions.Lists.{any}
 use Rattle.code.specs.Definitions.Sheets.{is_digit, push}
 use Rattle.code.specs.Laws.Clean.{Clean, none, digit, comma, line, record_fields, record_fields-none, record_fields-digit, record_fields-comma, record_fields-line}
 use Rattle.csv_records.specs.Fields.{leading}

@@ -1,7 +1,6 @@
 -- The places of a code, numbered from 0 along its words joined, as one flat list of bytes; and the graph of its unordered pairs.
-use Rattle.std.specs.Prelude.{◌≡◌, Bool, ◌&&◌, ◌||◌, List, ℕ, ◌+◌, ◌*◌, ◌/◌, ◌≤◌, ◌<◌, min, max, length, get_or}
+use Rattle.std.specs.Prelude.{◌≡◌, Bool, ◌&&◌, ◌||◌, List, ℕ, ◌+◌, ◌*◌, ◌/◌, ◌≤◌, ◌<◌, min, max, length, get_or, if◌then◌else◌}
 use Rattle.std.proofs.Math.Dec.{ltb, eqb}
-use Rattle.code.specs.Definitions.Lists.{if◌then◌else◌}
 use Rattle.code.specs.Definitions.Sheets.{limits}
 use Rattle.code.specs.Laws.Below.{some_below}
 use Rattle.graph.specs.Graph.{Graph}

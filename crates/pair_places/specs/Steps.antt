@@ -1,7 +1,6 @@
 -- What the functions on a flat list promise of a pair: the node that it is, by the cases of `pair_node`.
-use Rattle.std.specs.Prelude.{◌≡◌, refl, Bool, true, false, ◌&&◌, List, ℕ, ◌≤◌, ◌<◌, min, max, ltb, eqb}
+use Rattle.std.specs.Prelude.{◌≡◌, refl, Bool, true, false, ◌&&◌, List, ℕ, ◌≤◌, ◌<◌, min, max, ltb, eqb, if◌then◌else◌}
 use Rattle.std.proofs.Common.{sym, ap₂, ◌∙◌, arith, ltb-true, eqb-true, lt-ltb, eq-eqb}
-use Rattle.code.specs.Definitions.Lists.{if◌then◌else◌}
 use Rattle.pair_places.specs.declared.Pair.{Pair}
 use Rattle.pair_places.specs.Cells.{cell_of}
 use Rattle.pair_places.specs.Flat.{symbol_at, first_at, place_count, cell_count, cell, pair_node}

@@ -1,8 +1,7 @@
 -- How many slots of a pair of places, or of the source, may lead on by a symbol.
-use Rattle.std.specs.Prelude.{◌≡◌, Bool, true, false, List, ℕ, ◌+◌, ◌*◌, ◌<◌, eqb}
+use Rattle.std.specs.Prelude.{◌≡◌, Bool, true, false, List, ℕ, ◌+◌, ◌*◌, ◌<◌, eqb, if◌then◌else◌}
 use Rattle.std.proofs.Math.Dec.{ltb}
 use Rattle.std.proofs.Common.{lt-ltb}
-use Rattle.code.specs.Definitions.Lists.{if◌then◌else◌}
 use Rattle.code.specs.Definitions.Sheets.{limits}
 use Rattle.pair_places.specs.Flat.{symbol_at, end_at, word_count, slots_of, lower, higher}
 use Rattle.pair_places.specs.Opens.{straight_on, turning}

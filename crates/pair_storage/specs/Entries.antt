@@ -1,6 +1,6 @@
 -- What a search over pairs sees of its queue or its stack: for each link an entry, the cell of the two places that it carries and the number above them, whatever
 -- the mark beside it. So the places carried are those of the cell whose mark is read or set.
-use Rattle.std.specs.Prelude.{◌≡◌, Bool, true, false, ltb, length, get_or, set}
+use Rattle.std.specs.Prelude.{◌≡◌, Bool, true, false, ltb, length, get_or, set, if◌then◌else◌}
 use Rattle.std.proofs.Math.Path.{refl, ap}
 use Rattle.std.proofs.Common.{sym, ◌∙◌, lt-ltb, ltb-true}
 use mathlib.Core.List.{List, [], ◌∷◌, map}
@@ -10,7 +10,6 @@ use Rattle.std.proofs.Math.Nat.{mul-le-mul}
 use native.Mathlib.Omega.{arith}
 use Rattle.std.proofs.Math.ListN.{get_or-map}
 use Rattle.std.proofs.lemmas.List.{set-get_or}
-use Rattle.code.specs.Definitions.Lists.{if◌then◌else◌}
 use Rattle.pair_places.specs.declared.Pair.{Pair}
 use Rattle.pair_places.specs.Cells.{cell_of}
 use Rattle.pair_places.specs.Flat.{Laid, place_count, cell_count, cell}

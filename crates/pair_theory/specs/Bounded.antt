@@ -1,6 +1,6 @@
 -- A test that computes: no walk from a first pair has more than a given number of steps, the step to the first pair included, and none meets two ends.
 -- It goes along all walks, however often they meet, so that a delay of a small table is shown by computation.
-use Rattle.std.specs.Prelude.{◌≡◌, refl, Bool, ◌&&◌, ltb, length}
+use Rattle.std.specs.Prelude.{◌≡◌, refl, Bool, ◌&&◌, ltb, length, if◌then◌else◌}
 use Rattle.std.proofs.Common.{sym, ◌∙◌, subst}
 use Rattle.std.proofs.Math.Path.{ap}
 use Rattle.std.proofs.Math.Bool.{true, false, not}
@@ -10,7 +10,6 @@ use Rattle.std.proofs.Math.Decide.{ℕ_discrete}
 use native.Mathlib.Omega.{arith}
 use Rattle.std.proofs.Math.Dec.{eqb}
 use borrow.Author.Tests.{lt-ltb, le-ltb, eq-eqb, ne_eqb}
-use Rattle.code.specs.Definitions.Lists.{if◌then◌else◌}
 use Rattle.code.specs.Definitions.Tables.{Table, size, word}
 use Rattle.code.specs.Definitions.Readings.{Decipherable}
 use Rattle.code.specs.Definitions.Delays.{SharePrefix, Delay}

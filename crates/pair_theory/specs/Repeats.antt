@@ -1,12 +1,11 @@
 -- A walk with as many steps as there are unordered pairs meets some pair twice. The pairs met are counted by their numbers: as long as no pair is met
 -- again each step adds one to the count.
-use Rattle.std.specs.Prelude.{◌≡◌, Bool, true, false, ◌||◌, ◌⊎◌, ℕ, suc, ◌+◌, ◌≤◌, ◌<◌, eqb}
+use Rattle.std.specs.Prelude.{◌≡◌, Bool, true, false, ◌||◌, ◌⊎◌, ℕ, suc, ◌+◌, ◌≤◌, ◌<◌, eqb, if◌then◌else◌}
 use Rattle.std.proofs.Math.Path.{refl}
 use Rattle.std.proofs.Common.{sym}
 use Rattle.std.proofs.Math.Logic.{inl, inr}
 use native.Mathlib.Omega.{arith}
 use borrow.Author.Tests.{eqb-true, eq-eqb}
-use Rattle.code.specs.Definitions.Lists.{if◌then◌else◌}
 use Rattle.code.specs.Definitions.Tables.{Table}
 use Rattle.pair_theory.specs.Places.{Place, Plain, Is, CommonStep}
 use Rattle.pair_theory.specs.Paths.{step_is}

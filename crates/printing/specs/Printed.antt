@@ -1,11 +1,11 @@
 -- The printed result as bytes, for every verdict and every refusal.
-use Rattle.std.specs.Prelude.{List, [], ◌∷◌, ◌++◌, map, ℕ, zero, suc, ◌/◌, ltb}
+use Rattle.std.specs.Prelude.{List, [], ◌∷◌, ◌++◌, map, ℕ, zero, suc, ◌/◌, ltb, if◌then◌else◌}
 use Rattle.io.specs.Digits.{last_digits}
 use Rattle.code.specs.declared.Verdict.TheVariants.{Ambiguous as Two-ways, Finite, Unbounded}
 use Rattle.code.specs.declared.Judgement.{Judgement}
 use Rattle.code.specs.declared.Refusal.{Refusal}
 use Rattle.code.specs.declared.Judgement.TheVariants.{Judged, Refused as Not-judged}
-use Rattle.code.specs.Definitions.Lists.{if◌then◌else◌, join}
+use Rattle.code.specs.Definitions.Lists.{join}
 use Rattle.code.specs.Definitions.Answers.{refusal_number}
 use Rattle.csv_records.specs.Digits.{digit_of}
 

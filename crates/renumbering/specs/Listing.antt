@@ -1,8 +1,7 @@
 -- Numbers listed in the order of a key: the list so far has, in this order, the numbers whose key is below a bound, and room for all.
-use Rattle.std.specs.Prelude.{◌≡◌, List, ℕ, ◌+◌, ◌≤◌, ◌<◌, ltb, length, get_or, set}
+use Rattle.std.specs.Prelude.{◌≡◌, List, ℕ, ◌+◌, ◌≤◌, ◌<◌, ltb, length, get_or, set, if◌then◌else◌}
 use Rattle.std.proofs.Common.{sym, ap, ◌∙◌, arith, lt-ltb, le-ltb, eq-eqb, ne_eqb, length-set, get_or-set_same, get_or-set_other}
 use Rattle.std.proofs.Math.Decide.{dec_lt, ℕ_discrete}
-use Rattle.code.specs.Definitions.Lists.{if◌then◌else◌}
 use Rattle.code.specs.Laws.Lists.{sum_bound}
 use Rattle.code.specs.Laws.Cells.{on-push}
 use Rattle.renumbering.specs.Sums.{sum_of, sum-none, sum_ones, sum_same, sum-add, only, sum-only}

@@ -1,8 +1,8 @@
 -- Sums of f 0 to f (n - 1): term by term, in two dimensions, with a single term, and in another order.
-use Rattle.std.specs.Prelude.{◌≡◌, refl, [], ◌∷◌, ℕ, zero, suc, ◌+◌, ◌<◌, eqb}
+use Rattle.std.specs.Prelude.{◌≡◌, refl, [], ◌∷◌, ℕ, zero, suc, ◌+◌, ◌<◌, eqb, if◌then◌else◌}
 use Rattle.std.proofs.Common.{sym, ap, ◌∙◌, arith, eq-eqb, ne_eqb}
 use Rattle.std.proofs.Math.Decide.{ℕ_discrete}
-use Rattle.code.specs.Definitions.Lists.{if◌then◌else◌, tabulate, sum}
+use Rattle.code.specs.Definitions.Lists.{tabulate, sum}
 use Rattle.code.specs.Laws.Lists.{tabulate-same, sum-append, sum_past}
 use Rattle.ban_theory.specs.Renumbered.{Order}
 

@@ -1,11 +1,11 @@
 -- A survey of the records, field by field: what it counts and flags, and what it answers.
-use Rattle.std.specs.Prelude.{◌≡◌, refl, Bool, false, not, ◌&&◌, ◌||◌, List, [], ◌∷◌, map, ℕ, suc, ◌+◌, ltb, eqb, length, take, drop, get_or}
+use Rattle.std.specs.Prelude.{◌≡◌, refl, Bool, false, not, ◌&&◌, ◌||◌, List, [], ◌∷◌, map, ℕ, suc, ◌+◌, ltb, eqb, length, take, drop, get_or, if◌then◌else◌}
 use Rattle.std.proofs.Common.{ap₂, ◌∙◌, add-zero, arith, ne_eqb, eq-eqb}
 use Rattle.std.proofs.Math.Bool.{or-false, or_assoc}
 use Rattle.code.specs.declared.SheetAnswer.{SheetAnswer}
 use Rattle.code.specs.declared.SheetAnswer.TheVariants.{Accepted, Refused}
 use Rattle.code.specs.declared.Refusal.TheVariants.{RecordCount, WordLength, CodeLength, FieldCount, RowEntry, StartField}
-use Rattle.code.specs.Definitions.Lists.{if◌then◌else◌, any, sum}
+use Rattle.code.specs.Definitions.Lists.{any, sum}
 use Rattle.code.specs.Definitions.Sheets.{limits, bad_entry, bad_row, bad_word, word_length}
 use Rattle.sheet_survey.specs.declared.Survey.{Survey}
 

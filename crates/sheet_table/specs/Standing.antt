@@ -1,10 +1,10 @@
 -- Where the fields of an accepted record stand: its word, its start mark and its row, and where the next record begins.
-use Rattle.std.specs.Prelude.{◌≡◌, refl, Bool, true, false, ℕ, suc, ◌+◌, ◌*◌, ◌-◌, ◌≤◌, ◌<◌, eqb, ltb, length, drop, get_or}
+use Rattle.std.specs.Prelude.{◌≡◌, refl, Bool, true, false, ℕ, suc, ◌+◌, ◌*◌, ◌-◌, ◌≤◌, ◌<◌, eqb, ltb, length, drop, get_or, if◌then◌else◌}
 use Rattle.std.proofs.Common.{sym, ap, ◌∙◌, add-one, arith, length-drop, drop-cons, drop-drop, get_or-drop, ltb-false, lt-ltb}
 use mathlib.Core.List.{List, [], ◌∷◌, head-eq_of_cons-eq, tail-eq_of_cons-eq}
 use Rattle.std.proofs.Math.Decide.{dec_lt, ℕ_discrete}
 use Rattle.code.specs.declared.Row.{Row}
-use Rattle.code.specs.Definitions.Lists.{if◌then◌else◌, any, tabulate}
+use Rattle.code.specs.Definitions.Lists.{any, tabulate}
 use Rattle.code.specs.Definitions.Sheets.{limits, is_digit, value_of, first_field, start_field, word_length, has_starts, row_place, row_of, begins_of, bad_entry, bad_row, bad_word}
 use Rattle.code.specs.Laws.Lists.{any_at, or-neither, tabulate-same, get_or-within}
 use Rattle.code.specs.Laws.Clean.{Clean, record_fields, record_fields-some}

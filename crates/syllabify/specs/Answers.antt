@@ -1,5 +1,5 @@
 -- What the program answers for a text, whole: the refusal of the code sheet, that of the class sheet, that of the text, or the text split into syllables.
-use Rattle.std.specs.Prelude.{◌≡◌, Bool, true, List, [], ℕ, ◌+◌, ◌*◌, ◌≤◌, ◌<◌, length, take}
+use Rattle.std.specs.Prelude.{◌≡◌, Bool, true, List, [], ℕ, ◌+◌, ◌*◌, ◌≤◌, ◌<◌, length, take, if◌then◌else◌}
 use Rattle.code.specs.declared.ByteCount.{ByteCount}
 use Rattle.code.specs.declared.Refusal.{Refusal}
 use Rattle.code.specs.declared.Refusal.TheVariants.{SheetLength, MessageLength}
@@ -9,7 +9,6 @@ use Rattle.code.specs.declared.Splitting.TheVariants.{Split, Refused as Not-spli
 use Rattle.code.specs.declared.Taken.{Taken}
 use Rattle.code.specs.declared.TakenClasses.{TakenClasses}
 use Rattle.code.specs.Definitions.ClassSheets.{taken_classes}
-use Rattle.code.specs.Definitions.Lists.{if◌then◌else◌}
 use Rattle.code.specs.Definitions.Sheets.{limits, taken}
 use Rattle.code.specs.Definitions.Tables.{table_of}
 use Rattle.code.specs.Definitions.Texts.{Splits}

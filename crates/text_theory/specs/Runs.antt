@@ -1,11 +1,11 @@
 -- The letters that a text begins with: they and what comes behind them are the text, and what comes behind them begins with no letter.
-use Rattle.std.specs.Prelude.{◌≡◌, Bool, ℕ, ◌≤◌, length}
+use Rattle.std.specs.Prelude.{◌≡◌, Bool, ℕ, ◌≤◌, length, if◌then◌else◌}
 use Rattle.std.proofs.Math.Path.{refl, ap}
 use Rattle.std.proofs.Common.{sym, ◌∙◌, arith, length-append}
 use Rattle.std.proofs.Math.Bool.{true, false}
 use Rattle.std.proofs.lemmas.Bool.{false≢true}
 use mathlib.Core.List.{List, [], ◌∷◌, ◌++◌}
-use Rattle.code.specs.Definitions.Lists.{if◌then◌else◌, every}
+use Rattle.code.specs.Definitions.Lists.{every}
 use Rattle.code.specs.Definitions.Texts.{is_letter, run, rest}
 
 module _ (classes : List ℕ) where

@@ -1,8 +1,8 @@
 -- What splitting adds to a text: B7 and brackets put in, and nothing else. Those that were put in taken away, the text is left; a text may hold such bytes itself,
 -- and keeps them. So every letter stands in the output once, in order.
-use Rattle.std.specs.Prelude.{◌≡◌, Bool, true, false, List, [], ◌∷◌, ℕ, eqb}
+use Rattle.std.specs.Prelude.{◌≡◌, Bool, true, false, List, [], ◌∷◌, ℕ, eqb, if◌then◌else◌}
 use Rattle.std.proofs.Math.Path.{refl}
-use Rattle.code.specs.Definitions.Lists.{if◌then◌else◌, any}
+use Rattle.code.specs.Definitions.Lists.{any}
 use Rattle.code.specs.Definitions.Texts.{signs}
 
 -- B7 and the four brackets

@@ -1,10 +1,10 @@
 -- The twelve syllable types of Turkish, the two rules that say which never follows which, and the code that types and rules make.
-use Rattle.std.specs.Prelude.{Bool, ◌&&◌, ◌||◌, List, [], ◌∷◌, map, ℕ, ◌-◌, eqb, ltb, length, get_or, replicate}
+use Rattle.std.specs.Prelude.{Bool, ◌&&◌, ◌||◌, List, [], ◌∷◌, map, ℕ, ◌-◌, eqb, ltb, length, get_or, replicate, if◌then◌else◌}
 use Rattle.code.specs.declared.Word.{Word}
 use Rattle.code.specs.declared.Row.{Row}
 use Rattle.code.specs.declared.Code.{Code}
 use Rattle.code.specs.declared.Limits.{Limits}
-use Rattle.code.specs.Definitions.Lists.{if◌then◌else◌, tabulate}
+use Rattle.code.specs.Definitions.Lists.{tabulate}
 use Rattle.turkish.specs.declared.TypeRow.{TypeRow}
 
 -- Source 000, table 1: "0 denotes vowel, 1 denotes consonant"

@@ -1,11 +1,10 @@
 -- What the matrix of a code of types says, entry by entry: 0 exactly where one of the rules forbids.
-use Rattle.std.specs.Prelude.{◌≡◌, refl, Bool, true, false, not, ◌↔◌, ℕ, ◌≤◌, ◌<◌, eqb, length}
+use Rattle.std.specs.Prelude.{◌≡◌, refl, Bool, true, false, not, ◌↔◌, ℕ, ◌≤◌, ◌<◌, eqb, length, if◌then◌else◌}
 use Rattle.std.proofs.Common.{sym, ◌∙◌, true≢false, arith}
 use Rattle.std.proofs.Math.Path.{ap}
 use mathlib.Core.List.{List, [], map}
 use Rattle.std.proofs.Math.ListN.{get_or, length-map}
 use Rattle.code.specs.declared.Row.{Row}
-use Rattle.code.specs.Definitions.Lists.{if◌then◌else◌}
 use Rattle.code.specs.Definitions.Sheets.{limits}
 use Rattle.code.specs.Definitions.Tables.{no_row, entry_of, table_of}
 use Rattle.code.specs.Laws.Lists.{get_d_tabulate, map_at}

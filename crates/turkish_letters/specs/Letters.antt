@@ -1,6 +1,6 @@
 -- The letters of Turkish text in ISO 8859-9, and the class of each byte by them.
-use Rattle.std.specs.Prelude.{Bool, List, [], ◌∷◌, ◌++◌, map, ℕ, ◌-◌, eqb}
-use Rattle.code.specs.Definitions.Lists.{if◌then◌else◌, any, tabulate}
+use Rattle.std.specs.Prelude.{Bool, List, [], ◌∷◌, ◌++◌, map, ℕ, ◌-◌, eqb, if◌then◌else◌}
+use Rattle.code.specs.Definitions.Lists.{any, tabulate}
 use Rattle.code.specs.Definitions.Texts.{other}
 
 -- 02, request 4: "The vowels are a, e, ı, i, o, ö, u, ü"

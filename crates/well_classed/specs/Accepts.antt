@@ -1,5 +1,5 @@
 -- A class sheet gives classes exactly where none of the refusals 1 and 18 to 20 holds of it and its ranges give the classes.
-use Rattle.std.specs.Prelude.{◌≡◌, Bool, true, false, List, ℕ}
+use Rattle.std.specs.Prelude.{◌≡◌, Bool, true, false, List, ℕ, if◌then◌else◌}
 use Rattle.std.proofs.Math.Path.{refl, ap}
 use Rattle.std.proofs.Common.{sym, ◌∙◌, arith}
 use Rattle.code.specs.declared.Classes.{Classes}
@@ -8,7 +8,6 @@ use Rattle.code.specs.declared.Refusal.{Refusal}
 use Rattle.code.specs.declared.Refusal.TheVariants.{SheetLength, ClassRecord, ClassRange, ClassOverlap}
 use Rattle.code.specs.declared.SheetAnswer.TheVariants.{Accepted, Refused}
 use Rattle.code.specs.declared.TakenClasses.{TakenClasses}
-use Rattle.code.specs.Definitions.Lists.{if◌then◌else◌}
 use Rattle.code.specs.Definitions.Sheets.{wrong_length}
 use Rattle.code.specs.Definitions.ClassSheets.{ranges_of, refused18, refused19, refused20, classes_of, no_classes, taken_classes}
 

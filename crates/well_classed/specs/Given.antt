@@ -1,10 +1,10 @@
 -- The classes that an accepted class sheet gives are well-classed. By refusal 18 the symbols of its records are symbols, and none of its records takes in a sign;
 -- by refusal 19 its first record takes in a byte, the lowest, which then is a letter.
-use Rattle.std.specs.Prelude.{◌≡◌, refl, Bool, true, false, ◌||◌, List, [], ◌∷◌, map, ℕ, ◌≤◌, ◌<◌, length, drop, get_or}
+use Rattle.std.specs.Prelude.{◌≡◌, refl, Bool, true, false, ◌||◌, List, [], ◌∷◌, map, ℕ, ◌≤◌, ◌<◌, length, drop, get_or, if◌then◌else◌}
 use Rattle.std.proofs.Common.{ap, arith, ltb-false, lt-ltb, le-leb}
 use Rattle.code.specs.declared.Classes.{Classes}
 use Rattle.code.specs.declared.Limits.{Limits}
-use Rattle.code.specs.Definitions.Lists.{if◌then◌else◌, any, tabulate}
+use Rattle.code.specs.Definitions.Lists.{any, tabulate}
 use Rattle.code.specs.Definitions.Sheets.{body, grid, bad_bytes}
 use Rattle.code.specs.Definitions.ClassSheets.{Range, range_of, ranges_of, takes_in, malformed, takes_sign, refused18, upside_down, refused19, different_bytes, class_by, classes_of, FromClassSheet}
 use Rattle.code.specs.Definitions.Texts.{other, is_letter, signs}

@@ -1,5 +1,5 @@
 -- Every well-enlarged value comes from a table and bans: from the table read off it, and the bans of the words that may not come behind each copy.
-use Rattle.std.specs.Prelude.{◌≡◌, Bool, true, false, not, ◌&&◌, List, map, ℕ, zero, suc, ◌+◌, ◌-◌, ◌*◌, ◌≤◌, ◌<◌, ltb, eqb, length, take, get_or}
+use Rattle.std.specs.Prelude.{◌≡◌, Bool, true, false, not, ◌&&◌, List, map, ℕ, zero, suc, ◌+◌, ◌-◌, ◌*◌, ◌≤◌, ◌<◌, ltb, eqb, length, take, get_or, if◌then◌else◌}
 use Rattle.std.proofs.Math.Path.{refl, sym}
 use Rattle.std.proofs.Common.{ap, ◌∙◌, length-take-le, lt-ltb, le-ltb}
 use Rattle.std.proofs.Math.Bool.{and-false, and-eq-true_iff}
@@ -10,7 +10,7 @@ use Rattle.code.specs.declared.Word.{Word}
 use Rattle.code.specs.declared.Code.{Code}
 use Rattle.code.specs.declared.Enlarged.{Enlarged}
 use Rattle.code.specs.declared.Limits.{Limits}
-use Rattle.code.specs.Definitions.Lists.{if◌then◌else◌, tabulate, sum}
+use Rattle.code.specs.Definitions.Lists.{tabulate, sum}
 use Rattle.code.specs.Definitions.Tables.{Table, size, no_word, no_row, entry_of, table_of}
 use Rattle.code.specs.Definitions.Bans.{Ban, Copy, banned_by, has_copy, copy_index, copies_of, copy_at, origin, number_after, unbanned, may_come, enlarged, bans_in}
 use Rattle.code.specs.Definitions.Enlarged.{enlarged_count, enlarged_word, enlarged_entry, behind_of, enlarged_code, refused17, copies_in, original_table}

@@ -1,5 +1,5 @@
 -- What a table and its bans give is well-enlarged: the copies are those of the bans, and each comes from one.
-use Rattle.std.specs.Prelude.{◌≡◌, refl, Bool, true, false, not, ◌&&◌, List, [], map, ℕ, ◌+◌, ◌-◌, ◌≤◌, ◌<◌, ltb, eqb, length, get_or}
+use Rattle.std.specs.Prelude.{◌≡◌, refl, Bool, true, false, not, ◌&&◌, List, [], map, ℕ, ◌+◌, ◌-◌, ◌≤◌, ◌<◌, ltb, eqb, length, get_or, if◌then◌else◌}
 use Rattle.std.proofs.Math.Path.{sym, ap₂}
 use Rattle.std.proofs.Common.{ap, ◌∙◌, subst, ltb-false, lt-ltb, le-ltb}
 use Rattle.std.proofs.lemmas.Bool.{false≢true, not-true}
@@ -12,7 +12,7 @@ use Rattle.code.specs.declared.Row.{Row}
 use Rattle.code.specs.declared.Code.{Code}
 use Rattle.code.specs.declared.Enlarged.{Enlarged}
 use Rattle.code.specs.declared.Limits.{Limits}
-use Rattle.code.specs.Definitions.Lists.{if◌then◌else◌, tabulate, sum}
+use Rattle.code.specs.Definitions.Lists.{tabulate, sum}
 use Rattle.code.specs.Definitions.Tables.{no_word, no_row, entry_of, table_of}
 use Rattle.code.specs.Definitions.Bans.{Ban, Copy, no_copy, banned_by, copies_of, copy_at, origin, number_after, may_come, enlarged}
 use Rattle.code.specs.Definitions.Enlarged.{enlarged_count, enlarged_word, enlarged_entry, behind_of, enlarged_code, refused17, copies_in}

@@ -1,13 +1,13 @@
 -- An array is held to an array of greatest values, with one number in all cells in use and zero in the others: how such an array is filled, and that no cell is
 -- above the same cell there exactly where the array fits.
-use Rattle.std.specs.Prelude.{◌≡◌, refl, List, ◌++◌, ◌↔◌, ℕ, ◌+◌, ◌-◌, ◌≤◌, ◌<◌, min, max, ltb, length, drop, get_or, set, replicate}
+use Rattle.std.specs.Prelude.{◌≡◌, refl, List, ◌++◌, ◌↔◌, ℕ, ◌+◌, ◌-◌, ◌≤◌, ◌<◌, min, max, ltb, length, drop, get_or, set, replicate, if◌then◌else◌}
 use Rattle.std.proofs.Common.{◌∙◌, arith, length-set, below_none, below_more, lt-ltb, le-ltb}
 use Rattle.std.proofs.Math.Nat.{zero-min}
 use Rattle.std.proofs.Math.Decide.{dec_lt}
 use Rattle.std.proofs.lemmas.List.{length-replicate, get_or-replicate}
 use Rattle.std.proofs.Math.ListN.{get_or-eq_default}
 use Rattle.code.specs.declared.Limits.{Limits}
-use Rattle.code.specs.Definitions.Lists.{if◌then◌else◌, tabulate}
+use Rattle.code.specs.Definitions.Lists.{tabulate}
 use Rattle.code.specs.Laws.Lists.{get_d_tabulate}
 use Rattle.code.specs.Laws.Filling.{fill-next, fill-rest}
 use Rattle.code.specs.Laws.WellFormed.{CellsFit}

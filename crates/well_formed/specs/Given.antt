@@ -1,5 +1,5 @@
 -- Every table that an accepted sheet gives is well-formed: refusals 3 to 7 and 15 bound what the fields hold, and past the fields a read gives nothing, which counts as zero.
-use Rattle.std.specs.Prelude.{◌≡◌, refl, Bool, true, false, ℕ, ◌+◌, ◌-◌, ◌≤◌, ◌<◌, ltb, eqb, drop, get_or}
+use Rattle.std.specs.Prelude.{◌≡◌, refl, Bool, true, false, ℕ, ◌+◌, ◌-◌, ◌≤◌, ◌<◌, ltb, eqb, drop, get_or, if◌then◌else◌}
 use Rattle.std.proofs.Math.Path.{ap}
 use Rattle.std.proofs.Common.{◌∙◌, arith, length-drop, get_or-drop}
 use mathlib.Core.List.{List, [], map}
@@ -9,7 +9,7 @@ use borrow.Author.Tests.{lt-ltb, ltb-false, eqb-false}
 use Rattle.code.specs.declared.Word.{Word}
 use Rattle.code.specs.declared.Code.{Code}
 use Rattle.code.specs.declared.Limits.{Limits}
-use Rattle.code.specs.Definitions.Lists.{if◌then◌else◌, tabulate, sum}
+use Rattle.code.specs.Definitions.Lists.{tabulate, sum}
 use Rattle.code.specs.Definitions.Tables.{no_word, no_row}
 use Rattle.code.specs.Definitions.Sheets.{is_digit, value_of, body, grid, first_field, word_length, has_starts, row_place, bad_entry, bad_row, start_field, bad_word, word_of, row_of, begins_of, code_of, refused4, FromSheet}
 use Rattle.code.specs.Laws.Lists.{length-tabulate, get_d_tabulate, tabulate-same, tabulate-map, any_at, sum_past, or-neither}

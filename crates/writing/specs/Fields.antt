@@ -1,9 +1,9 @@
 -- Fields written one by one: each but the first follows what parts them.
-use Rattle.std.specs.Prelude.{◌≡◌, ℕ, suc, ◌+◌, ◌≤◌, ◌<◌, eqb, length, take, drop, get_or}
+use Rattle.std.specs.Prelude.{◌≡◌, ℕ, suc, ◌+◌, ◌≤◌, ◌<◌, eqb, length, take, drop, get_or, if◌then◌else◌}
 use Rattle.std.proofs.Math.Path.{refl}
 use Rattle.std.proofs.Common.{ap, ◌∙◌, arith, add-one, length-append, take-append-drop, length-take-le, take-suc, take_all, ne_eqb}
 use mathlib.Core.List.{List, [], ◌∷◌, ◌++◌, append_assoc, append-nil}
-use Rattle.code.specs.Definitions.Lists.{if◌then◌else◌, join}
+use Rattle.code.specs.Definitions.Lists.{join}
 use Rattle.writing.specs.Puts.{Puts, puts_then, puts_none, puts-length}
 
 -- field i of a record, with what parts it from the field before

@@ -1,4 +1,5 @@
 -- The ways through what gives a table or classes.
+use Rattle.std.specs.Prelude.{if◌then◌else◌}
 use mathlib.Core.Path.{◌≡◌, sym, ◌∙◌}
 use mathlib.Core.Bool.{Bool, true, false}
 use mathlib.Core.List.{List, [], append-nil}
@@ -12,7 +13,6 @@ use Rattle.code.specs.declared.Refusal.{Refusal}
 use Rattle.code.specs.declared.SheetAnswer.{SheetAnswer}
 use Rattle.code.specs.declared.SheetAnswer.TheVariants.{Accepted, Refused}
 use Rattle.code.specs.Definitions.Answers.{refusal_number}
-use Rattle.code.specs.Definitions.Lists.{if◌then◌else◌}
 use Rattle.code.specs.Definitions.Operations.{written}
 use Rattle.c_results.specs.Given.{Answered}
 

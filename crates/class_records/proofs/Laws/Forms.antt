@@ -1,4 +1,5 @@
 -- A record of a class sheet by its fields: their digits, and the byte behind each, tell whether it is malformed. One lemma for each way that the tests go.
+use Rattle.std.specs.Prelude.{if◌then◌else◌}
 use mathlib.Core.Path.{◌≡◌, refl, sym, ◌∙◌}
 use mathlib.Core.Bool.{Bool, true, false, not, ◌&&◌, true≢false, and-true}
 use mathlib.Core.List.{List, [], ◌∷◌}
@@ -8,7 +9,7 @@ use lib.Dec.{eqb}
 use lib.ListN.{length, drop, get_or}
 use borrow.Author.Tests.{eqb-true, eqb-false, not-true, not-false}
 use Rattle.code.specs.Definitions.ClassSheets.{symbol_of, byte_of, digits, malformed}
-use Rattle.code.specs.Definitions.Lists.{if◌then◌else◌, any, every}
+use Rattle.code.specs.Definitions.Lists.{any, every}
 use Rattle.code.specs.Definitions.Sheets.{is_digit}
 use Rattle.code.specs.Definitions.Texts.{other}
 use Rattle.code.specs.Laws.Clean.{Clean, record_fields}

@@ -1,4 +1,5 @@
 -- One range more: what filling its bytes does to the classes, and to the test for a byte in two records.
+use Rattle.std.specs.Prelude.{if◌then◌else◌}
 use mathlib.Core.Path.{◌≡◌, refl, sym, ap, ◌∙◌}
 use mathlib.Core.Bool.{Bool, true, false, ◌&&◌, ◌||◌, true≢false}
 use mathlib.Core.List.{List, ◌∷◌}
@@ -7,7 +8,7 @@ use native.Mathlib.Omega.{arith}
 use lib.Dec.{ltb}
 use borrow.Author.Tests.{lt-ltb}
 use Rattle.code.specs.Definitions.ClassSheets.{Range, takes_in, different_bytes, all_bytes, takers, class_by}
-use Rattle.code.specs.Definitions.Lists.{if◌then◌else◌, any}
+use Rattle.code.specs.Definitions.Lists.{any}
 use Rattle.code.specs.Definitions.Texts.{other, class_of, is_letter}
 use Rattle.code.specs.Laws.Lists.{any-alike, any-either}
 use Rattle.class_sheet.specs.Filling.{from_to, FilledBy}

@@ -1,4 +1,5 @@
 -- What is known of a class sheet after some of its records: joined with the records to come, it is what the whole sheet says.
+use Rattle.std.specs.Prelude.{if◌then◌else◌}
 use mathlib.Core.Path.{◌≡◌, refl, sym, ap, subst, ◌∙◌}
 use mathlib.Core.Bool.{Bool, true, false, ◌||◌, or_assoc, or-false}
 use mathlib.Core.List.{List, [], ◌∷◌}
@@ -10,7 +11,7 @@ use Rattle.code.specs.declared.Refusal.TheVariants.{ClassRecord, ClassRange, Cla
 use Rattle.code.specs.declared.SheetAnswer.{SheetAnswer}
 use Rattle.code.specs.declared.SheetAnswer.TheVariants.{Refused}
 use Rattle.code.specs.Definitions.ClassSheets.{Range, range_of, malformed, takes_sign, refused19, different_bytes, all_bytes, takers, refused20, class_by, classes_of}
-use Rattle.code.specs.Definitions.Lists.{if◌then◌else◌, any}
+use Rattle.code.specs.Definitions.Lists.{any}
 use Rattle.code.specs.Definitions.Texts.{other, class_of, is_letter, signs}
 use Rattle.code.specs.Laws.Lists.{any-tabulate, any-alike, tabulate-list}
 use Rattle.class_sheet.specs.Filling.{from_to, FilledBy}

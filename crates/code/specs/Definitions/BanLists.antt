@@ -1,6 +1,6 @@
 -- What a ban list means: its records, refusal 16, and the bans that it gives. The bytes are parted into records and fields as those of a sheet are.
-use Rattle.std.specs.Prelude.{Bool, false, not, ◌&&◌, ◌||◌, List, [], ◌∷◌, map, ℕ, ◌+◌, ◌-◌, ◌*◌, ltb, leb, eqb, length, get_or}
-use Rattle.code.specs.Definitions.Lists.{if◌then◌else◌, any, every}
+use Rattle.std.specs.Prelude.{Bool, false, not, ◌&&◌, ◌||◌, List, [], ◌∷◌, map, ℕ, ◌+◌, ◌-◌, ◌*◌, ltb, leb, eqb, length, get_or, if◌then◌else◌}
+use Rattle.code.specs.Definitions.Lists.{any, every}
 use Rattle.code.specs.Definitions.Sheets.{grid, bad_bytes}
 use Rattle.code.specs.Definitions.Bans.{Ban}
 

@@ -1,8 +1,8 @@
 -- Bans that look two words back, and the enlarged code that source 000, at the end of its section 4, makes of a table and its bans by copies of words.
-use Rattle.std.specs.Prelude.{Bool, false, ◌&&◌, List, [], ◌∷◌, ◌++◌, map, ℕ, suc, ◌+◌, ◌-◌, length, get_or}
+use Rattle.std.specs.Prelude.{Bool, false, ◌&&◌, List, [], ◌∷◌, ◌++◌, map, ℕ, suc, ◌+◌, ◌-◌, length, get_or, if◌then◌else◌}
 use Rattle.std.proofs.Math.Bool.{true, not}
 use Rattle.std.proofs.Math.Dec.{ltb, eqb}
-use Rattle.code.specs.Definitions.Lists.{if◌then◌else◌, any}
+use Rattle.code.specs.Definitions.Lists.{any}
 use Rattle.code.specs.Definitions.Tables.{Table, size, word}
 
 -- 02, request 2: "X never follows Y then Z"; in 000, section 4, a second-order constraint

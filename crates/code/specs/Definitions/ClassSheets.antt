@@ -1,13 +1,13 @@
 -- What a class sheet means: its ranges, the refusals 1 and 18 to 20 in order, the classes that it gives; and the classes that a sheet gives. The bytes are parted
 -- into records and fields as those of a code sheet are.
-use Rattle.std.specs.Prelude.{◌≡◌, Bool, false, not, ◌&&◌, ◌||◌, List, [], ◌∷◌, map, ℕ, ◌+◌, ◌*◌, ltb, leb, eqb, length, get_or}
+use Rattle.std.specs.Prelude.{◌≡◌, Bool, false, not, ◌&&◌, ◌||◌, List, [], ◌∷◌, map, ℕ, ◌+◌, ◌*◌, ltb, leb, eqb, length, get_or, if◌then◌else◌}
 use Rattle.code.specs.declared.Classes.{Classes}
 use Rattle.code.specs.declared.Limits.{Limits}
 use Rattle.code.specs.declared.Refusal.{Refusal}
 use Rattle.code.specs.declared.Refusal.TheVariants.{SheetLength, ClassRecord, ClassRange, ClassOverlap}
 use Rattle.code.specs.declared.SheetAnswer.TheVariants.{Accepted, Refused}
 use Rattle.code.specs.declared.TakenClasses.{TakenClasses}
-use Rattle.code.specs.Definitions.Lists.{if◌then◌else◌, any, every, tabulate}
+use Rattle.code.specs.Definitions.Lists.{any, every, tabulate}
 use Rattle.code.specs.Definitions.Sheets.{is_digit, value_of, grid, bad_bytes, wrong_length}
 use Rattle.code.specs.Definitions.Texts.{other, signs}
 

@@ -1,5 +1,5 @@
 -- The value of a code with copies: how a table and its bans give one, and the table with bans that such a value stands for.
-use Rattle.std.specs.Prelude.{Bool, ◌&&◌, ◌||◌, List, [], map, ℕ, ◌+◌, ◌-◌, ltb, length, take, get_or}
+use Rattle.std.specs.Prelude.{Bool, ◌&&◌, ◌||◌, List, [], map, ℕ, ◌+◌, ◌-◌, ltb, length, take, get_or, if◌then◌else◌}
 use Rattle.code.specs.declared.Word.{Word}
 use Rattle.code.specs.declared.Code.{Code}
 use Rattle.code.specs.declared.Enlarged.{Enlarged}
@@ -7,7 +7,7 @@ use Rattle.code.specs.declared.Enlargement.{Enlargement}
 use Rattle.code.specs.declared.Limits.{Limits}
 use Rattle.code.specs.declared.Refusal.TheVariants.{BanLimit}
 use Rattle.code.specs.declared.SheetAnswer.TheVariants.{Accepted, Refused}
-use Rattle.code.specs.Definitions.Lists.{if◌then◌else◌, tabulate, sum}
+use Rattle.code.specs.Definitions.Lists.{tabulate, sum}
 use Rattle.code.specs.Definitions.Tables.{Table, no_word, table_of}
 use Rattle.code.specs.Definitions.Sheets.{blank_code}
 use Rattle.code.specs.Definitions.Bans.{Ban, Copy, banned_by, copies_of, copy_at, origin, may_come, enlarged, table_in}

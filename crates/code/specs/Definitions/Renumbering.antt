@@ -1,9 +1,9 @@
 -- The value of a table whose words are put in another order.
-use Rattle.std.specs.Prelude.{List, ℕ, ltb, get_or}
+use Rattle.std.specs.Prelude.{List, ℕ, ltb, get_or, if◌then◌else◌}
 use Rattle.code.specs.declared.Row.{Row}
 use Rattle.code.specs.declared.Code.{Code}
 use Rattle.code.specs.declared.Limits.{Limits}
-use Rattle.code.specs.Definitions.Lists.{if◌then◌else◌, tabulate}
+use Rattle.code.specs.Definitions.Lists.{tabulate}
 use Rattle.code.specs.Definitions.Tables.{no_word, no_row}
 
 -- 02, request 14: "with n words only its first n entries count": past the words each number stays.

@@ -1,6 +1,6 @@
 -- What splitting a text into syllables means: its words are the longest runs of letters, and each is shown by its readings.
-use Rattle.std.specs.Prelude.{◌≡◌, Bool, true, false, List, [], ◌∷◌, ◌++◌, map, ℕ, ltb, length, take, drop, get_or}
-use Rattle.code.specs.Definitions.Lists.{if◌then◌else◌, join}
+use Rattle.std.specs.Prelude.{◌≡◌, Bool, true, false, List, [], ◌∷◌, ◌++◌, map, ℕ, ltb, length, take, drop, get_or, if◌then◌else◌}
+use Rattle.code.specs.Definitions.Lists.{join}
 use Rattle.code.specs.Definitions.Tables.{Table, word}
 use Rattle.code.specs.Definitions.Readings.{NoReading, OnlyReading, TwoReadings}
 

@@ -1,12 +1,11 @@
 -- Records and fields are accepted exactly where none of the refusals 3 to 7 and 15 holds of them.
-use Rattle.std.specs.Prelude.{◌≡◌, refl, Bool, true, false, List, ℕ}
+use Rattle.std.specs.Prelude.{◌≡◌, refl, Bool, true, false, List, ℕ, if◌then◌else◌}
 use Rattle.std.proofs.Common.{arith}
 use Rattle.code.specs.declared.Limits.{Limits}
 use Rattle.code.specs.declared.Refusal.{Refusal}
 use Rattle.code.specs.declared.Refusal.TheVariants.{RecordCount, WordLength, CodeLength, FieldCount, RowEntry, StartField}
 use Rattle.code.specs.declared.SheetAnswer.TheVariants.{Accepted, Refused}
 use Rattle.code.specs.declared.Taken.{Taken}
-use Rattle.code.specs.Definitions.Lists.{if◌then◌else◌}
 use Rattle.code.specs.Definitions.Sheets.{code_of, refused3, refused4, refused5, refused6, refused7, refused15, refused_by, taken_grid}
 
 module _ (l : Limits) where

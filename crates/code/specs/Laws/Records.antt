@@ -1,11 +1,11 @@
 -- What the refusals 6, 7 and 15 leave of the records of a sheet: all have the same number of fields, and every field behind the word is a digit 0 or 1.
-use Rattle.std.specs.Prelude.{◌≡◌, refl, Bool, true, false, not, ◌&&◌, ◌||◌, List, [], ◌∷◌, ℕ, ◌+◌, ◌≤◌, ◌<◌, ltb, eqb, length, get_or}
+use Rattle.std.specs.Prelude.{◌≡◌, refl, Bool, true, false, not, ◌&&◌, ◌||◌, List, [], ◌∷◌, ℕ, ◌+◌, ◌≤◌, ◌<◌, ltb, eqb, length, get_or, if◌then◌else◌}
 use Rattle.std.proofs.Common.{true≢false, arith, le-ltb, eqb-true}
 use Rattle.std.proofs.Math.Bool.{and-false, or-false}
 use Rattle.std.proofs.Math.ListN.{get_or-eq_default}
 use Rattle.std.proofs.lemmas.Bool.{not-false}
 use Rattle.code.specs.declared.Limits.{Limits}
-use Rattle.code.specs.Definitions.Lists.{any, if◌then◌else◌}
+use Rattle.code.specs.Definitions.Lists.{any}
 use Rattle.code.specs.Definitions.Sheets.{value_of, all_wide, has_starts, row_place, bad_entry, bad_row, start_field, begins_of}
 use Rattle.code.specs.Laws.Lists.{any_at, any_none, every-at}
 use Rattle.code.specs.Laws.Fits.{Fits}

@@ -1,5 +1,6 @@
 -- The slots of a member that turns, word by word: those of a word that cannot come by the symbol are passed over, the others lead to the pairs of that word
 -- and each word in order behind it.
+use Rattle.std.specs.Prelude.{if◌then◌else◌}
 use mathlib.Core.Path.{◌≡◌, refl, sym, ap, ◌∙◌}
 use mathlib.Core.Bool.{Bool, true, false, not, true≢false, and-eq-true_iff}
 use mathlib.Core.List.{List}
@@ -9,7 +10,6 @@ use native.Mathlib.Omega.{arith}
 use lib.Dec.{eqb}
 use lib.ListN.{length}
 use borrow.Author.Tests.{eq-eqb, not-true, not-false}
-use Rattle.code.specs.Definitions.Lists.{if◌then◌else◌}
 use Rattle.code.specs.Definitions.Sheets.{limits}
 use Rattle.pair_places.specs.Flat.{symbol_at, first_at, may_come, opens_at, word_count, cell_count, higher}
 use Rattle.pair_places.specs.Nodes.{node_of}

@@ -1,4 +1,5 @@
 -- What the survey of all records says: its counts and flags are those of the refusals 3 to 7 and 15, so its answer is the definition's.
+use Rattle.std.specs.Prelude.{if◌then◌else◌}
 use mathlib.Core.Path.{◌≡◌, refl, sym, ap, ◌∙◌}
 use mathlib.Core.Bool.{Bool, true, false, not, ◌&&◌, ◌||◌, or-false, or-true, and-true, and-false, and-eq-true_iff}
 use mathlib.Core.List.{List, [], ◌∷◌, map}
@@ -11,7 +12,7 @@ use Rattle.code.specs.declared.SheetAnswer.{SheetAnswer}
 use Rattle.code.specs.declared.SheetAnswer.TheVariants.{Accepted, Refused}
 use Rattle.code.specs.declared.Refusal.TheVariants.{RecordCount, WordLength, CodeLength, FieldCount, RowEntry, StartField}
 use Rattle.code.specs.declared.Taken.{Taken}
-use Rattle.code.specs.Definitions.Lists.{if◌then◌else◌, any, every, sum}
+use Rattle.code.specs.Definitions.Lists.{any, every, sum}
 use Rattle.code.specs.Definitions.Sheets.{limits, all_wide, has_starts, bad_entry, bad_row, start_field, bad_word, word_length, refused6, refused7, refused15, refused_by, code_of, taken_grid}
 use Rattle.sheet_survey.specs.declared.Survey.{Survey}
 use Rattle.sheet_survey.specs.Survey.{start, survey_records, marked, width_bad, row_bad, start_bad, answer_by, answer_of, bad_second, other_width, Rows, no_row, row, first}

@@ -1,4 +1,5 @@
 -- The printed table, line by line: there is room for each line, and what stands there in the end is the whole.
+use Rattle.std.specs.Prelude.{if◌then◌else◌}
 use mathlib.Core.Path.{◌≡◌, refl, ◌∙◌}
 use mathlib.Core.Bool.{Bool, true, false}
 use mathlib.Core.List.{List, [], ◌++◌}
@@ -6,7 +7,7 @@ use Prim.Native.Nat.{ℕ, ◌+◌, ◌≤◌, ◌<◌}
 use native.Mathlib.Omega.{arith}
 use lib.Dec.{eqb}
 use lib.ListN.{length, get_or, length-append}
-use Rattle.code.specs.Definitions.Lists.{if◌then◌else◌, tabulate, join}
+use Rattle.code.specs.Definitions.Lists.{tabulate, join}
 use Rattle.code.specs.Laws.Lists.{length-tabulate, get_d_tabulate}
 use Rattle.printing.specs.Printed.{places}
 use Rattle.writing.specs.Puts.{Puts, Starts, starts}

@@ -1,0 +1,6 @@
+-- A refused list gives the blank table.
+use borrow.Author.Rules.{rules}
+use Rattle.ban_enlarge.proofs.refuse.Goals as goal
+
+pub returns : goal.returns
+returns c = rw c.blank_enlarged-blank.ensures
