@@ -1,5 +1,5 @@
 // Taking in a code sheet: for every byte string the lowest refusal that holds, or the table that the sheet gives. Three passes over the bytes:
-// which bytes they are (`csv`), what the records amount to (`sheet_survey`), and, for an accepted sheet, the table (`sheet_table`).
+// which bytes they are (`csv_records`), what the records amount to (`sheet_survey`), and, for an accepted sheet, the table (`sheet_table`).
 
 #![tactic(auto)]
 

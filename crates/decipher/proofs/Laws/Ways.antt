@@ -1,11 +1,10 @@
 -- The ways through the verdict: refused with 8, then with 13, else what was decided.
 use mathlib.Core.Path.{◌≡◌, refl}
-use mathlib.Core.Bool.{Bool, true, false, not}
+use mathlib.Core.Bool.{Bool, true, false}
 use mathlib.Core.List.{List}
 use mathlib.Core.Logic.{inl, inr}
 use Prim.Native.Nat.{ℕ}
 use lib.ListN.{length}
-use borrow.Author.Tests.{not-true, not-false}
 use Rattle.code.specs.declared.Enlarged.{Enlarged}
 use Rattle.code.specs.declared.Judgement.TheVariants.{Judged, Refused}
 use Rattle.code.specs.declared.Refusal.TheVariants.{NotFromSheet, ShortBuffer}
@@ -19,15 +18,15 @@ use Rattle.decipher.specs.Decided.{Decided}
 
 module _ {e : Enlarged} {t : Bool} {m f g w : List ℕ} (lists : Exactly t (FromLists limits e)) where
   -- No sheet and list give the value: 8.
-  pub way-8 : not t ≡ true → Judges limits e m f g w m f g w (Refused NotFromSheet)
-  way-8 h = refused (inl (lists.no (not-true t h), refl)) refl refl refl refl
+  pub way-8 : t ≡ false → Judges limits e m f g w m f g w (Refused NotFromSheet)
+  way-8 h = refused (inl (lists.no h, refl)) refl refl refl refl
 
-  module _ (given : not t ≡ false) {k : Bool} (short : Exactly k (Short (length m) (length f) (length g) (length w))) where
+  module _ (given : t ≡ true) {k : Bool} (short : Exactly k (Short (length m) (length f) (length g) (length w))) where
     -- Some do, and a buffer is too short: 13.
     pub way-13 : k ≡ true → Judges limits e m f g w m f g w (Refused ShortBuffer)
-    way-13 h = refused (inr (λ n. n (lists.yes (not-false t given)), inl (short.yes h, refl))) refl refl refl refl
+    way-13 h = refused (inr (λ n. n (lists.yes given), inl (short.yes h, refl))) refl refl refl refl
 
     -- All are long enough, and the verdict is decided.
     pub way-judged : {m' f' g' w' : List ℕ} {v : Verdict} → k ≡ false → Decided (original_table e) m f g w m' f' g' w' v → Judges limits e m f g w m' f' g' w' (Judged v)
     way-judged h d =
-        judged d.x d.s d.u (λ n. n (lists.yes (not-false t given)), (short.no h, tt)) d.means d.shown d.work
+        judged d.x d.s d.u (λ n. n (lists.yes given), (short.no h, tt)) d.means d.shown d.work

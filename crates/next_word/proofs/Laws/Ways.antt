@@ -1,14 +1,13 @@
 -- The ways through the operation: the refusals in their order, and the word that is named. What the plain code tells is told of the table of original words: a copy
 -- never begins, so each word that begins is its own original.
 use mathlib.Core.Path.{◌≡◌, refl, sym, ap, subst}
-use mathlib.Core.Bool.{Bool, true, false, not}
+use mathlib.Core.Bool.{Bool, true, false}
 use mathlib.Core.List.{List, [], ◌∷◌}
 use mathlib.Core.Logic.{inl, inr}
 use Prim.Native.Nat.{ℕ, ◌≤◌, ◌<◌}
 use native.Mathlib.Omega.{arith}
 use lib.ListN.{length, take, replicate}
 use lib.Seq.{take_all}
-use borrow.Author.Tests.{not-true, not-false}
 use Rattle.code.specs.declared.Enlarged.{Enlarged}
 use Rattle.code.specs.declared.Naming.{Naming}
 use Rattle.code.specs.declared.Naming.TheVariants.{Named, Refused}
@@ -116,8 +115,8 @@ high-all {n} m h x = rw (take_all n m h) x
 
 -- The refusals that change nothing, and what was told with the working buffer zero.
 module _ {e : Enlarged} (m w : List ℕ) where
-  pub way-8 : {t : Bool} → Exactly t (FromLists limits e) → not t ≡ true → NamesNext limits e m w w (Refused NotFromSheet)
-  way-8 {t} lists h = refused (inl (lists.no (not-true t h), refl)) refl
+  pub way-8 : {t : Bool} → Exactly t (FromLists limits e) → t ≡ false → NamesNext limits e m w w (Refused NotFromSheet)
+  way-8 lists h = refused (inl (lists.no h, refl)) refl
 
   module _ (from : FromLists limits e) where
     pub way-11 : limits.message < length m → NamesNext limits e m w w (Refused MessageLength)
@@ -131,5 +130,5 @@ module _ {e : Enlarged} (m w : List ℕ) where
       way-told h (not-told l) q z = unnamed (λ n. n from, (λ n. omega arith, (λ n. omega arith, tt))) l (rw q at z)
       way-told h (told n f) q z = named (λ n. n from, (λ n. omega arith, (λ n. omega arith, tt))) n f (rw q at z)
 
-pub from-tested : {e : Enlarged} {t : Bool} → Exactly t (FromLists limits e) → not t ≡ false → FromLists limits e
-from-tested {t = t} x h = x.yes (not-false t h)
+pub from-tested : {e : Enlarged} {t : Bool} → Exactly t (FromLists limits e) → t ≡ true → FromLists limits e
+from-tested x h = x.yes h

@@ -30,29 +30,29 @@ pub zero_same : (b : List ℕ) {b' : List ℕ} {n : ℕ} → b' ≡ replicate n 
 zero_same b p h = p ∙ rw h
 
 -- The code and the classes are given.
-module _ {e : Enlarged} {classes : Classes} {a k : Bool} (given : Exactly a (FromLists limits e)) (kept : not a ≡ false) (classed : Exactly k (FromClassSheet limits classes))
-    (well : not k ≡ false) where
+module _ {e : Enlarged} {classes : Classes} {a k : Bool} (given : Exactly a (FromLists limits e)) (kept : a ≡ true) (classed : Exactly k (FromClassSheet limits classes))
+    (well : k ≡ true) where
   from : FromLists limits e
-  from = given.yes (not-false a kept)
+  from = given.yes kept
 
   neither : (FromLists limits e → ⊥) ⊎ (FromClassSheet limits classes → ⊥) → ⊥
   neither (inl n) = n from
-  neither (inr n) = n (classed.yes (not-false k well))
+  neither (inr n) = n (classed.yes well)
 
-pub split-rooms : {e : Enlarged} {a : Bool} → Exactly a (FromLists limits e) → not a ≡ false → {s b m f g w : List ℕ} {d : Bool} → length s ≤ limits.text
+pub split-rooms : {e : Enlarged} {a : Bool} → Exactly a (FromLists limits e) → a ≡ true → {s b m f g w : List ℕ} {d : Bool} → length s ≤ limits.text
     → Exactly d (Short (length s) (length b) (length m) (length f) (length g) (length w)) → d ≡ false → WellFormed limits e.code × Rooms s b m f g w
-split-rooms {a = a} given kept short shortage long = ((from-lists (given.yes (not-false a kept))).code, enough-room short (shortage.no long))
+split-rooms {a = a} given kept short shortage long = ((from-lists (given.yes kept)).code, enough-room short (shortage.no long))
 
 module _ {e : Enlarged} {classes : Classes} {s b m f g w : List ℕ} {a : Bool} (given : Exactly a (FromLists limits e)) where
   -- Each refusal, where it is the first that holds.
   pub way-8 : not a ≡ true → SplitsText limits e classes s b m f g w b m f g w (Refused NotFromSheet)
   way-8 h = refused (inl (inl (given.no (not-true a h)), refl)) refl refl refl refl refl
 
-  module _ (kept : not a ≡ false) {k : Bool} (classed : Exactly k (FromClassSheet limits classes)) where
+  module _ (kept : a ≡ true) {k : Bool} (classed : Exactly k (FromClassSheet limits classes)) where
     pub way-8-classes : not k ≡ true → SplitsText limits e classes s b m f g w b m f g w (Refused NotFromSheet)
     way-8-classes h = refused (inl (inr (classed.no (not-true k h)), refl)) refl refl refl refl refl
 
-    module _ (well : not k ≡ false) where
+    module _ (well : k ≡ true) where
       pub way-11 : limits.text < length s → SplitsText limits e classes s b m f g w b m f g w (Refused MessageLength)
       way-11 h = refused (inr (neither given kept classed well, inl (h, refl))) refl refl refl refl refl
 
