@@ -8,7 +8,7 @@ use Rattle.std.proofs.Math.ListN.{length-set}
 use Rattle.std.proofs.Math.Seq.{get_or-set_other}
 use borrow.Author.Tests.{lt-ltb, le-ltb, le-leb, lt-leb}
 use Rattle.code.specs.Definitions.ClassSheets.{different_bytes, all_bytes}
-use Rattle.code.specs.Definitions.Lists.{any, tabulate}
+use Rattle.code.specs.Definitions.Lists.{any}
 use Rattle.code.specs.Definitions.Texts.{other, class_of, is_letter}
 use Rattle.code.specs.Laws.Lists.{any-tabulate, any_found, any-alike}
 

@@ -7,7 +7,6 @@ use Rattle.code.specs.Definitions.Tables.{Table}
 use Rattle.code.specs.Laws.Buffers.{take-written}
 use Rattle.code.specs.Laws.Readings.{first-two-readings}
 use Rattle.read_walks.specs.declared.Found.{Found}
-use Rattle.read_walks.specs.declared.Found.TheVariants as Found
 use Rattle.read_core.specs.Core.{Finds, unreadable, one, two}
 use Rattle.text_syllables.specs.declared.Kind.{Kind}
 use Rattle.text_syllables.specs.declared.Kind.TheVariants.{Split, None, Several}

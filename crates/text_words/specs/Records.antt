@@ -2,8 +2,7 @@
 use Rattle.std.specs.Prelude.{◌≡◌, refl, true, List, [], ◌∷◌, ℕ, suc, ◌+◌, ◌-◌, ◌^◌, ◌≤◌, ◌<◌, length, take, drop, get_or}
 use Rattle.std.proofs.Common.{sym, ap, ap₂, ◌∙◌, arith, length-append, length-drop, length-take, length-take-le, take_all, drop-cons}
 use Rattle.std.proofs.lemmas.List.{length-map}
-use Rattle.code.specs.Definitions.Operations.{written}
-use Rattle.code.specs.Definitions.Tables.{Table, word}
+use Rattle.code.specs.Definitions.Tables.{Table}
 use Rattle.code.specs.Definitions.Texts.{class_of, is_letter, run, symbols_in, lengths_of, Shows}
 use Rattle.code.specs.Definitions.Texts as Texts
 use Rattle.code.specs.Laws.Buffers.{take-written}

@@ -2,7 +2,6 @@
 use mathlib.Core.List.{[], ◌∷◌}
 use native.Mathlib.Omega.{arith}
 use lib.ListN.{length-set}
-use borrow.Author.Rules.{rules}
 use Rattle.copying.specs.Runs.{sets-front}
 use Rattle.c_answers.proofs.put_entries.Goals as goal
 

@@ -1,6 +1,5 @@
 -- The entries are what the definition has for the case that the match found.
 use mathlib.Core.Path.{refl}
-use borrow.Author.Rules.{rules}
 use Rattle.c_answers.proofs.put_reading.Goals as goal
 
 pub returns-in-One : goal.returns-in-One

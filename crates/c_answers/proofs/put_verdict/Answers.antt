@@ -1,5 +1,4 @@
 -- The entries are what the definition has for the case that the match found.
-use borrow.Author.Rules.{rules}
 use Rattle.c_answers.proofs.put_verdict.Goals as goal
 
 pub returns-in-Ambiguous : goal.returns-in-Ambiguous

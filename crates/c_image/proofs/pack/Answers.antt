@@ -1,7 +1,6 @@
 -- Behind the code are stored the number of originals, the origins and the words behind.
 use native.Mathlib.Omega.{arith}
 use Rattle.c_image.specs.Packing.{origins-room, behind-room, packed, packed-whole}
-use borrow.Author.Rules.{rules}
 use Rattle.c_image.proofs.pack.Goals as goal
 
 pub copy_at-requires : goal.copy_at-requires

@@ -1,6 +1,5 @@
 -- The words, the rows, the start marks and the count are stored one behind another.
 use Rattle.c_image.specs.Packing.{packed-code, packed-length}
-use borrow.Author.Rules.{rules}
 use Rattle.c_image.proofs.pack_code.Goals as goal
 
 pub shape_of-table : goal.shape_of-table

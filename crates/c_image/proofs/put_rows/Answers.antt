@@ -1,11 +1,6 @@
-use mathlib.Core.Path.{◌≡◌, refl, sym}
+use mathlib.Core.Path.{refl, sym}
 use mathlib.Core.List.{flat_map}
-use Prim.Native.Nat.{◌-◌, ◌≤◌}
 use native.Mathlib.Omega.{arith}
-use lib.ListN.{length, take}
-use lib.Seq.{sets}
-use borrow.Author.Rules.{rules}
-use Rattle.c_image.specs.Image.{rows_place, rows_bytes}
 use Rattle.c_image.specs.Packing.{rows_next, all-rows}
 use Rattle.c_image.proofs.put_rows.Goals as goal
 

@@ -1,13 +1,9 @@
 -- The loop keeps that the rows passed are stored, and that the length is as it was.
-use mathlib.Core.Path.{◌≡◌, sym}
-use mathlib.Core.List.{flat_map}
+use mathlib.Core.Path.{◌≡◌}
 use Prim.Native.Nat.{◌-◌, ◌≤◌}
-use native.Mathlib.Omega.{arith}
 use lib.ListN.{length, take}
 use lib.Seq.{sets}
-use borrow.Author.Rules.{rules}
 use Rattle.c_image.specs.Image.{rows_place, rows_bytes}
-use Rattle.c_image.specs.Packing.{rows_next, all-rows}
 use Rattle.c_image.proofs.put_rows.Given as goal
 
 abbrev pub invariant-loop-k : goal.invariant-loop-k

@@ -1,11 +1,6 @@
-use mathlib.Core.Path.{◌≡◌, refl}
+use mathlib.Core.Path.{refl}
 use mathlib.Core.List.{flat_map}
-use Prim.Native.Nat.{◌-◌, ◌≤◌}
 use native.Mathlib.Omega.{arith}
-use lib.ListN.{length, take}
-use lib.Seq.{sets}
-use borrow.Author.Rules.{rules}
-use Rattle.c_image.specs.Image.{words_bytes}
 use Rattle.c_image.specs.Packing.{words-next, all_words}
 use Rattle.c_image.proofs.put_words.Goals as goal
 

@@ -1,13 +1,9 @@
 -- The loop keeps that the words passed are stored, and that the length is as it was.
 use mathlib.Core.Path.{◌≡◌}
-use mathlib.Core.List.{flat_map}
 use Prim.Native.Nat.{◌-◌, ◌≤◌}
-use native.Mathlib.Omega.{arith}
 use lib.ListN.{length, take}
 use lib.Seq.{sets}
-use borrow.Author.Rules.{rules}
 use Rattle.c_image.specs.Image.{words_bytes}
-use Rattle.c_image.specs.Packing.{words-next, all_words}
 use Rattle.c_image.proofs.put_words.Given as goal
 
 abbrev pub invariant-loop-k : goal.invariant-loop-k

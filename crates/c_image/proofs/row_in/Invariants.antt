@@ -1,14 +1,10 @@
 -- The loop fills the array from the front.
-use mathlib.Core.Path.{◌≡◌, refl, ◌∙◌}
+use mathlib.Core.Path.{◌≡◌}
 use mathlib.Core.List.{◌++◌}
 use Prim.Native.Nat.{◌-◌, ◌≤◌}
-use native.Mathlib.Omega.{arith}
-use lib.ListN.{length, drop, replicate, length-set}
-use borrow.Author.Rules.{rules}
+use lib.ListN.{length, drop, replicate}
 use Rattle.code.specs.Definitions.Lists.{tabulate as filling}
-use Rattle.code.specs.Laws.Filling.{fill-next}
 use Rattle.c_image.specs.Image.{byte_from}
-use Rattle.c_image.proofs.Laws.Unpacking.{filled}
 use Rattle.c_image.proofs.row_in.Given as goal
 
 abbrev pub invariant-loop-y : goal.invariant-loop-y

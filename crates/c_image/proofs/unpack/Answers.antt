@@ -2,7 +2,6 @@
 use native.Mathlib.Omega.{arith}
 use Rattle.c_image.specs.Image.{code_length}
 use Rattle.c_image.proofs.Laws.Unpacking.{unpacked}
-use borrow.Author.Rules.{rules}
 use Rattle.c_image.proofs.unpack.Goals as goal
 
 pub overflow_cast-result : goal.overflow_cast-result

@@ -1,11 +1,9 @@
 use mathlib.Core.Path.{refl, ap}
-use Prim.Native.Nat.{◌-◌}
 use native.Mathlib.Omega.{arith}
-use borrow.Author.Rules.{rules}
 use Rattle.code.specs.declared.Row.{Row}
 use Rattle.code.specs.Definitions.Lists.{tabulate as filling}
 use Rattle.c_image.specs.Image.{count_place}
-use Rattle.c_image.proofs.Laws.Unpacking.{Unpacked, unpacked-next, unpacked-all}
+use Rattle.c_image.proofs.Laws.Unpacking.{unpacked-next, unpacked-all}
 use Rattle.c_image.proofs.unpack_code.Goals as goal
 
 pub overflow_cast-code : goal.overflow_cast-code

@@ -1,5 +1,4 @@
 -- The digits are counted from the field's end (`digits-counted`).
-use borrow.Author.Rules.{rules}
 use Rattle.class_records.proofs.Laws.Forms.{digits-counted}
 use Rattle.class_records.proofs.has_digits.Goals as goal
 

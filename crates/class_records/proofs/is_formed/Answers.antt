@@ -1,5 +1,4 @@
 -- Each way out is one of those that the fields of a record can go.
-use borrow.Author.Rules.{rules}
 use mathlib.Core.Path.{sym, ◌∙◌}
 use Prim.Native.Nat.{◌+◌}
 use native.Mathlib.Omega.{arith}

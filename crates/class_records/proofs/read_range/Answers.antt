@@ -1,6 +1,4 @@
 -- A record that is formed is read field by field.
-use borrow.Author.Rules.{rules}
-use borrow.Author.Tests.{not-true, not-false}
 use Rattle.class_records.specs.Ensured.{wrong, found}
 use Rattle.class_records.proofs.Laws.Forms.{range-read}
 use Rattle.class_records.proofs.read_range.Goals as goal

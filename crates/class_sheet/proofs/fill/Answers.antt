@@ -1,8 +1,6 @@
 use mathlib.Core.Path.{sym, ◌∙◌}
-use Prim.Native.Nat.{◌+◌, ◌-◌, ◌≤◌}
 use native.Mathlib.Omega.{arith}
-use borrow.Author.Rules.{rules}
-use Rattle.class_sheet.specs.Filling.{between, FilledBy, filling-starts, filling-on, filling-ends}
+use Rattle.class_sheet.specs.Filling.{filling-starts, filling-on, filling-ends}
 use Rattle.class_sheet.proofs.fill.Goals as goal
 
 pub loop-b-init : goal.loop-b-init

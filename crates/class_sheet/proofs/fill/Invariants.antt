@@ -1,9 +1,6 @@
 -- The loop keeps that the bytes of the range passed so far are filled.
-use mathlib.Core.Path.{sym, ◌∙◌}
 use Prim.Native.Nat.{◌+◌, ◌-◌, ◌≤◌}
-use native.Mathlib.Omega.{arith}
-use borrow.Author.Rules.{rules}
-use Rattle.class_sheet.specs.Filling.{between, FilledBy, filling-starts, filling-on, filling-ends}
+use Rattle.class_sheet.specs.Filling.{between, FilledBy}
 use Rattle.class_sheet.proofs.fill.Given as goal
 
 abbrev pub invariant-loop-b : goal.invariant-loop-b

@@ -1,6 +1,5 @@
 -- A letter stays; another byte gets the symbol.
 use mathlib.Core.Path.{refl}
-use borrow.Author.Rules.{rules}
 use Rattle.class_sheet.specs.Filling.{had, got}
 use Rattle.class_sheet.proofs.give.Goals as goal
 

@@ -1,6 +1,5 @@
 -- The answer to the records decides.
 use mathlib.Core.Path.{◌∙◌}
-use borrow.Author.Rules.{rules}
 use Rattle.class_sheet.proofs.Laws.Taking.{way-refused, way-accepted}
 use Rattle.class_sheet.proofs.take_body.Goals as goal
 

@@ -1,6 +1,5 @@
 -- The refusal 1 and wrong bytes first; then the body without a final CR LF, whose records decide.
 use mathlib.Core.Path.{sym, ◌∙◌}
-use borrow.Author.Rules.{rules}
 use lib.Seq.{length-take-le}
 use Rattle.code.specs.Laws.Clean.{clean-body}
 use Rattle.class_sheet.proofs.Laws.Taking.{way-empty, way_long, way-bytes, way-records}

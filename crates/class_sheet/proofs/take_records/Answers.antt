@@ -1,8 +1,5 @@
-use mathlib.Core.Path.{◌≡◌}
-use Prim.Native.Nat.{◌+◌, ◌-◌}
 use borrow.Author.Rules.{rules}
-use lib.ListN.{length}
-use Rattle.class_sheet.proofs.Laws.Passing.{Passed, passing-starts, passing-clean, passing-long, passing-wrong, passing-sign, passing-on, passing-less, passing-ends}
+use Rattle.class_sheet.proofs.Laws.Passing.{passing-starts, passing-clean, passing-long, passing-wrong, passing-sign, passing-on, passing-less, passing-ends}
 use Rattle.class_sheet.proofs.take_records.Goals as goal
 
 pub loop-at-init : goal.loop-at-init

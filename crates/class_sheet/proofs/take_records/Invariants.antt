@@ -1,9 +1,8 @@
 -- The loop keeps that what is known so far and the records to come are the sheet's.
 use mathlib.Core.Path.{◌≡◌}
 use Prim.Native.Nat.{◌+◌, ◌-◌}
-use borrow.Author.Rules.{rules}
 use lib.ListN.{length}
-use Rattle.class_sheet.proofs.Laws.Passing.{Passed, passing-starts, passing-clean, passing-long, passing-wrong, passing-sign, passing-on, passing-less, passing-ends}
+use Rattle.class_sheet.proofs.Laws.Passing.{Passed}
 use Rattle.class_sheet.proofs.take_records.Given as goal
 
 abbrev pub invariant-loop-at : goal.invariant-loop-at

@@ -1,5 +1,4 @@
 -- The five tests are joined as `any` joins them (`signs-tested`).
-use borrow.Author.Rules.{rules}
 use Rattle.class_sheet.specs.Filling.{from_to}
 use Rattle.class_sheet.proofs.Laws.Signs.{signs-tested}
 use Rattle.class_sheet.proofs.takes_sign.Goals as goal

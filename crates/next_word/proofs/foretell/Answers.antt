@@ -1,5 +1,4 @@
 -- `foretell` meets its contract: the searches get a part of the working buffer, and with a delay the first symbols are marked in as much of it as they need.
-use borrow.Author.Rules.{rules}
 use mathlib.Core.Path.{◌≡◌, sym}
 use native.Mathlib.Omega.{arith}
 use lib.ListN.{length, take}

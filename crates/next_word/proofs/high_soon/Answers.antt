@@ -1,5 +1,4 @@
 -- `high_soon` meets its contract: the first symbols are lent, or all of them.
-use borrow.Author.Rules.{rules}
 use mathlib.Core.Path.{sym}
 use native.Mathlib.Omega.{arith}
 use lib.Seq.{length-take-le}

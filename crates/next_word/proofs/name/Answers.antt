@@ -1,5 +1,4 @@
 -- `name` meets its contract: 12, 14 for the empty message, 14 for a message that tells no word, or the word that it tells.
-use borrow.Author.Rules.{rules}
 use native.Mathlib.Omega.{arith}
 use Rattle.next_word.proofs.Laws.Ways.{way-12, way-empty, way-14, way-named}
 use Rattle.next_word.proofs.name.Goals as goal

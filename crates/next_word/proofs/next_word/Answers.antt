@@ -1,5 +1,4 @@
 -- `next_word` meets its contract: a lemma for each refusal that changes nothing, in their order, and for what is told with the working buffer cleared.
-use borrow.Author.Rules.{rules}
 use native.Mathlib.Omega.{arith}
 use Rattle.well_enlarged.specs.Listed.{from-lists}
 use Rattle.next_word.proofs.Laws.Ways.{way-8, from-tested, way-11, way-13, way-told}

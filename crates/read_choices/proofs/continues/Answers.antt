@@ -1,5 +1,4 @@
 -- `read_choices::continues` meets its contract: at the end by its first case, before it by what the search found (`sought-continues`).
-use borrow.Author.Rules.{rules}
 use Rattle.code.specs.Laws.Exactly.{exactly-true}
 use Rattle.read_choices.specs.Choices.{at-end, sought-continues}
 use Rattle.read_choices.proofs.continues.Goals as goal

@@ -1,10 +1,9 @@
-use Prim.Native.Nat.{◌+◌, ◌/◌, ◌^◌, ◌≤◌, ◌<◌}
+use Prim.Native.Nat.{◌+◌, ◌<◌}
 use borrow.Author.Rules.{rules}
-use lib.ListN.{get_or}
-use mathlib.Core.Path.{◌≡◌, refl, sym, ◌∙◌}
+use mathlib.Core.Path.{refl, sym, ◌∙◌}
 use native.Mathlib.Omega.{arith}
 use Rattle.bits.specs.Lowest.{lowest-below, left-above, left_less}
-use Rattle.read_choices.specs.Choices.{NoneUsable, none_more, usable-lowest, none-lowest, none_left}
+use Rattle.read_choices.specs.Choices.{none_more, usable-lowest, none-lowest, none_left}
 use Rattle.read_choices.proofs.seek.Goals as goal
 use Rattle.read_choices.proofs.seek.Goals.{After-lowest-skipped}
 

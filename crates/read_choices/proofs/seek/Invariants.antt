@@ -1,12 +1,9 @@
 -- `read_choices::seek` meets its contract. The loop's invariant: no word from `from` up to `x` is usable, and `left` holds the marks from `x` on. The measure is
 -- `left`.
-use Prim.Native.Nat.{◌+◌, ◌/◌, ◌^◌, ◌≤◌, ◌<◌}
-use borrow.Author.Rules.{rules}
+use Prim.Native.Nat.{◌/◌, ◌^◌, ◌≤◌}
 use lib.ListN.{get_or}
-use mathlib.Core.Path.{◌≡◌, refl, sym, ◌∙◌}
-use native.Mathlib.Omega.{arith}
-use Rattle.bits.specs.Lowest.{lowest-below, left-above, left_less}
-use Rattle.read_choices.specs.Choices.{NoneUsable, none_more, usable-lowest, none-lowest, none_left}
+use mathlib.Core.Path.{◌≡◌}
+use Rattle.read_choices.specs.Choices.{NoneUsable}
 use Rattle.read_choices.proofs.seek.Given as goal
 
 abbrev pub invariant-loop-left : goal.invariant-loop-left

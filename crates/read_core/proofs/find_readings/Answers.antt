@@ -1,6 +1,5 @@
 -- `find_readings` meets its contract: the lists that are made zero become the code's sets, and the working buffer is zero in two parts (`Parts`).
 use Prim.Native.Nat.{◌+◌}
-use borrow.Author.Rules.{rules}
 use lib.ListN.{length}
 use mathlib.Core.Path.{refl, sym}
 use native.Mathlib.Omega.{arith}

@@ -1,5 +1,4 @@
 -- `read_core` meets its contract: full marks can be walked (`marked-walkable`), and what a walk over them finds is what the table has (`answer-finds`).
-use borrow.Author.Rules.{rules}
 use lib.ListN.{length}
 use mathlib.Core.Path.{◌≡◌}
 use native.Mathlib.Omega.{arith}

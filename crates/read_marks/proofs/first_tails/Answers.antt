@@ -1,10 +1,9 @@
-use Prim.Native.Nat.{◌+◌, ◌≤◌}
-use borrow.Author.Rules.{rules}
-use lib.ListN.{length, length-set}
+use Prim.Native.Nat.{◌+◌}
+use lib.ListN.{length-set}
 use mathlib.Core.Path.{◌≡◌, refl, ◌∙◌}
 use native.Mathlib.Omega.{arith}
 use Rattle.code.specs.Definitions.Sheets.{limits}
-use Rattle.read_marks.specs.Begun.{TailsFrom, tails-none, tails-more, first-none, first-all}
+use Rattle.read_marks.specs.Begun.{tails-none, tails-more, first-none, first-all}
 use Rattle.read_marks.proofs.first_tails.Goals as goal
 
 pub loop-j-init : goal.loop-j-init

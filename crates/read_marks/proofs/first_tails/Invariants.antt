@@ -1,11 +1,9 @@
 -- `first_tails` meets its contract. The loop's invariant: the tails from `j` on are laid, and `longer` is that of `j`. The measure is `j`.
 use Prim.Native.Nat.{◌+◌, ◌≤◌}
-use borrow.Author.Rules.{rules}
-use lib.ListN.{length, length-set}
-use mathlib.Core.Path.{◌≡◌, refl, ◌∙◌}
-use native.Mathlib.Omega.{arith}
+use lib.ListN.{length}
+use mathlib.Core.Path.{◌≡◌}
 use Rattle.code.specs.Definitions.Sheets.{limits}
-use Rattle.read_marks.specs.Begun.{TailsFrom, tails-none, tails-more, first-none, first-all}
+use Rattle.read_marks.specs.Begun.{TailsFrom}
 use Rattle.read_marks.proofs.first_tails.Given as goal
 
 abbrev pub invariant-loop-j : goal.invariant-loop-j

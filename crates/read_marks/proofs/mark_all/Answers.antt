@@ -1,13 +1,10 @@
-use Prim.Native.Nat.{◌+◌, ◌-◌, ◌≤◌}
-use borrow.Author.Rules.{rules}
-use lib.ListN.{length, get_or, length-set}
+use Prim.Native.Nat.{◌-◌}
+use lib.ListN.{get_or, length-set}
 use mathlib.Core.Path.{◌≡◌, refl, sym, ◌∙◌}
 use native.Mathlib.Omega.{arith}
-use Rattle.code.specs.Definitions.Sheets.{limits}
 use Rattle.read_sets.specs.Sets.{block-low}
-use Rattle.read_marks.specs.Message.{symbols_at}
 use Rattle.read_marks.specs.Steps.{stepped-bound}
-use Rattle.read_marks.specs.Marks.{RightFor, symbol-block, marks-none, marks-more, marks-all}
+use Rattle.read_marks.specs.Marks.{symbol-block, marks-none, marks-more, marks-all}
 use Rattle.read_marks.proofs.mark_all.Goals as goal
 
 pub loop-pos-init : goal.loop-pos-init

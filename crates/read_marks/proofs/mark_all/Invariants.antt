@@ -1,14 +1,10 @@
 -- `mark_all` meets its contract. The loop's invariant: tails, words to go on after and marks are right from `pos` on. The measure is `pos`.
-use Prim.Native.Nat.{◌+◌, ◌-◌, ◌≤◌}
-use borrow.Author.Rules.{rules}
-use lib.ListN.{length, get_or, length-set}
-use mathlib.Core.Path.{◌≡◌, refl, sym, ◌∙◌}
-use native.Mathlib.Omega.{arith}
+use Prim.Native.Nat.{◌+◌, ◌≤◌}
+use lib.ListN.{length}
+use mathlib.Core.Path.{◌≡◌}
 use Rattle.code.specs.Definitions.Sheets.{limits}
-use Rattle.read_sets.specs.Sets.{block-low}
 use Rattle.read_marks.specs.Message.{symbols_at}
-use Rattle.read_marks.specs.Steps.{stepped-bound}
-use Rattle.read_marks.specs.Marks.{RightFor, symbol-block, marks-none, marks-more, marks-all}
+use Rattle.read_marks.specs.Marks.{RightFor}
 use Rattle.read_marks.proofs.mark_all.Given as goal
 
 abbrev pub invariant-loop-pos : goal.invariant-loop-pos

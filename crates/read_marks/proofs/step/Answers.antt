@@ -1,9 +1,6 @@
-use Prim.Native.Nat.{◌≤◌}
-use borrow.Author.Rules.{rules}
-use lib.ListN.{length}
 use mathlib.Core.Path.{◌≡◌, refl}
 use native.Mathlib.Omega.{arith}
-use Rattle.read_marks.specs.Steps.{SteppedFrom, stepped-none, stepped-more, stepped-all}
+use Rattle.read_marks.specs.Steps.{stepped-none, stepped-more, stepped-all}
 use Rattle.read_marks.proofs.step.Goals as goal
 
 pub loop-j-init : goal.loop-j-init

@@ -1,10 +1,8 @@
 -- `step` meets its contract. The loop's invariant: the sets from `j` on are stepped, and `above` is what set `j` was. The measure is `j`.
 use Prim.Native.Nat.{◌≤◌}
-use borrow.Author.Rules.{rules}
 use lib.ListN.{length}
-use mathlib.Core.Path.{◌≡◌, refl}
-use native.Mathlib.Omega.{arith}
-use Rattle.read_marks.specs.Steps.{SteppedFrom, stepped-none, stepped-more, stepped-all}
+use mathlib.Core.Path.{◌≡◌}
+use Rattle.read_marks.specs.Steps.{SteppedFrom}
 use Rattle.read_marks.proofs.step.Given as goal
 
 abbrev pub invariant-loop-j : goal.invariant-loop-j

@@ -1,5 +1,4 @@
 -- `read_walks::advance` meets its contract: each way out is the definition's case.
-use borrow.Author.Rules.{rules}
 use borrow.Author.Tests.{lt-ltb, le-ltb}
 use Rattle.read_walks.proofs.advance.Goals as goal
 

@@ -1,5 +1,4 @@
 -- `read_walks::copy_branch` meets its contract: one store behind the copied entries (`paste-other`).
-use borrow.Author.Rules.{rules}
 use native.Mathlib.Omega.{arith}
 use Rattle.read_walks.specs.Answers.{paste-other}
 use Rattle.read_walks.proofs.copy_branch.Goals as goal

@@ -1,10 +1,8 @@
-use Prim.Native.Nat.{◌-◌}
 use borrow.Author.Rules.{rules}
-use lib.ListN.{length, length-set}
-use mathlib.Core.Path.{◌≡◌, refl}
+use lib.ListN.{length-set}
+use mathlib.Core.Path.{refl}
 use native.Mathlib.Omega.{arith}
-use Rattle.read_walks.specs.Shown.{shown}
-use Rattle.read_walks.specs.Steps.{Walking, Taken, walking_start, walking-end, sought-taken, walking_on}
+use Rattle.read_walks.specs.Steps.{Taken, walking_start, walking-end, sought-taken, walking_on}
 use Rattle.read_walks.proofs.least_reading.Goals as goal
 use Rattle.read_walks.proofs.least_reading.Goals.{After-seek-x}
 

@@ -1,11 +1,9 @@
 -- `read_walks::least_reading` meets its contract. The loop's invariant is `Walking`; a step keeps it by `walking_on`. The measure is what is left of the message.
 use Prim.Native.Nat.{◌-◌}
-use borrow.Author.Rules.{rules}
-use lib.ListN.{length, length-set}
-use mathlib.Core.Path.{◌≡◌, refl}
-use native.Mathlib.Omega.{arith}
+use lib.ListN.{length}
+use mathlib.Core.Path.{◌≡◌}
 use Rattle.read_walks.specs.Shown.{shown}
-use Rattle.read_walks.specs.Steps.{Walking, Taken, walking_start, walking-end, sought-taken, walking_on}
+use Rattle.read_walks.specs.Steps.{Walking}
 use Rattle.read_walks.proofs.least_reading.Given as goal
 
 abbrev pub invariant-loop-w : goal.invariant-loop-w

@@ -1,5 +1,4 @@
 -- `read_walks::second_reading` meets its contract: the words stand in order by `second-written`.
-use borrow.Author.Rules.{rules}
 use native.Mathlib.Omega.{arith}
 use Rattle.read_walks.specs.Answers.{second-written}
 use Rattle.read_walks.proofs.second_reading.Goals as goal

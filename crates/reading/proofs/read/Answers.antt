@@ -1,6 +1,4 @@
 -- `read` meets its contract: a lemma for each refusal, in their order, and for what is found where none holds.
-use borrow.Author.Rules.{rules}
-use borrow.Author.Tests.{not-true, not-false}
 use native.Mathlib.Omega.{arith}
 use Rattle.well_enlarged.specs.Listed.{from-lists}
 use Rattle.reading.specs.Public.{not_short, refuse-table, refuse-length, refuse-symbol, refuse-buffer, finds-reads}

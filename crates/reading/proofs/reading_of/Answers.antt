@@ -1,5 +1,4 @@
 -- A case for each thing that reading finds.
-use borrow.Author.Rules.{rules}
 use Rattle.reading.proofs.reading_of.Goals as goal
 
 pub returns-in-None : goal.returns-in-None

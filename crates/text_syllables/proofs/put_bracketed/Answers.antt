@@ -1,7 +1,6 @@
 -- A byte, the letters and a byte, one behind the other.
 use native.Mathlib.Omega.{arith}
 use lib.ListN.{length-set}
-use borrow.Author.Rules.{rules}
 use Rattle.writing.specs.Puts.{puts_one, puts_then, puts-length}
 use Rattle.text_syllables.proofs.put_bracketed.Goals as goal
 

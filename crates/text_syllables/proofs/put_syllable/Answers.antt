@@ -1,5 +1,4 @@
 -- A syllable is a field, and B7 parts them.
-use borrow.Author.Rules.{rules}
 use Rattle.text_syllables.proofs.put_syllable.Goals as goal
 
 pub returns : goal.returns

@@ -1,9 +1,6 @@
 use native.Mathlib.Omega.{arith}
-use Prim.Native.Nat.{◌-◌}
-use lib.ListN.{length}
 use mathlib.Core.Path.{refl}
-use borrow.Author.Rules.{rules}
-use Rattle.text_syllables.proofs.Laws.Turns.{Going, going_start, going-length, going_end, turn-fits, turn-room, going_next}
+use Rattle.text_syllables.proofs.Laws.Turns.{going_start, going-length, going_end, turn-fits, turn-room, going_next}
 use Rattle.text_syllables.proofs.put_syllables.Goals as goal
 
 pub loop-i-init : goal.loop-i-init

@@ -1,5 +1,4 @@
 -- A way for each kind of word: that there is room, and that what is written shows it.
-use borrow.Author.Rules.{rules}
 use lib.Seq.{length-take-le}
 use mathlib.Core.Path.{sym}
 use Rattle.text_syllables.specs.Shown.{split-stands, split-needs, split-shown, bracket-room, none-shown, several-shown}

@@ -1,5 +1,4 @@
 -- A case for each thing that reading finds.
-use borrow.Author.Rules.{rules}
 use Rattle.text_words.proofs.kind_of.Goals as goal
 
 pub returns-in-One : goal.returns-in-One

@@ -1,9 +1,6 @@
-use borrow.Author.Rules.{rules}
-use Prim.Native.Nat.{◌-◌}
-use lib.ListN.{length}
-use mathlib.Core.Path.{◌≡◌, refl, sym, ◌∙◌}
+use mathlib.Core.Path.{refl, sym, ◌∙◌}
 use native.Mathlib.Omega.{arith}
-use Rattle.text_words.specs.Outputs.{Going, going_start, word-showable, word_room, word_end, going-word, going-other, going_end}
+use Rattle.text_words.specs.Outputs.{going_start, word-showable, word_room, word_end, going-word, going-other, going_end}
 use Rattle.text_words.specs.Rooms.{rooms_same}
 use Rattle.text_words.proofs.split_words.Goals as goal
 

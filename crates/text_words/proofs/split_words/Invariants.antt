@@ -1,11 +1,8 @@
 -- The bytes passed are split, and no buffer has changed its length. The measure is what is left of the text: a word has a letter, and any other byte is one.
-use borrow.Author.Rules.{rules}
 use Prim.Native.Nat.{◌-◌}
 use lib.ListN.{length}
-use mathlib.Core.Path.{◌≡◌, refl, sym, ◌∙◌}
-use native.Mathlib.Omega.{arith}
-use Rattle.text_words.specs.Outputs.{Going, going_start, word-showable, word_room, word_end, going-word, going-other, going_end}
-use Rattle.text_words.specs.Rooms.{rooms_same}
+use mathlib.Core.Path.{◌≡◌}
+use Rattle.text_words.specs.Outputs.{Going}
 use Rattle.text_words.proofs.split_words.Given as goal
 
 abbrev pub invariant-loop-pos : goal.invariant-loop-pos

@@ -1,5 +1,4 @@
 -- The run at this place is laid and read, and the record says what was found (`recorded`).
-use borrow.Author.Rules.{rules}
 use lib.Seq.{length-take-le}
 use mathlib.Core.Path.{sym}
 use native.Mathlib.Omega.{arith}

@@ -1,5 +1,4 @@
 -- `find_word` meets its contract: the marks of the first position tell the words that open a reading, and the least that may begin is sought.
-use borrow.Author.Rules.{rules}
 use native.Mathlib.Omega.{arith}
 use Rattle.next_word.proofs.Laws.Telling.{marks-asked, sought-picked}
 use Rattle.next_word.proofs.telling.find_word.Goals as goal

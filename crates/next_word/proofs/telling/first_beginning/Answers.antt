@@ -1,7 +1,6 @@
 use borrow.Author.Rules.{rules}
-use Prim.Native.Nat.{◌-◌, ◌≤◌}
 use native.Mathlib.Omega.{arith}
-use Rattle.next_word.proofs.Laws.Telling.{NoneBegins, begins-none, begins-more, begins-here, begins-nowhere, begins-room}
+use Rattle.next_word.proofs.Laws.Telling.{begins-none, begins-more, begins-here, begins-nowhere, begins-room}
 use Rattle.next_word.proofs.telling.first_beginning.Goals as goal
 
 pub loop-x-init : goal.loop-x-init

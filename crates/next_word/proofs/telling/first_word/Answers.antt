@@ -1,6 +1,5 @@
 -- `first_word` meets its contract: the lists that are made zero become the code's sets, and the marks get as much of the working buffer as there are positions.
 use mathlib.Core.Path.{refl, sym}
-use borrow.Author.Rules.{rules}
 use native.Mathlib.Omega.{arith}
 use lib.Seq.{length-take-le}
 use Rattle.next_word.proofs.Laws.Telling.{picked-laid}

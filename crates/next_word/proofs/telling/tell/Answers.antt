@@ -1,5 +1,4 @@
 -- `tell` meets its contract: the message goes on past the first symbols, or ends before, or no symbol is looked at.
-use borrow.Author.Rules.{rules}
 use mathlib.Core.Path.{sym}
 use native.Mathlib.Omega.{arith}
 use lib.ListN.{length-take}

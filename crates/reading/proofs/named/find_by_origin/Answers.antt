@@ -1,7 +1,6 @@
 -- `find_by_origin` meets its contract: the code in the order of its origins is well-formed, what is found in it lies in the buffers, and named it is what the
 -- table of original words has (`renamed-found`).
 use native.Mathlib.Omega.{arith}
-use borrow.Author.Rules.{rules}
 use Rattle.code.specs.Definitions.Sheets.{limits}
 use Rattle.read_core.specs.Counts.{first-words, second-words}
 use Rattle.reading.specs.Named.{value-origins, ordered-well, ordered-few, renamed-found}

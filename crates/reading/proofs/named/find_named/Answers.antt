@@ -1,5 +1,4 @@
 -- `find_named` meets its contract: without copies what is found has its own names (`own-found`).
-use borrow.Author.Rules.{rules}
 use Rattle.reading.specs.Named.{own-found}
 use Rattle.reading.proofs.named.find_named.Goals as goal
 
