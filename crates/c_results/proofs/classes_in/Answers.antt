@@ -3,7 +3,6 @@ use mathlib.Core.Path.{refl, ap}
 use mathlib.Core.List.{List}
 use Prim.Native.Nat.{ℕ}
 use lib.ListN.{replicate}
-use borrow.Author.Rules.{rules}
 use Rattle.code.specs.Definitions.ClassSheets.{different_bytes}
 use Rattle.c_results.proofs.Laws.Ways.{whole-pasted}
 use Rattle.c_results.proofs.classes_in.Goals as goal

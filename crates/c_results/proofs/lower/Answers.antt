@@ -1,5 +1,4 @@
 -- The flag is tested, then the two numbers are compared.
-use borrow.Author.Rules.{rules}
 use Rattle.c_results.proofs.Laws.Ways.{lower-least, lower-own, lower_long}
 use Rattle.c_results.proofs.lower.Goals as goal
 

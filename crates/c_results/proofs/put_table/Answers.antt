@@ -1,6 +1,5 @@
 -- The answer decides: the lower of its own refusal and 13, where the buffer is too short for a table; or the table is packed.
 use mathlib.Core.Path.{refl}
-use borrow.Author.Rules.{rules}
 use borrow.Author.Tests.{lt-ltb, le-ltb}
 use Rattle.c_results.proofs.Laws.Ways.{given-short, given-written, given-refused}
 use Rattle.c_results.proofs.put_table.Goals as goal

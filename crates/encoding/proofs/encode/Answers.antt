@@ -1,6 +1,5 @@
 -- Each way out cites the lemma for it: the tests on the way say which refusals do not hold, and the last call writes the message.
 use native.Mathlib.Omega.{arith}
-use borrow.Author.Rules.{rules}
 use Rattle.code.specs.Definitions.Sheets.{limits}
 use Rattle.encoding.proofs.Laws.Ways.{way-8, lists-well, way-9, all-original, all_known, way-10, way-11, way-13, way-encoded}
 use Rattle.encoding.proofs.encode.Goals as goal

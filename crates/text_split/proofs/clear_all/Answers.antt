@@ -1,5 +1,4 @@
 -- Each buffer is cleared by itself.
-use borrow.Author.Rules.{rules}
 use Rattle.text_split.proofs.clear_all.Goals as goal
 
 pub returns : goal.returns

@@ -1,5 +1,4 @@
 -- The first four buffers by a return for each, then the working buffer (`short-work`).
-use borrow.Author.Rules.{rules}
 use mathlib.Core.Logic.{inl, inr}
 use Rattle.code.specs.Laws.Exactly.{exactly-true}
 use Rattle.text_split.specs.Rooms.{short-work}

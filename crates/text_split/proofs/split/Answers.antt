@@ -1,5 +1,4 @@
 -- `split` meets its contract: a lemma for each refusal, in their order, and for the output where none holds.
-use borrow.Author.Rules.{rules}
 use Rattle.text_split.proofs.Laws.Public.{zero_same, way-8, way-8-classes, way-11, way-13, split-rooms, way-split}
 use Rattle.text_split.proofs.split.Goals as goal
 

@@ -1,5 +1,4 @@
 -- The lists that are made zero become the code's sets, by which the words are read.
-use borrow.Author.Rules.{rules}
 use mathlib.Core.Path.{refl}
 use native.Mathlib.Omega.{arith}
 use Rattle.code.specs.Definitions.Tables.{table_of}
