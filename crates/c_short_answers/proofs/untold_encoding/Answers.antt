@@ -1,6 +1,5 @@
 -- With no room encoding refuses, or its message is empty.
 use Rattle.c_short_answers.specs.Untold.{untold-encoding}
-use borrow.Author.Rules.{rules}
 use Rattle.c_short_answers.proofs.untold_encoding.Goals as goal
 
 pub returns-in-Refused : goal.returns-in-Refused

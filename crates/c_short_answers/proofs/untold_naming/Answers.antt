@@ -1,6 +1,5 @@
 -- With no room naming refuses.
 use Rattle.c_short_answers.specs.Untold.{untold-naming}
-use borrow.Author.Rules.{rules}
 use Rattle.c_short_answers.proofs.untold_naming.Goals as goal
 
 pub returns-in-Refused : goal.returns-in-Refused

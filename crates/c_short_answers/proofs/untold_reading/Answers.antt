@@ -1,6 +1,5 @@
 -- With no room reading refuses.
 use Rattle.c_short_answers.specs.Untold.{untold-reading}
-use borrow.Author.Rules.{rules}
 use Rattle.c_short_answers.proofs.untold_reading.Goals as goal
 
 pub returns-in-Refused : goal.returns-in-Refused

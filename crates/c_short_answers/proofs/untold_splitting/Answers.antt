@@ -1,6 +1,5 @@
 -- With no room splitting refuses.
 use Rattle.c_short_answers.specs.Untold.{untold-splitting}
-use borrow.Author.Rules.{rules}
 use Rattle.c_short_answers.proofs.untold_splitting.Goals as goal
 
 pub returns-in-Refused : goal.returns-in-Refused

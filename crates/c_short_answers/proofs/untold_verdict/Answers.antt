@@ -1,6 +1,5 @@
 -- With no room the verdict is refused.
 use Rattle.c_short_answers.specs.Untold.{untold-verdict}
-use borrow.Author.Rules.{rules}
 use Rattle.c_short_answers.proofs.untold_verdict.Goals as goal
 
 pub returns-in-Refused : goal.returns-in-Refused

@@ -1,6 +1,5 @@
 -- An image too short to be read is found first, then an answer too short to be told; then the operation answers, and its answer is written as numbers.
 use Rattle.furlazon.proofs.Laws.Ways.{answer-short, answer-room, read-unread, read-untold, read-answered}
-use borrow.Author.Rules.{rules}
 use Rattle.furlazon.proofs.furlazon_read.Goals as goal
 
 pub returns-then-table-lt-LENGTH : goal.returns-then-table-lt-LENGTH

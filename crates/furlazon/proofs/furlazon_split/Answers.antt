@@ -1,5 +1,4 @@
 -- An image or classes too short to be read are found first, then an answer too short to be told; then the operation answers, and its answer is written as numbers.
-use borrow.Author.Rules.{rules}
 use Rattle.furlazon.proofs.Laws.Ways.{answer-short, answer-room, split-unread, split-unclassed, split-untold, split-answered}
 use Rattle.furlazon.proofs.furlazon_split.Goals as goal
 
