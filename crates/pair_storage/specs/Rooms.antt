@@ -1,6 +1,6 @@
 -- How long the list of a search is. It has a mark for each cell, and entries for the source, for each pair and one to spare; these are more than the cells only where
 -- there are one or two places.
-use Rattle.std.specs.Prelude.{◌≡◌, refl, List, ℕ, zero, suc, ◌+◌, ◌*◌, ◌/◌, ◌≤◌, ◌<◌, max}
+use Rattle.std.specs.Prelude.{◌≡◌, List, ℕ, zero, suc, ◌+◌, ◌*◌, ◌/◌, ◌≤◌, max}
 use Rattle.std.proofs.Math.Decide.{dec_le}
 use Rattle.std.proofs.Common.{mul-le-mul, arith}
 use Rattle.code.specs.Definitions.Sheets.{limits}

@@ -1,6 +1,5 @@
 -- `clear_marks` meets its contract: the marks are laid over a part that is as long (`laid-whole`), the rest is cleared, and so the whole is zero in two parts (`Parts`).
 use mathlib.Core.Path.{sym, ◌∙◌}
-use borrow.Author.Rules.{rules}
 use native.Mathlib.Omega.{arith}
 use lib.ListN.{take}
 use Rattle.code.specs.Definitions.Operations.{verdict_work}

@@ -1,5 +1,4 @@
 -- `decide` meets its contract: the searches are lent a part of the clear working buffer (`searchable`), and as they leave it clear the whole is (`decided-whole`).
-use borrow.Author.Rules.{rules}
 use native.Mathlib.Omega.{arith}
 use Rattle.pair_storage.specs.Rooms.{room_most}
 use Rattle.decipher.specs.Lent.{room_within, part-long, searchable}

@@ -1,6 +1,4 @@
 -- `verdict` meets its contract: a lemma for each refusal, in their order, and for the verdict where none holds.
-use borrow.Author.Rules.{rules}
-use borrow.Author.Tests.{not-false}
 use Rattle.well_enlarged.specs.Listed.{from-lists}
 use Rattle.decipher.specs.Buffers.{has_room}
 use Rattle.decipher.proofs.Laws.Ways.{way-8, way-13, way-judged}

@@ -1,5 +1,4 @@
 -- `ambiguous` meets its contract: reading finds two readings, and their counts are the lengths of the first two (`finds-twice`).
-use borrow.Author.Rules.{rules}
 use Rattle.decipher_ambiguous.specs.Twice.{finds-twice}
 use Rattle.decipher_ambiguous.proofs.ambiguous.Goals as goal
 

@@ -1,5 +1,4 @@
 -- `decipherable` meets its contract: the verdict stays, and the list is cleared.
-use borrow.Author.Rules.{rules}
 use Rattle.decipher_delay.specs.Delays.{measured}
 use Rattle.decipher_delay.proofs.decipherable.Goals as goal
 

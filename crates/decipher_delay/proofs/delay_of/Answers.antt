@@ -1,5 +1,4 @@
 -- `delay_of` meets its contract: the test decides the case of its definition.
-use borrow.Author.Rules.{rules}
 use Rattle.decipher_delay.proofs.delay_of.Goals as goal
 
 pub returns-then-rivals : goal.returns-then-rivals

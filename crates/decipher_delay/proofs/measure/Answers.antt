@@ -1,5 +1,4 @@
 -- `measure` meets its contract: the walk is as long as `delay_of` asks (`extent-low`), and each answer of the search gives its verdict.
-use borrow.Author.Rules.{rules}
 use Rattle.decipher_delay.specs.Delays.{given-laid, extent-low, by-finite, by-unbounded}
 use Rattle.decipher_delay.proofs.measure.Goals as goal
 

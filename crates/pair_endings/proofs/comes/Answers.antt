@@ -1,7 +1,6 @@
-use Prim.Native.Nat.{◌≤◌, ◌-◌}
 use native.Mathlib.Omega.{arith}
 use borrow.Author.Rules.{rules}
-use Rattle.pair_endings.specs.Closing.{NoneBefore, comes-begins, none_more, comes-after, comes-none}
+use Rattle.pair_endings.specs.Closing.{comes-begins, none_more, comes-after, comes-none}
 use Rattle.pair_endings.proofs.comes.Goals as goal
 
 pub returns-then-may_come : goal.returns-then-may_come

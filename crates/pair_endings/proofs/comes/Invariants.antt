@@ -1,8 +1,6 @@
 -- `comes` tests the start, then each word. The invariant: no word before `y` lets `x` come. The measure is what is left of the words.
 use Prim.Native.Nat.{◌≤◌, ◌-◌}
-use native.Mathlib.Omega.{arith}
-use borrow.Author.Rules.{rules}
-use Rattle.pair_endings.specs.Closing.{NoneBefore, comes-begins, none_more, comes-after, comes-none}
+use Rattle.pair_endings.specs.Closing.{NoneBefore}
 use Rattle.pair_endings.proofs.comes.Given as goal
 
 abbrev pub invariant-loop-y : goal.invariant-loop-y

@@ -1,6 +1,5 @@
 -- `is_fresh` tests the mark of `x`, then whether it comes.
 use Rattle.pair_endings.specs.Closing.{fresh-marked, fresh-comes}
-use borrow.Author.Rules.{rules}
 use Rattle.pair_endings.proofs.is_fresh.Goals as goal
 
 pub returns-then-marks-x-eq1 : goal.returns-then-marks-x-eq1

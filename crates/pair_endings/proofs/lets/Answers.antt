@@ -1,6 +1,5 @@
 -- `lets` tests the mark of `y`, then whether `x` may come behind it.
 use Rattle.pair_endings.specs.Closing.{lets-marked, lets-unmarked}
-use borrow.Author.Rules.{rules}
 use Rattle.pair_endings.proofs.lets.Goals as goal
 
 pub returns-then-marks-y-eq1 : goal.returns-then-marks-y-eq1

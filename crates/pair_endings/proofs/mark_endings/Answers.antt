@@ -1,6 +1,5 @@
 use borrow.Author.Rules.{rules}
-use Rattle.code.specs.Laws.Cells.{total}
-use Rattle.pair_endings.specs.Closing.{Sound, NextEnding, open1, sound_none, sound_more, mark-inside, still-long, kept-long, less-left, endings-done}
+use Rattle.pair_endings.specs.Closing.{sound_none, sound_more, mark-inside, still-long, kept-long, less-left, endings-done}
 use Rattle.pair_endings.proofs.mark_endings.Goals as goal
 
 pub loop-x-init : goal.loop-x-init

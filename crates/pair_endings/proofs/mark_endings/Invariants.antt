@@ -1,7 +1,6 @@
 -- `mark_endings` marks word after word. The invariant: what is marked ends a sequence, and `x` comes next. The measure is the number of words not marked.
-use borrow.Author.Rules.{rules}
 use Rattle.code.specs.Laws.Cells.{total}
-use Rattle.pair_endings.specs.Closing.{Sound, NextEnding, open1, sound_none, sound_more, mark-inside, still-long, kept-long, less-left, endings-done}
+use Rattle.pair_endings.specs.Closing.{Sound, NextEnding, open1}
 use Rattle.pair_endings.proofs.mark_endings.Given as goal
 
 abbrev pub invariant-loop-x : goal.invariant-loop-x

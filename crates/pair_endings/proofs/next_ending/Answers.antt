@@ -1,7 +1,6 @@
-use Prim.Native.Nat.{◌≤◌, ◌-◌}
 use native.Mathlib.Omega.{arith}
 use borrow.Author.Rules.{rules}
-use Rattle.pair_endings.specs.Closing.{NoneFresh, fresh-more, next-found, next-none}
+use Rattle.pair_endings.specs.Closing.{fresh-more, next-found, next-none}
 use Rattle.pair_endings.proofs.next_ending.Goals as goal
 
 pub loop-x-init : goal.loop-x-init

@@ -1,8 +1,6 @@
 -- `next_ending` goes up to the first fresh word. The invariant: no word before `x` is fresh. The measure is what is left of the words.
 use Prim.Native.Nat.{◌≤◌, ◌-◌}
-use native.Mathlib.Omega.{arith}
-use borrow.Author.Rules.{rules}
-use Rattle.pair_endings.specs.Closing.{NoneFresh, fresh-more, next-found, next-none}
+use Rattle.pair_endings.specs.Closing.{NoneFresh}
 use Rattle.pair_endings.proofs.next_ending.Given as goal
 
 abbrev pub invariant-loop-x : goal.invariant-loop-x

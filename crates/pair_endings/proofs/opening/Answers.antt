@@ -1,7 +1,6 @@
-use Prim.Native.Nat.{◌-◌, ◌≤◌}
 use borrow.Author.Count.{below_none}
 use borrow.Author.Rules.{rules}
-use Rattle.pair_endings.specs.Openings.{BeginBelow, opens-here, begin-more, opens-none}
+use Rattle.pair_endings.specs.Openings.{opens-here, begin-more, opens-none}
 use Rattle.pair_endings.proofs.opening.Goals as goal
 
 pub loop-x-init : goal.loop-x-init

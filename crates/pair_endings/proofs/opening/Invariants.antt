@@ -1,8 +1,6 @@
 -- Each word below `x` may begin; at the word count every word may.
 use Prim.Native.Nat.{◌-◌, ◌≤◌}
-use borrow.Author.Count.{below_none}
-use borrow.Author.Rules.{rules}
-use Rattle.pair_endings.specs.Openings.{BeginBelow, opens-here, begin-more, opens-none}
+use Rattle.pair_endings.specs.Openings.{BeginBelow}
 use Rattle.pair_endings.proofs.opening.Given as goal
 
 abbrev pub invariant-loop-x : goal.invariant-loop-x

@@ -1,11 +1,4 @@
 use borrow.Author.Rules.{rules}
-use mathlib.Core.Path.{◌≡◌}
-use Prim.Native.Nat.{◌+◌, ◌≤◌, ◌-◌}
-use lib.ListN.{length}
-use Rattle.pair_places.specs.Flat.{pair_count}
-use Rattle.pair_storage.specs.Entries.{entries_in}
-use Rattle.pair_storage.specs.Marks.{marks}
-use Rattle.pair_groups.specs.Ensured.{Stands}
 use Rattle.pair_groups.specs.Parts.{goal-again, group-done, group-known, group-within, known-again}
 use Rattle.pair_groups.specs.Symbols.{symbols-passed, symbol-next}
 use Rattle.pair_groups.proofs.expand_group.Goals as goal

@@ -1,6 +1,5 @@
 -- `expand_group` deals with a group symbol by symbol. The invariant: the symbols before `symbol` are done for every member. The measure is what is left of the
 -- alphabet.
-use borrow.Author.Rules.{rules}
 use mathlib.Core.Path.{◌≡◌}
 use Prim.Native.Nat.{◌+◌, ◌≤◌, ◌-◌}
 use lib.ListN.{length}
@@ -8,8 +7,6 @@ use Rattle.pair_places.specs.Flat.{pair_count}
 use Rattle.pair_storage.specs.Entries.{entries_in}
 use Rattle.pair_storage.specs.Marks.{marks}
 use Rattle.pair_groups.specs.Ensured.{Stands}
-use Rattle.pair_groups.specs.Parts.{goal-again, group-done, group-known, group-within, known-again}
-use Rattle.pair_groups.specs.Symbols.{symbols-passed, symbol-next}
 use Rattle.pair_groups.proofs.expand_group.Given as goal
 
 abbrev pub invariant-loop-symbol : goal.invariant-loop-symbol

@@ -1,11 +1,4 @@
 use borrow.Author.Rules.{rules}
-use mathlib.Core.Path.{◌≡◌}
-use Prim.Native.Nat.{◌+◌, ◌≤◌, ◌-◌}
-use lib.ListN.{length}
-use Rattle.pair_places.specs.Flat.{pair_count}
-use Rattle.pair_storage.specs.Entries.{entries_in}
-use Rattle.pair_storage.specs.Marks.{marks}
-use Rattle.pair_groups.specs.Ensured.{Stands}
 use Rattle.pair_groups.specs.Parts.{was-tail, goal-again, expanding, symbol_end}
 use Rattle.pair_groups.proofs.expand_symbol.Goals as goal
 

@@ -1,6 +1,5 @@
 -- `expand_symbol` deals with the members of a group for one symbol. The invariant: the members before `member` are done. The measure is what is left of the
 -- group.
-use borrow.Author.Rules.{rules}
 use mathlib.Core.Path.{◌≡◌}
 use Prim.Native.Nat.{◌+◌, ◌≤◌, ◌-◌}
 use lib.ListN.{length}
@@ -8,7 +7,6 @@ use Rattle.pair_places.specs.Flat.{pair_count}
 use Rattle.pair_storage.specs.Entries.{entries_in}
 use Rattle.pair_storage.specs.Marks.{marks}
 use Rattle.pair_groups.specs.Ensured.{Stands}
-use Rattle.pair_groups.specs.Parts.{was-tail, goal-again, expanding, symbol_end}
 use Rattle.pair_groups.proofs.expand_symbol.Given as goal
 
 abbrev pub invariant-loop-member : goal.invariant-loop-member

@@ -1,9 +1,6 @@
 use borrow.Author.Rules.{rules}
-use Prim.Native.Nat.{◌-◌}
-use Rattle.pair_places.specs.Opens.{open_graph}
-use Rattle.pair_storage.specs.Entries.{entries_in}
 use Rattle.pair_groups.specs.Carrying.{known-node}
-use Rattle.pair_groups.proofs.Laws.Runs.{Run, run-one, group-more, group-differs, group-last}
+use Rattle.pair_groups.proofs.Laws.Runs.{run-one, group-more, group-differs, group-last}
 use Rattle.pair_groups.proofs.group_end.Goals as goal
 
 pub key-first-requires : goal.key-first-requires

@@ -1,10 +1,8 @@
 -- `group_end` scans for the end of a group. The invariant: the entries from `start` to `end` have one key. The measure is what is left of the queue.
-use borrow.Author.Rules.{rules}
 use Prim.Native.Nat.{◌-◌}
 use Rattle.pair_places.specs.Opens.{open_graph}
 use Rattle.pair_storage.specs.Entries.{entries_in}
-use Rattle.pair_groups.specs.Carrying.{known-node}
-use Rattle.pair_groups.proofs.Laws.Runs.{Run, run-one, group-more, group-differs, group-last}
+use Rattle.pair_groups.proofs.Laws.Runs.{Run}
 use Rattle.pair_groups.proofs.group_end.Given as goal
 
 abbrev pub invariant-loop-end : goal.invariant-loop-end

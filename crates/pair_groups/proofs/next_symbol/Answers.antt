@@ -1,8 +1,6 @@
 use borrow.Author.Rules.{rules}
-use Prim.Native.Nat.{◌≤◌, ◌-◌}
-use Rattle.pair_storage.specs.Entries.{entries_in}
 use Rattle.pair_groups.specs.Carrying.{known-high}
-use Rattle.pair_groups.specs.Symbols.{NoneLed, none-led-begin, none-led-more, none-led-end}
+use Rattle.pair_groups.specs.Symbols.{none-led-begin, none-led-more, none-led-end}
 use Rattle.pair_groups.proofs.next_symbol.Goals as goal
 
 pub loop-member-init : goal.loop-member-init

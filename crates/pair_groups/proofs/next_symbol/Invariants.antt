@@ -1,10 +1,8 @@
 -- `next_symbol` goes through the members. The invariant: no symbol from `symbol` to `least` - 1 leads on a member before `member`. The measure is what is
 -- left of the group.
-use borrow.Author.Rules.{rules}
 use Prim.Native.Nat.{◌≤◌, ◌-◌}
 use Rattle.pair_storage.specs.Entries.{entries_in}
-use Rattle.pair_groups.specs.Carrying.{known-high}
-use Rattle.pair_groups.specs.Symbols.{NoneLed, none-led-begin, none-led-more, none-led-end}
+use Rattle.pair_groups.specs.Symbols.{NoneLed}
 use Rattle.pair_groups.proofs.next_symbol.Given as goal
 
 abbrev pub invariant-loop-member : goal.invariant-loop-member

@@ -1,13 +1,7 @@
 use borrow.Author.Rules.{rules}
-use mathlib.Core.Path.{◌≡◌}
-use Prim.Native.Nat.{◌+◌, ◌-◌, ◌≤◌}
 use native.Mathlib.Omega.{arith}
-use lib.ListN.{length}
-use Rattle.code.specs.Definitions.Sheets.{limits}
-use Rattle.pair_places.specs.Flat.{cell_count}
-use Rattle.pair_storage.specs.Marks.{marks}
 use Rattle.pair_longest.specs.Answer.{was-unbounded}
-use Rattle.pair_longest.specs.Visit.{Counting, counted}
+use Rattle.pair_longest.specs.Visit.{counted}
 use Rattle.pair_longest.specs.Extents.{counting-none, counting-all}
 use Rattle.pair_longest.proofs.longest.Goals as goal
 

@@ -1,12 +1,7 @@
 use borrow.Author.Rules.{rules}
-use mathlib.Core.Path.{◌≡◌}
-use Prim.Native.Nat.{◌-◌, ◌≤◌, ◌<◌}
 use native.Mathlib.Omega.{arith}
-use lib.ListN.{length}
-use Rattle.pair_places.specs.Flat.{cell_count}
-use Rattle.pair_storage.specs.Marks.{marks}
 use Rattle.pair_longest.specs.Answer.{was-unbounded}
-use Rattle.pair_longest.specs.Visit.{Counting, visiting, counted, row-end}
+use Rattle.pair_longest.specs.Visit.{visiting, counted, row-end}
 use Rattle.pair_longest.proofs.row.Goals as goal
 
 pub visit-requires : goal.visit-requires

@@ -1,13 +1,10 @@
 -- `pair_longest::row` meets its contract. The loop keeps what is counted, up to the next word, and the length of the list.
-use borrow.Author.Rules.{rules}
 use mathlib.Core.Path.{◌≡◌}
 use Prim.Native.Nat.{◌-◌, ◌≤◌, ◌<◌}
-use native.Mathlib.Omega.{arith}
 use lib.ListN.{length}
 use Rattle.pair_places.specs.Flat.{cell_count}
 use Rattle.pair_storage.specs.Marks.{marks}
-use Rattle.pair_longest.specs.Answer.{was-unbounded}
-use Rattle.pair_longest.specs.Visit.{Counting, visiting, counted, row-end}
+use Rattle.pair_longest.specs.Visit.{Counting}
 use Rattle.pair_longest.proofs.row.Given as goal
 
 abbrev pub invariant-loop-y : goal.invariant-loop-y

@@ -1,13 +1,6 @@
 use borrow.Author.Rules.{rules}
-use mathlib.Core.Path.{◌≡◌}
-use lib.ListN.{length}
-use Rattle.code.specs.Laws.Cells.{total}
-use Rattle.pair_places.specs.Flat.{pair_graph}
-use Rattle.pair_storage.specs.Entries.{entries_in}
-use Rattle.pair_storage.specs.Marks.{marks}
-use Rattle.pair_heights.specs.Marks.{left}
 use Rattle.pair_heights.specs.Search.{searching}
-use Rattle.pair_longest.specs.Explore.{Running, run_on, run-less, run-cycle, run-mark, run_end}
+use Rattle.pair_longest.specs.Explore.{run_on, run-less, run-cycle, run-mark, run_end}
 use Rattle.pair_longest.proofs.run.Goals as goal
 
 pub advance-requires : goal.advance-requires

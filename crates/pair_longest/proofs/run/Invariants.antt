@@ -1,5 +1,4 @@
 -- `pair_longest::run` meets its contract. The loop keeps a state of the search and the length of the list; with each turn a mark rises.
-use borrow.Author.Rules.{rules}
 use mathlib.Core.Path.{◌≡◌}
 use lib.ListN.{length}
 use Rattle.code.specs.Laws.Cells.{total}
@@ -7,8 +6,7 @@ use Rattle.pair_places.specs.Flat.{pair_graph}
 use Rattle.pair_storage.specs.Entries.{entries_in}
 use Rattle.pair_storage.specs.Marks.{marks}
 use Rattle.pair_heights.specs.Marks.{left}
-use Rattle.pair_heights.specs.Search.{searching}
-use Rattle.pair_longest.specs.Explore.{Running, run_on, run-less, run-cycle, run-mark, run_end}
+use Rattle.pair_longest.specs.Explore.{Running}
 use Rattle.pair_longest.proofs.run.Given as goal
 
 abbrev pub invariant-loop-depth : goal.invariant-loop-depth

@@ -1,5 +1,4 @@
 -- `pair_longest::visit` meets its contract: the words have no first pair; or its longest walk is longer than those before, or not; or there is none.
-use borrow.Author.Rules.{rules}
 use Rattle.pair_longest.specs.Answer.{was-unbounded}
 use Rattle.pair_longest.specs.Visit.{visit-nowhere, visit-root, visit-higher, visit-lower}
 use Rattle.pair_longest.proofs.visit.Goals as goal

@@ -24,7 +24,7 @@ returns-else-p-count c =
     let a = c.args in
     nowhere a.places.now c.requires.0.some n (no-pair a.places.now a.p a.q (λ l m e.
     elim c.else-p-count.branch [
-      else-p-count-via-then-p-count+then-q-count+else-places-p w ↦ w.if-places-p.false e
+      | else-p-count-via-then-p-count+then-q-count+else-places-p w ↦ w.if-places-p.false e
       | else-p-count-via-then-p-count+else-q-count w ↦ omega (arith, n, w.if-q-count.false)
       | else-p-count-via-else-p-count w ↦ omega (arith, n, w.if-p-count.false)
     ]))

@@ -1,6 +1,4 @@
-use Prim.Native.Nat.{◌≤◌}
-use Rattle.pair_places.specs.Flat.{behinds, both_behind}
-use Rattle.pair_rivals.specs.Rivals.{NoneFrom, none_from, none-less, rivals-here, rivals-none}
+use Rattle.pair_rivals.specs.Rivals.{none_from, none-less, rivals-here, rivals-none}
 use borrow.Author.Rules.{rules}
 use Rattle.pair_rivals.proofs.are_rivals.Goals as goal
 

@@ -1,8 +1,7 @@
 -- No word from `z` on, nor the start, lets both words come; at 0 none does.
 use Prim.Native.Nat.{◌≤◌}
 use Rattle.pair_places.specs.Flat.{behinds, both_behind}
-use Rattle.pair_rivals.specs.Rivals.{NoneFrom, none_from, none-less, rivals-here, rivals-none}
-use borrow.Author.Rules.{rules}
+use Rattle.pair_rivals.specs.Rivals.{NoneFrom}
 use Rattle.pair_rivals.proofs.are_rivals.Given as goal
 
 abbrev pub invariant-loop-z : goal.invariant-loop-z

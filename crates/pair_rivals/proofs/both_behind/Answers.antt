@@ -1,6 +1,5 @@
 -- The mark of `z` is tested, then whether each of the two words may come behind it.
 use Rattle.pair_rivals.specs.Rivals.{behind-both, behind-left, behind-none}
-use borrow.Author.Rules.{rules}
 use Rattle.pair_rivals.proofs.both_behind.Goals as goal
 
 pub returns-then-may_come : goal.returns-then-may_come

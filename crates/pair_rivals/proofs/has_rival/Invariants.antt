@@ -2,10 +2,8 @@
 use mathlib.Core.Path.{◌≡◌}
 use mathlib.Core.Bool.{false}
 use Prim.Native.Nat.{◌-◌, ◌≤◌}
-use Rattle.code.specs.Laws.Below.{some_below, none_yet, none_more}
+use Rattle.code.specs.Laws.Below.{some_below}
 use Rattle.pair_places.specs.Flat.{rivals_at}
-use Rattle.pair_rivals.specs.Rivals.{before_here, before-none}
-use borrow.Author.Rules.{rules}
 use Rattle.pair_rivals.proofs.has_rival.Given as goal
 
 abbrev pub invariant-loop-y : goal.invariant-loop-y

@@ -1,6 +1,5 @@
 -- The first pair of rivals, and no pair of other words.
 use Rattle.pair_rivals.specs.Rivals.{arrives-rivals, arrives-not}
-use borrow.Author.Rules.{rules}
 use Rattle.pair_rivals.proofs.rival_pair.Goals as goal
 
 pub returns-then-are_rivals : goal.returns-then-are_rivals

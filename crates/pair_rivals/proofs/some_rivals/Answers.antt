@@ -1,8 +1,5 @@
-use mathlib.Core.Path.{◌≡◌}
-use mathlib.Core.Bool.{false}
-use Prim.Native.Nat.{◌-◌, ◌≤◌}
-use Rattle.code.specs.Laws.Below.{some_below, none_yet, none_more}
-use Rattle.pair_rivals.specs.Rivals.{rival_before, some-rivals-here, some-rivals-none}
+use Rattle.code.specs.Laws.Below.{none_yet, none_more}
+use Rattle.pair_rivals.specs.Rivals.{some-rivals-here, some-rivals-none}
 use borrow.Author.Rules.{rules}
 use Rattle.pair_rivals.proofs.some_rivals.Goals as goal
 

@@ -2,9 +2,8 @@
 use mathlib.Core.Path.{◌≡◌}
 use mathlib.Core.Bool.{false}
 use Prim.Native.Nat.{◌-◌, ◌≤◌}
-use Rattle.code.specs.Laws.Below.{some_below, none_yet, none_more}
-use Rattle.pair_rivals.specs.Rivals.{rival_before, some-rivals-here, some-rivals-none}
-use borrow.Author.Rules.{rules}
+use Rattle.code.specs.Laws.Below.{some_below}
+use Rattle.pair_rivals.specs.Rivals.{rival_before}
 use Rattle.pair_rivals.proofs.some_rivals.Given as goal
 
 abbrev pub invariant-loop-x : goal.invariant-loop-x

@@ -1,12 +1,4 @@
 use borrow.Author.Rules.{rules}
-use mathlib.Core.Path.{◌≡◌}
-use Prim.Native.Nat.{◌+◌, ◌≤◌, ◌-◌}
-use lib.ListN.{length}
-use Rattle.pair_places.specs.Flat.{pair_count}
-use Rattle.pair_places.specs.Opens.{open_graph}
-use Rattle.pair_storage.specs.Entries.{entries_in}
-use Rattle.pair_storage.specs.Marks.{marks}
-use Rattle.pair_groups.specs.Queue.{Between}
 use Rattle.pair_shortest.proofs.Laws.Groups.{was-moved, explore-goal, explore-end, explore-less, moved-few}
 use Rattle.pair_shortest.proofs.explore.Goals as goal
 

@@ -1,6 +1,5 @@
 -- `explore` deals with group after group. The invariant: all groups before `start` are done. The measure falls as `start` rises: the queue has no more
 -- entries than the source and the pairs.
-use borrow.Author.Rules.{rules}
 use mathlib.Core.Path.{◌≡◌}
 use Prim.Native.Nat.{◌+◌, ◌≤◌, ◌-◌}
 use lib.ListN.{length}
@@ -9,7 +8,6 @@ use Rattle.pair_places.specs.Opens.{open_graph}
 use Rattle.pair_storage.specs.Entries.{entries_in}
 use Rattle.pair_storage.specs.Marks.{marks}
 use Rattle.pair_groups.specs.Queue.{Between}
-use Rattle.pair_shortest.proofs.Laws.Groups.{was-moved, explore-goal, explore-end, explore-less, moved-few}
 use Rattle.pair_shortest.proofs.explore.Given as goal
 
 abbrev pub invariant-loop-start : goal.invariant-loop-start

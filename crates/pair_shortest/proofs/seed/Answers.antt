@@ -1,5 +1,4 @@
 -- `seed` stores the entry of the source, which is read back as such, and keeps the mark beside it.
-use borrow.Author.Rules.{rules}
 use Rattle.pair_shortest.specs.Writing.{seeded, seeded-marks}
 use Rattle.pair_shortest.proofs.seed.Goals as goal
 

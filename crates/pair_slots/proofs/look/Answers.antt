@@ -1,5 +1,4 @@
 -- `look` tells what stands where a slot leads; each way out is one case of `Seen`.
-use borrow.Author.Rules.{rules}
 use Rattle.pair_slots.specs.Leaves.{seen-nowhere, seen_other, seen-marked, seen-goal, seen-fresh}
 use Rattle.pair_slots.proofs.look.Goals as goal
 

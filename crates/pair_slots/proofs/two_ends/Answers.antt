@@ -1,6 +1,5 @@
 -- `two_ends` is the goal of the open graph, by its cases: the places are the same, the lower is an end, or it is not.
 use Rattle.pair_slots.specs.Leaves.{ends_same, ends-both, ends-inside}
-use borrow.Author.Rules.{rules}
 use Rattle.pair_slots.proofs.two_ends.Goals as goal
 
 pub returns-then-pair : goal.returns-then-pair

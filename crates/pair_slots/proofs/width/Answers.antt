@@ -1,5 +1,4 @@
 -- `width` counts the slots of a pair if the symbol leads it on, else none.
-use borrow.Author.Rules.{rules}
 use native.Mathlib.Omega.{arith}
 use Prim.Native.Nat.{◌+◌}
 use Rattle.pair_slots.specs.Leaves.{width-leads, width-none}

@@ -1,6 +1,5 @@
 -- The number above two places is taken out of the link.
 use mathlib.Core.Path.{ap, sym, ◌∙◌}
-use borrow.Author.Rules.{rules}
 use Rattle.pair_storage.specs.Fields.{above_in}
 use Rattle.pair_storage.specs.Entries.{link_at}
 use Rattle.pair_storage.proofs.above_at.Goals as goal

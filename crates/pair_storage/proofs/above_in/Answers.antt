@@ -1,5 +1,4 @@
 -- A shift is a quotient, and a 64-bit number has few.
-use borrow.Author.Rules.{rules}
 use native.Mathlib.Omega.{arith}
 use Rattle.pair_storage.specs.Fields.{above_in}
 use Rattle.pair_storage.proofs.above_in.Goals as goal

@@ -1,9 +1,8 @@
-use Prim.Native.Nat.{◌-◌, ◌≤◌}
-use mathlib.Core.Path.{◌≡◌, ◌∙◌}
+use mathlib.Core.Path.{◌∙◌}
 use borrow.Author.Rules.{rules}
-use lib.ListN.{length, length-set}
+use lib.ListN.{length-set}
 use native.Mathlib.Omega.{arith}
-use Rattle.pair_storage.proofs.Laws.Laying.{laid, laid_none, laid_more, laid-all}
+use Rattle.pair_storage.proofs.Laws.Laying.{laid_none, laid_more, laid-all}
 use Rattle.pair_storage.proofs.lay.Goals as goal
 
 pub loop-i-init : goal.loop-i-init

@@ -1,10 +1,8 @@
 -- The loop's invariant: the first `i` marks are laid. The measure is what is left.
 use Prim.Native.Nat.{◌-◌, ◌≤◌}
-use mathlib.Core.Path.{◌≡◌, ◌∙◌}
-use borrow.Author.Rules.{rules}
-use lib.ListN.{length, length-set}
-use native.Mathlib.Omega.{arith}
-use Rattle.pair_storage.proofs.Laws.Laying.{laid, laid_none, laid_more, laid-all}
+use mathlib.Core.Path.{◌≡◌}
+use lib.ListN.{length}
+use Rattle.pair_storage.proofs.Laws.Laying.{laid}
 use Rattle.pair_storage.proofs.lay.Given as goal
 
 abbrev pub invariant-loop-i : goal.invariant-loop-i

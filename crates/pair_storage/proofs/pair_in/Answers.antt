@@ -1,5 +1,4 @@
 -- What a mask leaves of a link is the higher place, and of the link without it the lower one.
-use borrow.Author.Rules.{rules}
 use Rattle.pair_storage.specs.Fields.{low_in, high_in}
 use Rattle.pair_storage.proofs.Laws.Bounds.{masked}
 use Rattle.pair_storage.proofs.pair_in.Goals as goal

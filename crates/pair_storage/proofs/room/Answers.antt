@@ -1,5 +1,4 @@
 -- The greater of the two numbers, by which of them it is.
-use borrow.Author.Rules.{rules}
 use native.Mathlib.Omega.{arith}
 use Rattle.pair_storage.specs.Rooms.{room_of}
 use Rattle.pair_storage.proofs.room.Goals as goal

@@ -1,5 +1,4 @@
 -- One store of the old mark and the pair's link.
-use borrow.Author.Rules.{rules}
 use Rattle.pair_storage.specs.Stores.{link-written}
 use Rattle.pair_storage.proofs.set_entry.Goals as goal
 

@@ -1,5 +1,4 @@
 -- The two stores are of one pair: its mark is set, and its two places stand in the entry.
-use borrow.Author.Rules.{rules}
 use native.Mathlib.Omega.{arith}
 use Rattle.pair_storage.specs.Stores.{entry-stored, stored}
 use Rattle.pair_storage.proofs.store.Goals as goal

@@ -13,7 +13,7 @@ loop-p-preserved c =
     let l = c.loop-p in
     let args = c.args in
     elim c.if-p-n.branch [
-      then-p-n w ↦ rw w.a-is (filled_more args.v args.n args.a.now l.p (search rules) w.if-p-n.true l.invariant)
+      | then-p-n w ↦ rw w.a-is (filled_more args.v args.n args.a.now l.p (search rules) w.if-p-n.true l.invariant)
       | else-p-n w ↦ rw w.a-is (filled-past args.v args.n args.a.now l.p (search rules) w.if-p-n.false l.invariant)
     ]
 

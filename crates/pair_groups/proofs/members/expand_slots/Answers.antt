@@ -1,11 +1,4 @@
 use borrow.Author.Rules.{rules}
-use mathlib.Core.Path.{◌≡◌}
-use Prim.Native.Nat.{◌-◌}
-use lib.ListN.{length}
-use Rattle.pair_places.specs.Flat.{cell}
-use Rattle.pair_storage.specs.Entries.{node_at, entries_in}
-use Rattle.pair_storage.specs.Marks.{marks}
-use Rattle.pair_groups.specs.Ensured.{Expanding}
 use Rattle.pair_groups.specs.Parts.{space}
 use Rattle.pair_groups.proofs.Laws.Steps.{same_number}
 use Rattle.pair_groups.proofs.Laws.Straights.{slot_next, slot-goal, slots-ended}

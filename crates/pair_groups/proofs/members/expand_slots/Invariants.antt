@@ -1,6 +1,5 @@
 -- `expand_slots` goes through the slots of a member. The invariant: the slots before `slot` are done and the member is still the pair. The measure is what is
 -- left of the slots.
-use borrow.Author.Rules.{rules}
 use mathlib.Core.Path.{◌≡◌}
 use Prim.Native.Nat.{◌-◌}
 use lib.ListN.{length}
@@ -8,9 +7,6 @@ use Rattle.pair_places.specs.Flat.{cell}
 use Rattle.pair_storage.specs.Entries.{node_at, entries_in}
 use Rattle.pair_storage.specs.Marks.{marks}
 use Rattle.pair_groups.specs.Ensured.{Expanding}
-use Rattle.pair_groups.specs.Parts.{space}
-use Rattle.pair_groups.proofs.Laws.Steps.{same_number}
-use Rattle.pair_groups.proofs.Laws.Straights.{slot_next, slot-goal, slots-ended}
 use Rattle.pair_groups.proofs.members.expand_slots.Given as goal
 
 abbrev pub invariant-loop-slot : goal.invariant-loop-slot

@@ -1,13 +1,4 @@
 use borrow.Author.Rules.{rules}
-use mathlib.Core.Path.{◌≡◌}
-use Prim.Native.Nat.{◌+◌, ◌*◌, ◌-◌, ◌≤◌}
-use lib.ListN.{length}
-use Rattle.code.specs.Definitions.Sheets.{limits}
-use Rattle.pair_storage.specs.Entries.{node_at, entries_in}
-use Rattle.pair_storage.specs.Marks.{marks}
-use Rattle.pair_slots.specs.Ensured.{Turned}
-use Rattle.pair_slots.specs.Words.{least_behind}
-use Rattle.pair_groups.specs.Ensured.{Expanding}
 use Rattle.pair_groups.specs.Parts.{space}
 use Rattle.pair_groups.proofs.Laws.Steps.{still-turned}
 use Rattle.pair_groups.proofs.Laws.Words.{leads-comes, word_over, word-begun, words-ordered, word_next, word-goal, word-ended}

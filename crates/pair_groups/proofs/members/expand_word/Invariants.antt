@@ -1,6 +1,5 @@
 -- `expand_word` passes over the slots of a word that does not lead by the symbol. Else it goes through the words in order behind it. The invariant: the slots
 -- before that of the words `x` and `z` are done. The measure is what is left of the words.
-use borrow.Author.Rules.{rules}
 use mathlib.Core.Path.{◌≡◌}
 use Prim.Native.Nat.{◌+◌, ◌*◌, ◌-◌, ◌≤◌}
 use lib.ListN.{length}
@@ -10,9 +9,6 @@ use Rattle.pair_storage.specs.Marks.{marks}
 use Rattle.pair_slots.specs.Ensured.{Turned}
 use Rattle.pair_slots.specs.Words.{least_behind}
 use Rattle.pair_groups.specs.Ensured.{Expanding}
-use Rattle.pair_groups.specs.Parts.{space}
-use Rattle.pair_groups.proofs.Laws.Steps.{still-turned}
-use Rattle.pair_groups.proofs.Laws.Words.{leads-comes, word_over, word-begun, words-ordered, word_next, word-goal, word-ended}
 use Rattle.pair_groups.proofs.members.expand_word.Given as goal
 
 abbrev pub invariant-loop-z : goal.invariant-loop-z

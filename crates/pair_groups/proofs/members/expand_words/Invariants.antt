@@ -1,6 +1,5 @@
 -- `expand_words` goes through the words. The invariant: the slots of the words before `x` are done, and the member still turns. The measure is what is left of
 -- the words.
-use borrow.Author.Rules.{rules}
 use mathlib.Core.Path.{◌≡◌}
 use Prim.Native.Nat.{◌*◌, ◌-◌}
 use lib.ListN.{length}
@@ -9,8 +8,6 @@ use Rattle.pair_storage.specs.Entries.{node_at, entries_in}
 use Rattle.pair_storage.specs.Marks.{marks}
 use Rattle.pair_slots.specs.Ensured.{Turned}
 use Rattle.pair_groups.specs.Ensured.{Expanding}
-use Rattle.pair_groups.specs.Parts.{goal-again, expanding-next}
-use Rattle.pair_groups.proofs.Laws.Words.{words-ended}
 use Rattle.pair_groups.proofs.members.expand_words.Given as goal
 
 abbrev pub invariant-loop-x : goal.invariant-loop-x

@@ -1,6 +1,4 @@
-use borrow.Author.Rules.{rules}
-use Rattle.pair_storage.specs.Entries.{links}
-use Rattle.pair_shortest.specs.Depth.{Counted, count-begin, count-some, count-falls, count_next, count_most, count-end}
+use Rattle.pair_shortest.specs.Depth.{count-begin, count-some, count-falls, count_next, count_most, count-end}
 use native.Mathlib.Omega.{arith}
 use Rattle.pair_shortest.proofs.message.depth.Goals as goal
 

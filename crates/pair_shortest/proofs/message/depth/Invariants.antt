@@ -1,8 +1,6 @@
 -- `depth` counts the steps to the source. The invariant: `count` steps lead from `start` to `index`. The measure is `index`, since `from` leads back.
-use borrow.Author.Rules.{rules}
 use Rattle.pair_storage.specs.Entries.{links}
-use Rattle.pair_shortest.specs.Depth.{Counted, count-begin, count-some, count-falls, count_next, count_most, count-end}
-use native.Mathlib.Omega.{arith}
+use Rattle.pair_shortest.specs.Depth.{Counted}
 use Rattle.pair_shortest.proofs.message.depth.Given as goal
 
 abbrev pub invariant-loop-index : goal.invariant-loop-index

@@ -1,9 +1,5 @@
 use borrow.Author.Rules.{rules}
-use mathlib.Core.Path.{◌≡◌}
-use lib.ListN.{length}
-use Rattle.pair_places.specs.Opens.{open_graph}
-use Rattle.pair_storage.specs.Entries.{entries_in}
-use Rattle.pair_shortest.specs.Spelling.{Filled, fill-begin, fill-some, fill_end}
+use Rattle.pair_shortest.specs.Spelling.{fill-begin, fill-some, fill_end}
 use Rattle.pair_shortest.specs.Writing.{fill-within, fill-place, link-from, link-falls, fill-store}
 use Rattle.pair_shortest.proofs.message.fill.Goals as goal
 

@@ -1,12 +1,10 @@
 -- `fill` stores a label back to front. The invariant: the last symbols are stored from `at` on, and the label of `index` comes before them. The measure is
 -- `index`.
-use borrow.Author.Rules.{rules}
 use mathlib.Core.Path.{◌≡◌}
 use lib.ListN.{length}
 use Rattle.pair_places.specs.Opens.{open_graph}
 use Rattle.pair_storage.specs.Entries.{entries_in}
-use Rattle.pair_shortest.specs.Spelling.{Filled, fill-begin, fill-some, fill_end}
-use Rattle.pair_shortest.specs.Writing.{fill-within, fill-place, link-from, link-falls, fill-store}
+use Rattle.pair_shortest.specs.Spelling.{Filled}
 use Rattle.pair_shortest.proofs.message.fill.Given as goal
 
 abbrev pub invariant-loop-index : goal.invariant-loop-index

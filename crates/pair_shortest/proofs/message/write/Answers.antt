@@ -10,14 +10,13 @@ pub depth-count-requires : goal.depth-count-requires
 depth-count-requires c = (search met-depth, search rules)
 
 pub fill-requires : goal.fill-requires
-fill-requires c =
-    (
-      search rules,
-      search met-spelled,
-      search rules,
-      search rules,
-      omega (arith, length-set c.args.message.now c.depth-count.result c.args.symbol),
-    )
+fill-requires c = (
+  search rules,
+  search met-spelled,
+  search rules,
+  search rules,
+  omega (arith, length-set c.args.message.now c.depth-count.result c.args.symbol),
+)
 
 pub shape_of-message : goal.shape_of-message
 shape_of-message c =

@@ -1,5 +1,4 @@
 -- `leads` is `leads_behind`, by whether the word begins with the symbol.
-use borrow.Author.Rules.{rules}
 use Rattle.pair_slots.specs.Words.{leads-by, leads-other}
 use Rattle.pair_slots.proofs.meeting.leads.Goals as goal
 
