@@ -3,7 +3,7 @@ use Rattle.std.proofs.Common.{length, ◌-◌, ◌≤◌}
 use Rattle.try_messages.proofs.lists.write.Given as goal
 
 abbrev pub invariant-loop-i : goal.invariant-loop-i
-invariant-loop-i g l = l.i ≤ length l.fn.xs.now
+invariant-loop-i g l = l.i ≤ length l.fn.xs
 
 abbrev pub decreases-loop-i : goal.decreases-loop-i
-decreases-loop-i g l = length l.fn.xs.now - l.i
+decreases-loop-i g l = length l.fn.xs - l.i
