@@ -1,0 +1,10 @@
+-- The class sheet is taken in where one is named; else the classes are the built-in ones.
+use borrow.Author.Rules.{rules}
+use Rattle.syllabify.proofs.Laws.Ways.{classes-named, classes-built-in}
+use Rattle.syllabify.proofs.give_classes.Goals as goal
+
+pub returns-then-lettered : goal.returns-then-lettered
+returns-then-lettered c = let a = c.args in classes-named a.lettered a.sheet.now c.if-lettered.true c.take_classes.ensures
+
+pub returns : goal.returns
+returns c = let a = c.args in classes-built-in a.lettered a.sheet.now c.if-lettered.false c.turkish-letters.ensures
