@@ -11,44 +11,44 @@ use Rattle.code.specs.Definitions.Sheets.{limits}
 use Rattle.code.specs.Definitions.Tables.{no_row, table_of}
 use Rattle.code.specs.Definitions.Bans.{Ban, Copy, is_copy, has_copy, is_ban, banned_by, copies_of, copy_at, origin, stands_after, unbanned, may_come}
 use Rattle.code.specs.Laws.Lists.{any-tabulate, any_found}
-use Rattle.ban_theory.specs.CopyLists.{origin-word, stands_word, stands-copy}
+use Rattle.ban_theory.specs.CopyLists.{origin_word, stands_word, stands_copy}
 use Rattle.ban_theory.specs.Triples.{ban_at, bans_from}
 use Rattle.code.specs.Laws.WellFormed.{WellFormed}
 use Rattle.code.specs.Laws.Words.{size-count}
 use Rattle.ban_copies.specs.declared.Copies.{Copies}
-use Rattle.ban_copies.specs.Held.{copy_held, held, Held, origin-at, behind-at, held-is, held-again}
+use Rattle.ban_copies.specs.Held.{copy_held, held, Held, origin_at, behind_at_lem, held_is, held_again}
 
 -- A scan of the copies: none before i is the copy of z after y.
 abbrev pub NoCopy : Copies → ℕ → ℕ → ℕ → Type 0
 NoCopy k y z i = (j : ℕ) → j < i → is_copy y z (copy_held k j) ≡ false
 
 module _ (k : Copies) (y z i : ℕ) {r : Bool} (e : r ≡ is_copy y z (copy_held k i)) where
-  pub copy-found : i < k.number → r ≡ true → true ≡ has_copy (held k) y z
+  pub copy_found : i < k.number → r ≡ true → true ≡ has_copy (held k) y z
   unfolding held has_copy
-  copy-found h q = sym (any_found (is_copy y z) (copy_held k) k.number i h (sym e ∙ q))
+  copy_found h q = sym (any_found (is_copy y z) (copy_held k) k.number i h (sym e ∙ q))
 
   pub copy_passed : NoCopy k y z i → r ≡ false → NoCopy k y z (i + 1)
   copy_passed before q = below_more _ i before (sym e ∙ q)
 
-pub copy-none : (k : Copies) (y z i : ℕ) → NoCopy k y z i → k.number ≤ i → false ≡ has_copy (held k) y z
+pub copy_none : (k : Copies) (y z i : ℕ) → NoCopy k y z i → k.number ≤ i → false ≡ has_copy (held k) y z
 unfolding held has_copy
-copy-none k y z i before h = sym (any-tabulate (is_copy y z) (copy_held k) k.number (λ j l. before j (omega arith)))
+copy_none k y z i before h = sym (any-tabulate (is_copy y z) (copy_held k) k.number (λ j l. before j (omega arith)))
 
 -- A scan of the bans: none before i is on x after y then z.
 abbrev pub NoBan : List ℕ → ℕ → ℕ → ℕ → ℕ → Type 0
 NoBan l x y z i = (j : ℕ) → j < i → is_ban x y z (ban_at l j) ≡ false
 
 module _ (l : List ℕ) (x y z i : ℕ) {r : Bool} (e : r ≡ is_ban x y z (ban_at l i)) where
-  pub ban-found : (n : ℕ) → i < n → r ≡ true → true ≡ banned_by (bans_from l n) x y z
+  pub ban_found : (n : ℕ) → i < n → r ≡ true → true ≡ banned_by (bans_from l n) x y z
   unfolding bans_from banned_by
-  ban-found n h q = sym (any_found (is_ban x y z) (ban_at l) n i h (sym e ∙ q))
+  ban_found n h q = sym (any_found (is_ban x y z) (ban_at l) n i h (sym e ∙ q))
 
-  pub ban-passed : NoBan l x y z i → r ≡ false → NoBan l x y z (i + 1)
-  ban-passed before q = below_more _ i before (sym e ∙ q)
+  pub ban_passed : NoBan l x y z i → r ≡ false → NoBan l x y z (i + 1)
+  ban_passed before q = below_more _ i before (sym e ∙ q)
 
-pub ban-none : (l : List ℕ) (n x y z i : ℕ) → NoBan l x y z i → n ≤ i → false ≡ banned_by (bans_from l n) x y z
+pub ban_none : (l : List ℕ) (n x y z i : ℕ) → NoBan l x y z i → n ≤ i → false ≡ banned_by (bans_from l n) x y z
 unfolding bans_from banned_by
-ban-none l n x y z i before h = sym (any-tabulate (is_ban x y z) (ban_at l) n (λ j m. before j (omega arith)))
+ban_none l n x y z i before h = sym (any-tabulate (is_ban x y z) (ban_at l) n (λ j m. before j (omega arith)))
 
 -- Behind a word of n nothing is banned; behind a copy, what the bans say.
 unfoldable pub allowed : ℕ → List Ban → ℕ → ℕ → Bool
@@ -78,7 +78,7 @@ asked {l} {bans} {k} {x} {y} h w a b =
     let m = h.most in
     record {
       arrays = h;
-      own = held-again h;
+      own = held_again h;
       within = w;
       next = a;
       last = b;
@@ -87,58 +87,58 @@ asked {l} {bans} {k} {x} {y} h w a b =
 
 -- The copies let x stand after y.
 module _ {k : Copies} {x : ℕ} {r : Bool} (y : ℕ) (h : Held k.originals (held k) k) where
-  pub stands-itself : x < k.originals → r ≡ has_copy (held k) y (get_or k.origins x 0) → not r ≡ stands_after k.originals (held k) x y
-  stands-itself l e =
+  pub stands_itself : x < k.originals → r ≡ has_copy (held k) y (get_or k.origins x 0) → not r ≡ stands_after k.originals (held k) x y
+  stands_itself l e =
       let m = h.most in
-      ap not (e ∙ ap (has_copy (held k) y) (origin-at h x (omega arith) ∙ origin-word k.originals (held k) x l)) ∙ sym (stands_word k.originals (held k) x y l)
+      ap not (e ∙ ap (has_copy (held k) y) (origin_at h x (omega arith) ∙ origin_word k.originals (held k) x l)) ∙ sym (stands_word k.originals (held k) x y l)
 
-pub stands-behind : {k : Copies} {x : ℕ} (y : ℕ) → Held k.originals (held k) k → (x < k.originals → ⊥) → x < k.originals + k.number
+pub stands_behind : {k : Copies} {x : ℕ} (y : ℕ) → Held k.originals (held k) k → (x < k.originals → ⊥) → x < k.originals + k.number
     → eqb (get_or k.behind x 0) y ≡ stands_after k.originals (held k) x y
-stands-behind {k} {x} y h l b =
+stands_behind {k} {x} y h l b =
     let m = h.most in
     let n = h.number in
     let far : k.originals ≤ x = omega arith in
-    ap (λ (v : ℕ). eqb v y) (behind-at h x (omega arith) ∙ rw (le-ltb x k.originals far)) ∙ sym (stands-copy k.originals (held k) x y far)
+    ap (λ (v : ℕ). eqb v y) (behind_at_lem h x (omega arith) ∙ rw (le-ltb x k.originals far)) ∙ sym (stands_copy k.originals (held k) x y far)
 
 module _ {l : List ℕ} {bans : ℕ} {k : Copies} {x y : ℕ} (a : Asked l bans k x y) where
-  pub allowed-word : y < k.originals → true ≡ allowed k.originals (bans_from l bans) x y
+  pub allowed_word : y < k.originals → true ≡ allowed k.originals (bans_from l bans) x y
   unfolding allowed
-  allowed-word h = rw (lt-ltb y k.originals h)
+  allowed_word h = rw (lt-ltb y k.originals h)
 
-  pub allowed-copy : {r : Bool} → (y < k.originals → ⊥) → r ≡ banned_by (bans_from l bans) (get_or k.origins x 0) (get_or k.behind y 0) (get_or k.origins y 0)
+  pub allowed_copy : {r : Bool} → (y < k.originals → ⊥) → r ≡ banned_by (bans_from l bans) (get_or k.origins x 0) (get_or k.behind y 0) (get_or k.origins y 0)
       → not r ≡ allowed k.originals (bans_from l bans) x y
   unfolding allowed
-  allowed-copy h e =
+  allowed_copy h e =
       let far : ltb y k.originals ≡ false = le-ltb y k.originals (omega arith) in
       let m = a.most in
       let i = a.next in
       let j = a.last in
-      let b : get_or k.behind y 0 ≡ (copy_at k.originals (copies_of (bans_from l bans)) y).behind = behind-at a.arrays y (omega arith) ∙ rw far in
-      ap not e ∙ rw (far, origin-at a.arrays x (omega arith), b, origin-at a.arrays y (omega arith))
+      let b : get_or k.behind y 0 ≡ (copy_at k.originals (copies_of (bans_from l bans)) y).behind = behind_at_lem a.arrays y (omega arith) ∙ rw far in
+      ap not e ∙ rw (far, origin_at a.arrays x (omega arith), b, origin_at a.arrays y (omega arith))
 
   -- o is the word of y, and e the row of the word of x.
   module _ (e : List ℕ) {o : ℕ} (word : o ≡ get_or k.origins y 0) where
     column : origin k.originals (copies_of (bans_from l bans)) y ≡ o
-    column = let m = a.most in let j = a.last in sym (word ∙ origin-at a.arrays y (omega arith))
+    column = let m = a.most in let j = a.last in sym (word ∙ origin_at a.arrays y (omega arith))
 
-    pub comes-not : (get_or e o 0 ≡ 1 → ⊥) → false ≡ comes e k.originals (bans_from l bans) x y
+    pub comes_not : (get_or e o 0 ≡ 1 → ⊥) → false ≡ comes e k.originals (bans_from l bans) x y
     unfolding comes
-    comes-not h = rw (column, ne_eqb (get_or e o 0) 1 h)
+    comes_not h = rw (column, ne_eqb (get_or e o 0) 1 h)
 
     module _ (f : get_or e o 0 ≡ 1) {r : Bool} (s : r ≡ stands_after k.originals (held k) x o) where
-      stands-is : stands_after k.originals (copies_of (bans_from l bans)) x o ≡ r
-      stands-is = ap (λ (cs : List Copy). stands_after k.originals cs x o) (sym (held-is a.arrays)) ∙ sym s
+      stands_is : stands_after k.originals (copies_of (bans_from l bans)) x o ≡ r
+      stands_is = ap (λ (cs : List Copy). stands_after k.originals cs x o) (sym (held_is a.arrays)) ∙ sym s
 
-      pub comes-elsewhere : r ≡ false → false ≡ comes e k.originals (bans_from l bans) x y
+      pub comes_elsewhere : r ≡ false → false ≡ comes e k.originals (bans_from l bans) x y
       unfolding comes
-      comes-elsewhere q = rw (column, eq-eqb (get_or e o 0) 1 f, stands-is, q)
+      comes_elsewhere q = rw (column, eq-eqb (get_or e o 0) 1 f, stands_is, q)
 
       pub comes-allowed : {q : Bool} → r ≡ true → q ≡ allowed k.originals (bans_from l bans) x y → q ≡ comes e k.originals (bans_from l bans) x y
       unfolding comes
-      comes-allowed p t = rw (column, eq-eqb (get_or e o 0) 1 f, stands-is, p) t
+      comes-allowed p t = rw (column, eq-eqb (get_or e o 0) 1 f, stands_is, p) t
 
 -- The rows of a code tell what its table permits.
-pub comes-may : {c : Code} (bs : List Ban) (x y : ℕ) → WellFormed limits c
+pub comes_may : {c : Code} (bs : List Ban) (x y : ℕ) → WellFormed limits c
     → may_come (table_of c) (copies_of bs) (banned_by bs) x y ≡ comes (get_or c.rows (origin c.count (copies_of bs) x) no_row).entries c.count bs x y
 unfolding may_come comes unbanned allowed origin stands_after
-comes-may bs x y well = rw (size-count well)
+comes_may bs x y well = rw (size-count well)

@@ -20,7 +20,7 @@ use Rattle.ban_list.specs.declared.BanList.TheVariants.{Wrong, Bans}
 use Rattle.ban_list.specs.Ensured.{Listed, wrong, bans}
 use Rattle.ban_theory.specs.BanLists.{Known}
 use Rattle.ban_theory.specs.Triples.{bans_from}
-use Rattle.ban_writing.specs.Named.{listed-known}
+use Rattle.ban_writing.specs.Named.{listed_known}
 use Rattle.code.specs.Laws.Exactly.{Exactly}
 use Rattle.well_formed.specs.Given.{well}
 use Rattle.code.specs.Laws.WellFormed.{WellFormed}
@@ -31,48 +31,48 @@ refused_list l r = record { answer = Refused r; enlarged = blank_enlarged l }
 
 -- What reading a list says.
 module _ {b : Bool} {bs : List Ban} {numbers : List ℕ} where
-  pub was-wrong : {r : BanList} → Listed b bs numbers r → r ≡ Wrong → b ≡ true
-  was-wrong (wrong h) e = h
-  was-wrong (bans h d w) e = let y : ◌≡◌ {A = ℕ} 0 1 = cc in absurd (omega arith)
+  pub was_wrong : {r : BanList} → Listed b bs numbers r → r ≡ Wrong → b ≡ true
+  was_wrong (wrong h) e = h
+  was_wrong (bans h d w) e = let y : ◌≡◌ {A = ℕ} 0 1 = cc in absurd (omega arith)
 
-  pub was-bans : {r : BanList} {k : ℕ} → Listed b bs numbers r → r ≡ Bans k → (b ≡ false) × (bans_from numbers k ≡ bs) × (3 * k ≤ length numbers)
-  was-bans (wrong h) e = let y : ◌≡◌ {A = ℕ} 0 1 = cc in absurd (omega arith)
-  was-bans {k = k} (bans {k = j} h d w) e =
+  pub was_bans : {r : BanList} {k : ℕ} → Listed b bs numbers r → r ≡ Bans k → (b ≡ false) × (bans_from numbers k ≡ bs) × (3 * k ≤ length numbers)
+  was_bans (wrong h) e = let y : ◌≡◌ {A = ℕ} 0 1 = cc in absurd (omega arith)
+  was_bans {k = k} (bans {k = j} h d w) e =
       let z : j ≡ k = cc in
       (h, rw z at d, rw z at w)
 
-  pub bans-within : {r : BanList} {k : ℕ} → Listed b bs numbers r → r ≡ Bans k → 3 * k ≤ length numbers
-  bans-within d e = (was-bans d e).2
+  pub bans_within : {r : BanList} {k : ℕ} → Listed b bs numbers r → r ≡ Bans k → 3 * k ≤ length numbers
+  bans_within d e = (was_bans d e).2
 
 -- A table without copies is well-formed, of few words, and an accepted list bans words of it.
-pub plain-few : {e : Enlarged} {a : Bool} → Exactly a (WithoutCopies limits e) → not a ≡ false → e.code.count ≤ 256
-plain-few {a = a} t h = omega (arith, (well (t.yes (not-false a h)).given).most)
+pub plain_few : {e : Enlarged} {a : Bool} → Exactly a (WithoutCopies limits e) → not a ≡ false → e.code.count ≤ 256
+plain_few {a = a} t h = omega (arith, (well (t.yes (not-false a h)).given).most)
 
-pub plain-formed : {l : Limits} {e : Enlarged} {a : Bool} → Exactly a (WithoutCopies l e) → not a ≡ false → WellFormed l e.code
-plain-formed {a = a} t h = well (t.yes (not-false a h)).given
+pub plain_formed : {l : Limits} {e : Enlarged} {a : Bool} → Exactly a (WithoutCopies l e) → not a ≡ false → WellFormed l e.code
+plain_formed {a = a} t h = well (t.yes (not-false a h)).given
 
-pub bans-known : (n : ℕ) (s : List ℕ) {numbers : List ℕ} {r : BanList} {k : ℕ} → Listed (refused16 n s) (bans_of s) numbers r → r ≡ Bans k → Known n (bans_from numbers k)
-bans-known n s d e = let b = was-bans d e in rw b.1 (listed-known n s b.0)
+pub bans_known : (n : ℕ) (s : List ℕ) {numbers : List ℕ} {r : BanList} {k : ℕ} → Listed (refused16 n s) (bans_of s) numbers r → r ≡ Bans k → Known n (bans_from numbers k)
+bans_known n s d e = let b = was_bans d e in rw b.1 (listed_known n s b.0)
 
 module _ {l : Limits} {e : Enlarged} {s : List ℕ} {x : Enlargement} where
   pub way_long : l.bytes < length s → x ≡ refused_list l SheetLength → Enlarges l e s x
   way_long h d = refused (inl (h, refl)) d
 
   module _ (short : length s ≤ l.bytes) {a : Bool} (plain : Exactly a (WithoutCopies l e)) where
-    pub way-copies : not a ≡ true → x ≡ refused_list l NotFromSheet → Enlarges l e s x
-    way-copies h d = refused (inr ((λ n. omega arith), inl (plain.no (not-true a h), refl))) d
+    pub way_copies : not a ≡ true → x ≡ refused_list l NotFromSheet → Enlarges l e s x
+    way_copies h d = refused (inr ((λ n. omega arith), inl (plain.no (not-true a h), refl))) d
 
     module _ (h : not a ≡ false) where
-      pub way-wrong : {numbers : List ℕ} {r : BanList} → Listed (refused16 e.code.count s) (bans_of s) numbers r → r ≡ Wrong → x ≡ refused_list l BanRecord → Enlarges l e s x
-      way-wrong i j d = let w = was-wrong i j in refused (inr ((λ n. omega arith), inr ((λ n. n (plain.yes (not-false a h))), inl (w, refl)))) d
+      pub way_wrong : {numbers : List ℕ} {r : BanList} → Listed (refused16 e.code.count s) (bans_of s) numbers r → r ≡ Wrong → x ≡ refused_list l BanRecord → Enlarges l e s x
+      way_wrong i j d = let w = was_wrong i j in refused (inr ((λ n. omega arith), inr ((λ n. n (plain.yes (not-false a h))), inl (w, refl)))) d
 
-      pub way-bans : {numbers : List ℕ} {r : BanList} {k : ℕ} → Listed (refused16 e.code.count s) (bans_of s) numbers r → r ≡ Bans k
+      pub way_bans : {numbers : List ℕ} {r : BanList} {k : ℕ} → Listed (refused16 e.code.count s) (bans_of s) numbers r → r ≡ Bans k
           → x ≡ enlargement l e.code (bans_from numbers k) → Enlarges l e s x
       unfolding enlargement
-      way-bans i j d = let b = was-bans i j in by (refused17 l e.code (bans_of s)) refl (rw b.1 at d)
+      way_bans i j d = let b = was_bans i j in by (refused17 l e.code (bans_of s)) refl (rw b.1 at d)
         where
           right : refused16 e.code.count s ≡ true → ⊥
-          right q = true≢false (sym q ∙ (was-bans i j).0)
+          right q = true≢false (sym q ∙ (was_bans i j).0)
 
           by : (t : Bool) → refused17 l e.code (bans_of s) ≡ t → x ≡ (if t then refused_list l BanLimit else record { answer = Accepted; enlarged = enlarged_code l e.code (bans_of s) })
               → Enlarges l e s x

@@ -8,11 +8,11 @@ use Rattle.std.proofs.lemmas.Bool.{eqb-false, not-true, not-false}
 use Rattle.code.specs.Definitions.Lists.{any, every}
 use Rattle.code.specs.Definitions.BanLists.{number_of, is_number, bad_ban}
 use Rattle.code.specs.Laws.Clean.{Clean, record_fields}
-use Rattle.code.specs.Laws.Lists.{or-neither}
+use Rattle.code.specs.Laws.Lists.{or_neither}
 use Rattle.csv_records.specs.Fields.{leading}
-use Rattle.csv_records.specs.Front.{Next, rest_of, comma-within, first_field-law, joined, any-first, record-goes-on, record-ends}
+use Rattle.csv_records.specs.Front.{Next, rest_of, comma_within, first_field_lem, joined, any_first, record_goes_on, record_ends}
 use Rattle.ban_list.specs.declared.fields.Field.{Field}
-use Rattle.ban_list.specs.Numbers.{number_in, number-some, number_read, number-wrong}
+use Rattle.ban_list.specs.Numbers.{number_in, number_some, number_read, number_wrong}
 use Rattle.ban_list.specs.Ensured.{FieldAt, BanFrom}
 
 -- Three numbers that were read are no ban.
@@ -29,13 +29,13 @@ module _ (n : ℕ) (f g h : List ℕ) where
   unfolding bad_ban
   two_fields = refl
 
-  many-fields : (i : List ℕ) (r : List (List ℕ)) → bad_ban n (f ∷ g ∷ h ∷ i ∷ r) ≡ true
+  many_fields : (i : List ℕ) (r : List (List ℕ)) → bad_ban n (f ∷ g ∷ h ∷ i ∷ r) ≡ true
   unfolding bad_ban
-  many-fields i r = rw (ne_eqb (length (f ∷ g ∷ h ∷ i ∷ r)) 3 (λ q. omega arith))
+  many_fields i r = rw (ne_eqb (length (f ∷ g ∷ h ∷ i ∷ r)) 3 (λ q. omega arith))
 
-  three-fields : bad_ban n (f ∷ g ∷ h ∷ []) ≡ wrong_numbers n (number_in n f) (number_in n g) (number_in n h)
+  three_fields : bad_ban n (f ∷ g ∷ h ∷ []) ≡ wrong_numbers n (number_in n f) (number_in n g) (number_in n h)
   unfolding bad_ban every
-  three-fields = rw (number-wrong n f, number-wrong n g, number-wrong n h) (go (is_number n f) (is_number n g) (is_number n h) refl refl)
+  three_fields = rw (number_wrong n f, number_wrong n g, number_wrong n h) (go (is_number n f) (is_number n g) (is_number n h) refl refl)
     where
       go : (t u v : Bool) → is_number n g ≡ u → is_number n h ≡ v
           → (not (t && (u && (v && true))) || eqb (number_of g) (number_of h)) ≡ (not t || not u || not v || eqb (number_in n g) (number_in n h))
@@ -45,32 +45,32 @@ module _ (n : ℕ) (f g h : List ℕ) where
       go true true true p q = rw (number_read n g p, number_read n h q)
 
 -- a field that is not the last has a comma behind it, and another field behind that
-a-comma : (n : ℕ) (s : List ℕ) (from : ℕ) (f : Field) → FieldAt n s from f → f.last ≡ false → get_or s f.end 0 ≡ 44
-a-comma n s from f a t = eqb-true (get_or s f.end 0) 44 (not-false (eqb (get_or s f.end 0) 44) (sym a.stands ∙ t))
+a_comma : (n : ℕ) (s : List ℕ) (from : ℕ) (f : Field) → FieldAt n s from f → f.last ≡ false → get_or s f.end 0 ≡ 44
+a_comma n s from f a t = eqb-true (get_or s f.end 0) 44 (not-false (eqb (get_or s f.end 0) 44) (sym a.stands ∙ t))
 
 pub field_next : {n : ℕ} {s : List ℕ} {from : ℕ} {f : Field} → FieldAt n s from f → f.last ≡ false → f.end + 1 ≤ length s
-field_next {n} {s} {from} {f} a t = let h = comma-within s f.end (a-comma n s from f a t) in omega arith
+field_next {n} {s} {from} {f} a t = let h = comma_within s f.end (a_comma n s from f a t) in omega arith
 
 -- One field of a clean list.
 module _ (n : ℕ) (s : List ℕ) (from : ℕ) (f : Field) (c : Clean (drop from s)) (a : FieldAt n s from f) where
   goes_on : f.last ≡ false → Next (record_fields (drop from s)) (leading (drop from s)) (drop (f.end + 1) s)
-  goes_on t = (record-goes-on s from f.end c a.ends (a-comma n s from f a t)).0
+  goes_on t = (record_goes_on s from f.end c a.ends (a_comma n s from f a t)).0
 
   stops : f.last ≡ true
       → (record_fields (drop from s) ≡ (leading (drop from s) ∷ []) ∷ rest_of s (f.end + 2)) × (f.end + 2 ≤ length s → Clean (drop (f.end + 2) s))
-  stops t = record-ends s from f.end c a.ends (eqb-false (get_or s f.end 0) 44 (not-true (eqb (get_or s f.end 0) 44) (sym a.stands ∙ t)))
+  stops t = record_ends s from f.end c a.ends (eqb-false (get_or s f.end 0) 44 (not-true (eqb (get_or s f.end 0) 44) (sym a.stands ∙ t)))
 
   -- a number that was read
-  number-here : leb n f.number ≡ false → is_number n (leading (drop from s)) ≡ true
-  number-here e = not-false (is_number n (leading (drop from s))) (sym (number-wrong n (leading (drop from s))) ∙ (rw a.read at e))
+  number_here : leb n f.number ≡ false → is_number n (leading (drop from s)) ≡ true
+  number_here e = not-false (is_number n (leading (drop from s))) (sym (number_wrong n (leading (drop from s))) ∙ (rw a.read at e))
 
   number_same : leb n f.number ≡ false → number_of (leading (drop from s)) ≡ f.number
-  number_same e = sym (a.read ∙ number_read n (leading (drop from s)) (number-here e))
+  number_same e = sym (a.read ∙ number_read n (leading (drop from s)) (number_here e))
 
 -- The record that begins at `from`, in each of the ways that its fields can go.
 module _ (n : ℕ) (s : List ℕ) (from : ℕ) (c : Clean (drop from s)) (f : Field) (a : FieldAt n s from f) where
-  pub ends-first : f.last ≡ true → any (bad_ban n) (record_fields (drop from s)) ≡ true
-  ends-first t = any-first (bad_ban n) (leading (drop from s) ∷ []) (rest_of s (f.end + 2)) (stops n s from f c a t).0 (one_field n (leading (drop from s)) [] [])
+  pub ends_first : f.last ≡ true → any (bad_ban n) (record_fields (drop from s)) ≡ true
+  ends_first t = any_first (bad_ban n) (leading (drop from s) ∷ []) (rest_of s (f.end + 2)) (stops n s from f c a t).0 (one_field n (leading (drop from s)) [] [])
 
   module _ (t : f.last ≡ false) (g : Field) (b : FieldAt n s (f.end + 1) g) where
     first : Next (record_fields (drop from s)) (leading (drop from s)) (drop (f.end + 1) s)
@@ -79,9 +79,9 @@ module _ (n : ℕ) (s : List ℕ) (from : ℕ) (c : Clean (drop from s)) (f : Fi
     from_first : (r : List (List ℕ)) (l : List (List (List ℕ))) → record_fields (drop (f.end + 1) s) ≡ r ∷ l → record_fields (drop from s) ≡ (leading (drop from s) ∷ r) ∷ l
     from_first r l = joined (leading (drop from s)) (record_fields (drop (f.end + 1) s)) r l first.same
 
-    pub ends-second : g.last ≡ true → any (bad_ban n) (record_fields (drop from s)) ≡ true
-    ends-second u =
-        any-first (bad_ban n) (leading (drop from s) ∷ leading (drop (f.end + 1) s) ∷ []) (rest_of s (g.end + 2))
+    pub ends_second : g.last ≡ true → any (bad_ban n) (record_fields (drop from s)) ≡ true
+    ends_second u =
+        any_first (bad_ban n) (leading (drop from s) ∷ leading (drop (f.end + 1) s) ∷ []) (rest_of s (g.end + 2))
         (from_first (leading (drop (f.end + 1) s) ∷ []) (rest_of s (g.end + 2)) (stops n s (f.end + 1) g first.clean b u).0)
         (two_fields n (leading (drop from s)) (leading (drop (f.end + 1) s)) [])
 
@@ -94,14 +94,14 @@ module _ (n : ℕ) (s : List ℕ) (from : ℕ) (c : Clean (drop from s)) (f : Fi
       from_second r l e =
           from_first (leading (drop (f.end + 1) s) ∷ r) l (joined (leading (drop (f.end + 1) s)) (record_fields (drop (g.end + 1) s)) r l second.same e)
 
-      pub goes-past : not h.last ≡ true → any (bad_ban n) (record_fields (drop from s)) ≡ true
-      goes-past v =
+      pub goes_past : not h.last ≡ true → any (bad_ban n) (record_fields (drop from s)) ≡ true
+      goes_past v =
           let rest = record_fields (drop (h.end + 1) s) in
           let next = goes_on n s (g.end + 1) h second.clean d (not-true h.last v) in
-          any-first (bad_ban n) (leading (drop from s) ∷ leading (drop (f.end + 1) s) ∷ leading (drop (g.end + 1) s) ∷ get_or rest 0 []) (drop 1 rest)
+          any_first (bad_ban n) (leading (drop from s) ∷ leading (drop (f.end + 1) s) ∷ leading (drop (g.end + 1) s) ∷ get_or rest 0 []) (drop 1 rest)
           (from_second (leading (drop (g.end + 1) s) ∷ get_or rest 0 []) (drop 1 rest) next.same)
-          (rw (first_field-law next.clean)
-          (many-fields n (leading (drop from s)) (leading (drop (f.end + 1) s)) (leading (drop (g.end + 1) s)) (leading (drop (h.end + 1) s)) (drop 1 (get_or rest 0 []))))
+          (rw (first_field_lem next.clean)
+          (many_fields n (leading (drop from s)) (leading (drop (f.end + 1) s)) (leading (drop (g.end + 1) s)) (leading (drop (h.end + 1) s)) (drop 1 (get_or rest 0 []))))
 
       module _ (v : not h.last ≡ false) where
         abbrev three : List (List ℕ)
@@ -112,17 +112,17 @@ module _ (n : ℕ) (s : List ℕ) (from : ℕ) (c : Clean (drop from s)) (f : Fi
 
         judged : bad_ban n three ≡ wrong_numbers n f.number g.number h.number
         judged =
-            three-fields n (leading (drop from s)) (leading (drop (f.end + 1) s)) (leading (drop (g.end + 1) s)) ∙ rw (a.read, b.read, d.read)
+            three_fields n (leading (drop from s)) (leading (drop (f.end + 1) s)) (leading (drop (g.end + 1) s)) ∙ rw (a.read, b.read, d.read)
 
-        pub no-ban : {t : Bool} → t ≡ wrong_numbers n f.number g.number h.number → t ≡ true → any (bad_ban n) (record_fields (drop from s)) ≡ true
-        no-ban w e = any-first (bad_ban n) three (rest_of s (h.end + 2)) third (judged ∙ sym w ∙ e)
+        pub no_ban : {t : Bool} → t ≡ wrong_numbers n f.number g.number h.number → t ≡ true → any (bad_ban n) (record_fields (drop from s)) ≡ true
+        no_ban w e = any_first (bad_ban n) three (rest_of s (h.end + 2)) third (judged ∙ sym w ∙ e)
 
-        pub one-ban : {t : Bool} → t ≡ wrong_numbers n f.number g.number h.number → t ≡ false → BanFrom n s from f.number g.number h.number (h.end + 2)
-        one-ban w z =
+        pub one_ban : {t : Bool} → t ≡ wrong_numbers n f.number g.number h.number → t ≡ false → BanFrom n s from f.number g.number h.number (h.end + 2)
+        one_ban w z =
             let e = sym w ∙ z in
-            let p = (or-neither (leb n f.number || leb n g.number || leb n h.number) (eqb g.number h.number) e).0 in
-            let q = or-neither (leb n f.number || leb n g.number) (leb n h.number) p in
-            let r = or-neither (leb n f.number) (leb n g.number) q.0 in
+            let p = (or_neither (leb n f.number || leb n g.number || leb n h.number) (eqb g.number h.number) e).0 in
+            let q = or_neither (leb n f.number || leb n g.number) (leb n h.number) p in
+            let r = or_neither (leb n f.number) (leb n g.number) q.0 in
             record {
               fields = three;
               first = third;
@@ -130,8 +130,8 @@ module _ (n : ℕ) (s : List ℕ) (from : ℕ) (c : Clean (drop from s)) (f : Fi
               same = rw (number_same n s from f c a r.0, number_same n s (f.end + 1) g first.clean b r.1, number_same n s (g.end + 1) h second.clean d q.1);
               clean = (stops n s (g.end + 1) h second.clean d (not-false h.last v)).1;
               low_x = leb-false n f.number r.0;
-              low-y = leb-false n g.number r.1;
-              low-z = leb-false n h.number q.1;
-              long = omega (arith, a.ends, b.ends, d.ends, number-some n (leading (drop (g.end + 1) s)) (number-here n s (g.end + 1) h second.clean d q.1));
+              low_y = leb-false n g.number r.1;
+              low_z = leb-false n h.number q.1;
+              long = omega (arith, a.ends, b.ends, d.ends, number_some n (leading (drop (g.end + 1) s)) (number_here n s (g.end + 1) h second.clean d q.1));
               within = omega (arith, d.within);
             }

@@ -29,8 +29,8 @@ pub record BanFrom (n : ℕ) (s : List ℕ) (from x y z next : ℕ) : Type 0 whe
   pub same : ban_of fields ≡ record { x = x; y = y; z = z }
   pub clean : next ≤ length s → Clean (drop next s)
   pub low_x : x < n
-  pub low-y : y < n
-  pub low-z : z < n
+  pub low_y : y < n
+  pub low_z : z < n
   pub long : from + 5 ≤ next
   pub within : next ≤ length s + 2
 
@@ -42,9 +42,9 @@ pub data RecordFrom (n : ℕ) (s : List ℕ) (from : ℕ) : Record → Type 0 wh
 -- There is room for a ban of three bytes behind k others.
 pub record Room (numbers : List ℕ) (k x y z : ℕ) : Type 0 where
   pub wide : 3 * k + 3 ≤ length numbers
-  pub byte-x : x < 256
-  pub byte-y : y < 256
-  pub byte-z : z < 256
+  pub byte_x : x < 256
+  pub byte_y : y < 256
+  pub byte_z : z < 256
 
 -- One ban more is stored behind k.
 pub record Stored (old : List ℕ) (k x y z : ℕ) (new : List ℕ) : Type 0 where

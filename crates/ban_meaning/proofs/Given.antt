@@ -13,29 +13,29 @@ use Rattle.code.specs.Definitions.Enlarged.{plain_of, enlarged_code, original_ta
 use Rattle.code.specs.Definitions.Operations.{Enlarges, refused, enlarged, FromLists}
 use Rattle.ban_theory.specs.Covers.{Cover}
 use Rattle.well_enlarged.specs.FromBans.{FromBans}
-use Rattle.well_enlarged.specs.Made.{from-bans}
-use Rattle.well_enlarged.specs.Back.{original-size}
-use Rattle.well_enlarged.specs.Meaning.{Covers, value-covers, bans-covers, bans-permitted}
-use Rattle.well_enlarged.specs.Listed.{given_by, accepted-never}
+use Rattle.well_enlarged.specs.Made.{from_bans}
+use Rattle.well_enlarged.specs.Back.{original_size}
+use Rattle.well_enlarged.specs.Meaning.{Covers, value_covers, bans_covers, bans_permitted}
+use Rattle.well_enlarged.specs.Listed.{given_by, accepted_never}
 use Rattle.well_formed.specs.Given.{well}
 use Rattle.code.specs.Laws.WellFormed.{WellFormed}
 use Rattle.code.specs.Laws.Words.{size-count}
-use Rattle.ban_meaning.specs.Alike.{Alike, same_size, same-message}
-use Rattle.ban_meaning.specs.OneToOne.{OneToOne, originals, numbers, covers-match}
+use Rattle.ban_meaning.specs.Alike.{Alike, same_size, same_message}
+use Rattle.ban_meaning.specs.OneToOne.{OneToOne, originals, numbers, covers_match}
 use Rattle.ban_meaning.specs.Given.{table_with}
 
 -- Tables of one size that one table covers, by the same names, have the same words.
-same-words : {d t u : Table} {name start : ℕ → ℕ} {after : ℕ → ℕ → ℕ} → Cover d t name start after → Cover d u name start after → size t ≡ size u → t.words ≡ u.words
-same-words {d} {t} {u} {name} {start} c k long =
-    ext_get_or [] t.words u.words long (λ x h. sym (in-cover c x h) ∙ in-cover k x (rw (sym long) h))
+same_words : {d t u : Table} {name start : ℕ → ℕ} {after : ℕ → ℕ → ℕ} → Cover d t name start after → Cover d u name start after → size t ≡ size u → t.words ≡ u.words
+same_words {d} {t} {u} {name} {start} c k long =
+    ext_get_or [] t.words u.words long (λ x h. sym (in_cover c x h) ∙ in_cover k x (rw (sym long) h))
   where
-    in-cover : {v : Table} {after : ℕ → ℕ → ℕ} → Cover d v name start after → (x : ℕ) → x < size v → word d (start x) ≡ word v x
-    in-cover {v} m x h = m.words (start x) (m.start-known x h) ∙ ap (word v) (m.start-named x h)
+    in_cover : {v : Table} {after : ℕ → ℕ → ℕ} → Cover d v name start after → (x : ℕ) → x < size v → word d (start x) ≡ word v x
+    in_cover {v} m x h = m.words (start x) (m.start_known x h) ∙ ap (word v) (m.start_named x h)
 
 -- Bans do not change messages.
-bans-message : (t : Table) (b : ℕ → ℕ → ℕ → Bool) (s : List ℕ) → message (with_bans t b) s ≡ message t s
-bans-message t b [] = refl
-bans-message t b (x ∷ s) = ap (λ (m : List ℕ). word t x ++ m) (bans-message t b s)
+bans_message : (t : Table) (b : ℕ → ℕ → ℕ → Bool) (s : List ℕ) → message (with_bans t b) s ≡ message t s
+bans_message t b [] = refl
+bans_message t b (x ∷ s) = ap (λ (m : List ℕ). word t x ++ m) (bans_message t b s)
 
 -- the table that a value was made of, with its bans
 abbrev bans_table : {l : Limits} {e : Enlarged} → FromBans l e → Table
@@ -46,40 +46,40 @@ module _ {l : Limits} {e : Enlarged} (g : FromBans l e) where
   unfolding enlarged_code
   originals-count = sym (ap (λ (d : Enlarged). d.originals) g.same)
 
-  bans-size : size (original_table e) ≡ size (bans_table g)
-  bans-size = original-size (from-bans g) ∙ originals-count ∙ sym (size-count g.given)
+  bans_size : size (original_table e) ≡ size (bans_table g)
+  bans_size = original_size (from_bans g) ∙ originals-count ∙ sym (size-count g.given)
 
-  pub bans-alike : Alike (original_table e) (bans_table g)
-  bans-alike = record { words = same-words (value-covers (from-bans g)) (bans-covers g) bans-size; permitted = λ s. bans-permitted g }
+  pub bans_alike : Alike (original_table e) (bans_table g)
+  bans_alike = record { words = same_words (value_covers (from_bans g)) (bans_covers g) bans_size; permitted = λ s. bans_permitted g }
 
 module _ {l : Limits} {e : Enlarged} where
-  given-covers : (c : Code) (s : List ℕ) → WellFormed l c → Enlarges l (plain_of l c) s (record { answer = Accepted; enlarged = e }) → Covers e (table_with c s)
+  given_covers : (c : Code) (s : List ℕ) → WellFormed l c → Enlarges l (plain_of l c) s (record { answer = Accepted; enlarged = e }) → Covers e (table_with c s)
   unfolding given_by
-  given-covers c s w (refused h x) = absurd (accepted-never x)
-  given-covers c s w (enlarged h x) = bans-covers (given_by c s w (enlarged h x))
+  given_covers c s w (refused h x) = absurd (accepted_never x)
+  given_covers c s w (enlarged h x) = bans_covers (given_by c s w (enlarged h x))
 
-  given-alike : (c : Code) (s : List ℕ) → WellFormed l c → Enlarges l (plain_of l c) s (record { answer = Accepted; enlarged = e }) → Alike (original_table e) (table_with c s)
+  given_alike : (c : Code) (s : List ℕ) → WellFormed l c → Enlarges l (plain_of l c) s (record { answer = Accepted; enlarged = e }) → Alike (original_table e) (table_with c s)
   unfolding given_by
-  given-alike c s w (refused h x) = absurd (accepted-never x)
-  given-alike c s w (enlarged h x) = bans-alike (given_by c s w (enlarged h x))
+  given_alike c s w (refused h x) = absurd (accepted_never x)
+  given_alike c s w (enlarged h x) = bans_alike (given_by c s w (enlarged h x))
 
   module _ (f : FromLists l e) where
     -- A value is alike the table of its sheet with the bans of its list:
-    pub lists-alike : Alike (original_table e) (table_with f.table f.list)
-    lists-alike = given-alike f.table f.list (well f.given) f.gives
+    pub lists_alike : Alike (original_table e) (table_with f.table f.list)
+    lists_alike = given_alike f.table f.list (well f.given) f.gives
 
     -- it permits what these permit,
-    pub lists-permitted : (s : List ℕ) → Permitted (original_table e) s ↔ Permitted (with_bans (table_of f.table) (banned_by (bans_of f.list))) s
-    lists-permitted = lists-alike.permitted
+    pub lists_permitted : (s : List ℕ) → Permitted (original_table e) s ↔ Permitted (with_bans (table_of f.table) (banned_by (bans_of f.list))) s
+    lists_permitted = lists_alike.permitted
 
     -- has as many words as the sheet,
-    pub lists-size : size (original_table e) ≡ f.table.count
-    lists-size = same_size lists-alike ∙ size-count (well f.given)
+    pub lists_size : size (original_table e) ≡ f.table.count
+    lists_size = same_size lists_alike ∙ size-count (well f.given)
 
     -- and gives every sequence the message that the sheet's table gives it.
-    pub lists-message : (s : List ℕ) → message (original_table e) s ≡ message (table_of f.table) s
-    lists-message s = same-message lists-alike s ∙ bans-message (table_of f.table) (banned_by (bans_of f.list)) s
+    pub lists_message : (s : List ℕ) → message (original_table e) s ≡ message (table_of f.table) s
+    lists_message s = same_message lists_alike s ∙ bans_message (table_of f.table) (banned_by (bans_of f.list)) s
 
     -- 02, request 2: "The sequences of the enlarged code must match one to one the sequences that obey all bans": those of the sheet's table that obey the list's
-    pub lists-match : OneToOne (table_of e.code) (with_bans (table_of f.table) (banned_by (bans_of f.list))) (originals e) (numbers e)
-    lists-match = covers-match e (given-covers f.table f.list (well f.given) f.gives)
+    pub lists_match : OneToOne (table_of e.code) (with_bans (table_of f.table) (banned_by (bans_of f.list))) (originals e) (numbers e)
+    lists_match = covers_match e (given_covers f.table f.list (well f.given) f.gives)

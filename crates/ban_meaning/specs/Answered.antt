@@ -8,13 +8,13 @@ use Rattle.code.specs.declared.Refusal.{Refusal}
 use Rattle.code.specs.declared.SheetAnswer.TheVariants.{Refused}
 use Rattle.code.specs.Definitions.Enlarged.{blank_enlarged}
 use Rattle.code.specs.Definitions.Operations.{ban_conditions, Enlarges, refused, enlarged}
-use Rattle.code.specs.Laws.Conditions.{lowest-unique, lowest-none}
+use Rattle.code.specs.Laws.Conditions.{lowest_unique, lowest_none}
 
 module _ {l : Limits} {e : Enlarged} where
   -- Enlarging has at most one answer.
-  pub enlarges-unique : {s : List ℕ} {x y : Enlargement} → Enlarges l e s x → Enlarges l e s y → x ≡ y
-  enlarges-unique {s} (refused {r} h p) (refused {r = i} k q) =
-      p ∙ ap (λ (j : Refusal). record { answer = Refused j; enlarged = blank_enlarged l }) (lowest-unique (ban_conditions l e s) r i h k) ∙ sym q
-  enlarges-unique {s} (refused {r} h p) (enlarged k q) = absurd (lowest-none (ban_conditions l e s) r h k)
-  enlarges-unique {s} (enlarged h p) (refused {r} k q) = absurd (lowest-none (ban_conditions l e s) r k h)
-  enlarges-unique (enlarged h p) (enlarged k q) = p ∙ sym q
+  pub enlarges_unique : {s : List ℕ} {x y : Enlargement} → Enlarges l e s x → Enlarges l e s y → x ≡ y
+  enlarges_unique {s} (refused {r} h p) (refused {r = i} k q) =
+      p ∙ ap (λ (j : Refusal). record { answer = Refused j; enlarged = blank_enlarged l }) (lowest_unique (ban_conditions l e s) r i h k) ∙ sym q
+  enlarges_unique {s} (refused {r} h p) (enlarged k q) = absurd (lowest_none (ban_conditions l e s) r h k)
+  enlarges_unique {s} (enlarged h p) (refused {r} k q) = absurd (lowest_none (ban_conditions l e s) r k h)
+  enlarges_unique (enlarged h p) (enlarged k q) = p ∙ sym q

@@ -16,18 +16,18 @@ abbrev pub table_with : Code → List ℕ → Table
 table_with c s = with_bans (table_of c) (banned_by (bans_of s))
 
 -- Without copies a matrix says of words what it says of numbers, and bans nothing.
-no-bans : (ws : List (List ℕ)) (entry : ℕ → ℕ → Bool) (marks : ℕ → Bool)
+no_bans : (ws : List (List ℕ)) (entry : ℕ → ℕ → Bool) (marks : ℕ → Bool)
     → table_in [] entry ws marks ≡ record { words = ws; follow = entry; begins = marks; banned = λ x y z. false }
 unfolding bans_in number_after has_copy any
-no-bans ws entry marks = refl
+no_bans ws entry marks = refl
 
 all_words : (c : Code) → take c.count (table_of c).words ≡ (table_of c).words
 all_words c = take_all c.count (table_of c).words (omega (arith, length-map (take c.count c.words) symbols_of, length-take c.count c.words))
 
 -- A table without copies means itself.
-pub plain-original : (l : Limits) (c : Code) → original_table (plain_of l c) ≡ table_of c
+pub plain_original : (l : Limits) (c : Code) → original_table (plain_of l c) ≡ table_of c
 unfolding plain_of
-plain-original l c =
+plain_original l c =
     ap (λ (cs : List Copy). table_in cs (table_of c).follow (take c.count (table_of c).words) (table_of c).begins) (no_copies (plain_of l c) refl)
     ∙ ap (λ (ws : List (List ℕ)). table_in [] (table_of c).follow ws (table_of c).begins) (all_words c)
-    ∙ no-bans (table_of c).words (table_of c).follow (table_of c).begins
+    ∙ no_bans (table_of c).words (table_of c).follow (table_of c).begins

@@ -18,19 +18,19 @@ module _ {A : Type 0} where
     pub back : Among k l
 
   module _ (p : A → Bool) where
-    member-passes : {a : A} {l : List A} → Memᴰ a l → p a ≡ true → any p l ≡ true
+    member_passes : {a : A} {l : List A} → Memᴰ a l → p a ≡ true → any p l ≡ true
     unfolding any
-    member-passes (Memᴰ.head {x} {xs} h) e = or_left (p x) (any p xs) (sym (ap p h) ∙ e)
-    member-passes (Memᴰ.tail {x} {xs} m) e = or_right (p x) (any p xs) (member-passes m e)
+    member_passes (Memᴰ.head {x} {xs} h) e = or_left (p x) (any p xs) (sym (ap p h) ∙ e)
+    member_passes (Memᴰ.tail {x} {xs} m) e = or_right (p x) (any p xs) (member_passes m e)
 
-    among-step : {x : A} {l k : List A} → Among (x ∷ l) k → (Among l k → any p l ≡ true → any p k ≡ true) → (p x ≡ true) ⊎ (any p l ≡ true) → any p k ≡ true
-    among-step {x} f ih (inl e) = member-passes (f x (Memᴰ.head refl)) e
-    among-step f ih (inr e) = ih (λ a m. f a (Memᴰ.tail m)) e
+    among_step : {x : A} {l k : List A} → Among (x ∷ l) k → (Among l k → any p l ≡ true → any p k ≡ true) → (p x ≡ true) ⊎ (any p l ≡ true) → any p k ≡ true
+    among_step {x} f ih (inl e) = member_passes (f x (Memᴰ.head refl)) e
+    among_step f ih (inr e) = ih (λ a m. f a (Memᴰ.tail m)) e
 
-    among-any : (l : List A) {k : List A} → Among l k → any p l ≡ true → any p k ≡ true
+    among_any : (l : List A) {k : List A} → Among l k → any p l ≡ true → any p k ≡ true
     unfolding any
-    among-any [] f e = absurd (false≢true e)
-    among-any (x ∷ l) f e = among-step f (among-any l) (or_cases (p x) (any p l) e)
+    among_any [] f e = absurd (false≢true e)
+    among_any (x ∷ l) f e = among_step f (among_any l) (or_cases (p x) (any p l) e)
 
     pub any_same : {l k : List A} → SameElements l k → any p l ≡ any p k
-    any_same {l} {k} s = both_ways (any p l) (any p k) (among-any l s.there) (among-any k s.back)
+    any_same {l} {k} s = both_ways (any p l) (any p k) (among_any l s.there) (among_any k s.back)

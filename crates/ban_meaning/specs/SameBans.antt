@@ -15,6 +15,6 @@ SameBans bs cs = (x y z : ℕ) → banned_by bs x y z ≡ banned_by cs x y z
 abbrev pub SameRecords : List ℕ → List ℕ → Type 0
 SameRecords s u = SameElements (ban_records s) (ban_records u)
 
-pub banned-records : (s : List ℕ) (x y z : ℕ) → banned_by (bans_of s) x y z ≡ any (λ r. is_ban x y z (ban_of r)) (ban_records s)
+pub banned_records : (s : List ℕ) (x y z : ℕ) → banned_by (bans_of s) x y z ≡ any (λ r. is_ban x y z (ban_of r)) (ban_records s)
 unfolding banned_by bans_of
-banned-records s x y z = any-map (is_ban x y z) (λ r. is_ban x y z (ban_of r)) ban_of (λ r. refl) (ban_records s)
+banned_records s x y z = any-map (is_ban x y z) (λ r. is_ban x y z (ban_of r)) ban_of (λ r. refl) (ban_records s)

@@ -11,8 +11,8 @@ use Rattle.ban_theory.specs.Covers.{Cover}
 
 -- `old i` is the number of the word that becomes i, `new x` the number that word x becomes.
 pub record Order (n : ℕ) (old new : ℕ → ℕ) : Type 0 where
-  pub old-known : (i : ℕ) → i < n → old i < n
-  pub new-known : (x : ℕ) → x < n → new x < n
+  pub old_known : (i : ℕ) → i < n → old i < n
+  pub new_known : (x : ℕ) → x < n → new x < n
   pub new-old : (i : ℕ) → i < n → new (old i) ≡ i
   pub old-new : (x : ℕ) → x < n → old (new x) ≡ x
 
@@ -32,32 +32,32 @@ module _ {e t : Table} {name start : ℕ → ℕ} {after : ℕ → ℕ → ℕ} 
   known : (i : ℕ) → i < size (renumbered e old) → i < size e
   known i h = subst (λ (n : ℕ). i < n) same_size h
 
-  old-known : (i : ℕ) → i < size (renumbered e old) → old i < size e
-  old-known i h = o.old-known i (known i h)
+  old_known : (i : ℕ) → i < size (renumbered e old) → old i < size e
+  old_known i h = o.old_known i (known i h)
 
-  new-known : (x : ℕ) → x < size e → new x < size (renumbered e old)
-  new-known x h = subst (λ (n : ℕ). new x < n) (sym same_size) (o.new-known x h)
+  new_known : (x : ℕ) → x < size e → new x < size (renumbered e old)
+  new_known x h = subst (λ (n : ℕ). new x < n) (sym same_size) (o.new_known x h)
 
   -- Put in another order, a covering table covers the same table.
-  pub renumbered-covers : Cover (renumbered e old) t (λ i. name (old i)) (λ x. new (start x)) (λ y x. new (after y x))
+  pub renumbered_covers : Cover (renumbered e old) t (λ i. name (old i)) (λ x. new (start x)) (λ y x. new (after y x))
   unfolding renumbered
-  renumbered-covers = record {
+  renumbered_covers = record {
     free = λ x y z. c.free (old x) (old y) (old z);
-    named = λ i h. c.named (old i) (old-known i h);
-    words = λ i h. get_d_tabulate (λ k. word e (old k)) (size e) i [] (known i h) ∙ c.words (old i) (old-known i h);
-    start-known = λ x h. new-known (start x) (c.start-known x h);
-    start-named = λ x h. ap name (o.old-new (start x) (c.start-known x h)) ∙ c.start-named x h;
-    after-known = λ y x h k. new-known (after y x) (c.after-known y x h k);
-    after-named = λ y x h k. ap name (o.old-new (after y x) (c.after-known y x h k)) ∙ c.after-named y x h k;
-    begins = λ x h b. ap e.begins (o.old-new (start x) (c.start-known x h)) ∙ c.begins x h b;
-    begin-start = λ i h b. sym (o.new-old i (known i h)) ∙ ap new (c.begin-start (old i) (old-known i h) b);
-    begin-named = λ i h b. c.begin-named (old i) (old-known i h) b;
-    follow-after = λ i j h k f. sym (o.new-old i (known i h)) ∙ ap new (c.follow-after (old i) (old j) (old-known i h) (old-known j k) f);
-    follow-named = λ i j h k f. c.follow-named (old i) (old j) (old-known i h) (old-known j k) f;
-    follow-obeys = λ w y i h k l f.
-        c.follow-obeys w y (old i) h k (old-known i l) (subst (λ (v : ℕ). e.follow (old i) v ≡ true) (o.old-new (after w y) (c.after-known w y h k)) f);
-    follows-start = λ y x h k f.
-        subst₂ (λ (a d : ℕ). e.follow a d ≡ true) (sym (o.old-new (after y x) (c.after-known y x h k))) (sym (o.old-new (start y) (c.start-known y h))) (c.follows-start y x h k f);
+    named = λ i h. c.named (old i) (old_known i h);
+    words = λ i h. get_d_tabulate (λ k. word e (old k)) (size e) i [] (known i h) ∙ c.words (old i) (old_known i h);
+    start_known = λ x h. new_known (start x) (c.start_known x h);
+    start_named = λ x h. ap name (o.old-new (start x) (c.start_known x h)) ∙ c.start_named x h;
+    after_known = λ y x h k. new_known (after y x) (c.after_known y x h k);
+    after_named = λ y x h k. ap name (o.old-new (after y x) (c.after_known y x h k)) ∙ c.after_named y x h k;
+    begins = λ x h b. ap e.begins (o.old-new (start x) (c.start_known x h)) ∙ c.begins x h b;
+    begin_start = λ i h b. sym (o.new-old i (known i h)) ∙ ap new (c.begin_start (old i) (old_known i h) b);
+    begin_named = λ i h b. c.begin_named (old i) (old_known i h) b;
+    follow-after = λ i j h k f. sym (o.new-old i (known i h)) ∙ ap new (c.follow-after (old i) (old j) (old_known i h) (old_known j k) f);
+    follow_named = λ i j h k f. c.follow_named (old i) (old j) (old_known i h) (old_known j k) f;
+    follow_obeys = λ w y i h k l f.
+        c.follow_obeys w y (old i) h k (old_known i l) (subst (λ (v : ℕ). e.follow (old i) v ≡ true) (o.old-new (after w y) (c.after_known w y h k)) f);
+    follows_start = λ y x h k f.
+        subst₂ (λ (a d : ℕ). e.follow a d ≡ true) (sym (o.old-new (after y x) (c.after_known y x h k))) (sym (o.old-new (start y) (c.start_known y h))) (c.follows_start y x h k f);
     follows = λ w y x h k l f b.
-        subst₂ (λ (a d : ℕ). e.follow a d ≡ true) (sym (o.old-new (after y x) (c.after-known y x k l))) (sym (o.old-new (after w y) (c.after-known w y h k))) (c.follows w y x h k l f b);
+        subst₂ (λ (a d : ℕ). e.follow a d ≡ true) (sym (o.old-new (after y x) (c.after_known y x k l))) (sym (o.old-new (after w y) (c.after_known w y h k))) (c.follows w y x h k l f b);
   }

@@ -13,12 +13,12 @@ use Rattle.code.specs.Definitions.Lists.{any, every, sum}
 use Rattle.code.specs.Definitions.Sheets.{is_digit, fields, bad_bytes}
 use Rattle.code.specs.Definitions.Bans.{Ban, is_ban, banned_by}
 use Rattle.code.specs.Definitions.BanLists.{ban_of, bad_ban, ban_records, refused16, bans_of}
-use Rattle.code.specs.Laws.Lists.{or-neither}
+use Rattle.code.specs.Laws.Lists.{or_neither}
 use Rattle.ban_theory.specs.BanLists.{Known, ban}
 use Rattle.ban_theory.specs.Triples.{KnownBan}
 use Rattle.csv_records.specs.Join.{length-join}
-use Rattle.csv_records.specs.Sheets.{record_of, sheet_of, Digital, none, more, sheet-bytes, sheet-grid, sheet-some, sheet-length}
-use Rattle.ban_writing.specs.Numbers.{number_field, number-back, number_digits, number_short, number-known}
+use Rattle.csv_records.specs.Sheets.{record_of, sheet_of, Digital, none, more, sheet_bytes, sheet_grid, sheet_some, sheet_length}
+use Rattle.ban_writing.specs.Numbers.{number_field, number_back, number_digits, number_short, number_known}
 
 -- the fields of a ban's record
 abbrev pub fields_of : Ban → List (List ℕ)
@@ -29,11 +29,11 @@ print [] = []
 print (b ∷ bs) = sheet_of (map fields_of (b ∷ bs))
 
 -- Where nothing is banned after one word twice, no ban names one word twice.
-ban-apart : (b : Ban) (bs : List Ban) → ((x y : ℕ) → banned_by (b ∷ bs) x y y ≡ false) → b.y ≡ b.z → ⊥
+ban_apart : (b : Ban) (bs : List Ban) → ((x y : ℕ) → banned_by (b ∷ bs) x y y ≡ false) → b.y ≡ b.z → ⊥
 unfolding any banned_by
-ban-apart b bs a e =
+ban_apart b bs a e =
     false≢true
-    (sym (or-neither (is_ban b.x b.y b.y b) (any (is_ban b.x b.y b.y) bs) (a b.x b.y)).0
+    (sym (or_neither (is_ban b.x b.y b.y b) (any (is_ban b.x b.y b.y) bs) (a b.x b.y)).0
     ∙ rw (eq-eqb b.x b.x refl, eq-eqb b.y b.y refl) (eq-eqb b.z b.y (sym e)))
 
 module _ (n : ℕ) (few : n ≤ 100) where
@@ -47,68 +47,68 @@ module _ (n : ℕ) (few : n ≤ 100) where
     z< : b.z < 100
     z< = omega (arith, w.z)
 
-    fields-digits : every (every is_digit) (fields_of b) ≡ true
+    fields_digits : every (every is_digit) (fields_of b) ≡ true
     unfolding every
-    fields-digits = rw (number_digits b.x x<, number_digits b.y y<, number_digits b.z z<)
+    fields_digits = rw (number_digits b.x x<, number_digits b.y y<, number_digits b.z z<)
 
-    ban-back : ban_of (fields_of b) ≡ b
-    ban-back = rw (number-back b.x x<, number-back b.y y<, number-back b.z z<)
+    ban_back : ban_of (fields_of b) ≡ b
+    ban_back = rw (number_back b.x x<, number_back b.y y<, number_back b.z z<)
 
-    ban-good : (b.y ≡ b.z → ⊥) → bad_ban n (fields_of b) ≡ false
+    ban_good : (b.y ≡ b.z → ⊥) → bad_ban n (fields_of b) ≡ false
     unfolding bad_ban every
-    ban-good d =
-        rw (number-known b.x x< n w.x, number-known b.y y< n w.y, number-known b.z z< n w.z, number-back b.y y<, number-back b.z z<) (ne_eqb b.y b.z d)
+    ban_good d =
+        rw (number_known b.x x< n w.x, number_known b.y y< n w.y, number_known b.z z< n w.z, number_back b.y y<, number_back b.z z<) (ne_eqb b.y b.z d)
 
-    record-short : length (record_of (fields_of b)) ≤ 8
+    record_short : length (record_of (fields_of b)) ≤ 8
     unfolding sum
-    record-short = omega (arith, length-join (44 ∷ []) (fields_of b) (omega arith), number_short b.x x<, number_short b.y y<, number_short b.z z<)
+    record_short = omega (arith, length-join (44 ∷ []) (fields_of b) (omega arith), number_short b.x x<, number_short b.y y<, number_short b.z z<)
 
   digital : (bs : List Ban) → Known n bs → Digital (map fields_of bs)
   digital [] k = none
-  digital (b ∷ bs) (ban x y z k) = more {r = fields_of b} (omega arith) (fields-digits b (record { x = x; y = y; z = z })) (digital bs k)
+  digital (b ∷ bs) (ban x y z k) = more {r = fields_of b} (omega arith) (fields_digits b (record { x = x; y = y; z = z })) (digital bs k)
 
   -- The records of the list are those that were written.
-  records-back : (bs : List Ban) → Known n bs → ban_records (print bs) ≡ map fields_of bs
+  records_back : (bs : List Ban) → Known n bs → ban_records (print bs) ≡ map fields_of bs
   unfolding ban_records print
-  records-back [] k = refl
-  records-back (b ∷ bs) k =
+  records_back [] k = refl
+  records_back (b ∷ bs) k =
       let g = map fields_of (b ∷ bs) in
-      let some : eqb (length (sheet_of g)) 0 ≡ false = ne_eqb (length (sheet_of g)) 0 (λ e. omega (arith, sheet-some g)) in
-      rw some (sheet-grid (digital (b ∷ bs) k) (omega arith))
+      let some : eqb (length (sheet_of g)) 0 ≡ false = ne_eqb (length (sheet_of g)) 0 (λ e. omega (arith, sheet_some g)) in
+      rw some (sheet_grid (digital (b ∷ bs) k) (omega arith))
 
   bytes_good : (bs : List Ban) → Known n bs → bad_bytes false (print bs) ≡ false
   unfolding print bad_bytes
   bytes_good [] k = refl
-  bytes_good (b ∷ bs) k = sheet-bytes (digital (b ∷ bs) k)
+  bytes_good (b ∷ bs) k = sheet_bytes (digital (b ∷ bs) k)
 
-  bans-good : (bs : List Ban) → Known n bs → ((x y : ℕ) → banned_by bs x y y ≡ false) → any (bad_ban n) (map fields_of bs) ≡ false
+  bans_good : (bs : List Ban) → Known n bs → ((x y : ℕ) → banned_by bs x y y ≡ false) → any (bad_ban n) (map fields_of bs) ≡ false
   unfolding any banned_by
-  bans-good [] k a = refl
-  bans-good (b ∷ bs) (ban x y z k) a =
-      rw (ban-good b (record { x = x; y = y; z = z }) (ban-apart b bs a)) (bans-good bs k (λ i j. (or-neither (is_ban i j j b) (any (is_ban i j j) bs) (a i j)).1))
+  bans_good [] k a = refl
+  bans_good (b ∷ bs) (ban x y z k) a =
+      rw (ban_good b (record { x = x; y = y; z = z }) (ban_apart b bs a)) (bans_good bs k (λ i j. (or_neither (is_ban i j j b) (any (is_ban i j j) bs) (a i j)).1))
 
-  bans-same : (bs : List Ban) → Known n bs → map ban_of (map fields_of bs) ≡ bs
-  bans-same [] k = refl
-  bans-same (b ∷ bs) (ban x y z k) =
-      ap₂ (λ (c : Ban) (cs : List Ban). c ∷ cs) (ban-back b (record { x = x; y = y; z = z })) (bans-same bs k)
+  bans_same : (bs : List Ban) → Known n bs → map ban_of (map fields_of bs) ≡ bs
+  bans_same [] k = refl
+  bans_same (b ∷ bs) (ban x y z k) =
+      ap₂ (λ (c : Ban) (cs : List Ban). c ∷ cs) (ban_back b (record { x = x; y = y; z = z })) (bans_same bs k)
 
   -- The bans are read back.
-  pub bans-back : (bs : List Ban) → Known n bs → bans_of (print bs) ≡ bs
+  pub bans_back : (bs : List Ban) → Known n bs → bans_of (print bs) ≡ bs
   unfolding bans_of
-  bans-back bs k = rw (records-back bs k) (bans-same bs k)
+  bans_back bs k = rw (records_back bs k) (bans_same bs k)
 
   -- Refusal 16 does not meet the list.
-  pub print-accepted : (bs : List Ban) → Known n bs → ((x y : ℕ) → banned_by bs x y y ≡ false) → refused16 n (print bs) ≡ false
+  pub print_accepted : (bs : List Ban) → Known n bs → ((x y : ℕ) → banned_by bs x y y ≡ false) → refused16 n (print bs) ≡ false
   unfolding refused16
-  print-accepted bs k a = rw (bytes_good bs k, records-back bs k) (bans-good bs k a)
+  print_accepted bs k a = rw (bytes_good bs k, records_back bs k) (bans_good bs k a)
 
-  joined-short : (bs : List Ban) → Known n bs → sum (map (λ (r : List ℕ). length r + 2) (map record_of (map fields_of bs))) ≤ 10 * length bs
+  joined_short : (bs : List Ban) → Known n bs → sum (map (λ (r : List ℕ). length r + 2) (map record_of (map fields_of bs))) ≤ 10 * length bs
   unfolding sum
-  joined-short [] k = omega arith
-  joined-short (b ∷ bs) (ban x y z k) = omega (arith, record-short b (record { x = x; y = y; z = z }), joined-short bs k)
+  joined_short [] k = omega arith
+  joined_short (b ∷ bs) (ban x y z k) = omega (arith, record_short b (record { x = x; y = y; z = z }), joined_short bs k)
 
   -- It is short.
-  pub print-short : (bs : List Ban) → Known n bs → length (print bs) ≤ 10 * length bs
+  pub print_short : (bs : List Ban) → Known n bs → length (print bs) ≤ 10 * length bs
   unfolding print
-  print-short [] k = omega arith
-  print-short (b ∷ bs) k = omega (arith, sheet-length (map fields_of (b ∷ bs)) (omega arith), joined-short (b ∷ bs) k)
+  print_short [] k = omega arith
+  print_short (b ∷ bs) k = omega (arith, sheet_length (map fields_of (b ∷ bs)) (omega arith), joined_short (b ∷ bs) k)

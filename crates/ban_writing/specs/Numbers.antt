@@ -13,9 +13,9 @@ use Rattle.code.specs.Definitions.BanLists.{is_decimal, decimal, number_of, is_n
 unfoldable pub number_field : ℕ → List ℕ
 number_field v = if ltb v 10 then (v + 48) ∷ [] else (v / 10 + 48) ∷ (v % 10 + 48) ∷ []
 
-one-digit : (v : ℕ) → v < 10 → number_field v ≡ (v + 48) ∷ []
+one_digit : (v : ℕ) → v < 10 → number_field v ≡ (v + 48) ∷ []
 unfolding number_field
-one-digit v h = rw (lt-ltb v 10 h)
+one_digit v h = rw (lt-ltb v 10 h)
 
 two_digits : (v : ℕ) → 10 ≤ v → number_field v ≡ (v / 10 + 48) ∷ (v % 10 + 48) ∷ []
 unfolding number_field
@@ -24,33 +24,33 @@ two_digits v h = rw (le-ltb v 10 h)
 decimal_digit : (d : ℕ) → d < 10 → is_decimal (d + 48) ≡ true
 decimal_digit d h = rw (le-leb 48 (d + 48) (omega arith), le-leb (d + 48) 57 (omega arith))
 
-digit-digit : (d : ℕ) → d < 10 → is_digit (d + 48) ≡ true
-digit-digit d h = rw (decimal_digit d h)
+digit_digit : (d : ℕ) → d < 10 → is_digit (d + 48) ≡ true
+digit_digit d h = rw (decimal_digit d h)
 
 module _ (v : ℕ) (small : v < 100) where
   by_size : (P : List ℕ → Type 0) → (v < 10 → P ((v + 48) ∷ [])) → (10 ≤ v → P ((v / 10 + 48) ∷ (v % 10 + 48) ∷ [])) → P (number_field v)
   by_size P a b = by (dec_lt v 10)
     where
       by : Dec (v < 10) → P (number_field v)
-      by (yes h) = rw (one-digit v h) (a h)
+      by (yes h) = rw (one_digit v h) (a h)
       by (no h) = rw (two_digits v (omega arith)) (b (omega arith))
 
   -- The number is read back.
-  pub number-back : number_of (number_field v) ≡ v
+  pub number_back : number_of (number_field v) ≡ v
   unfolding number_of decimal
-  number-back = by_size (λ f. number_of f ≡ v) (λ h. omega arith) (λ h. omega arith)
+  number_back = by_size (λ f. number_of f ≡ v) (λ h. omega arith) (λ h. omega arith)
 
   pub number_digits : every is_digit (number_field v) ≡ true
   unfolding every
-  number_digits = by_size (λ f. every is_digit f ≡ true) (λ h. rw (digit-digit v h)) (λ h. rw (digit-digit (v / 10) (omega arith), digit-digit (v % 10) (omega arith)))
+  number_digits = by_size (λ f. every is_digit f ≡ true) (λ h. rw (digit_digit v h)) (λ h. rw (digit_digit (v / 10) (omega arith), digit_digit (v % 10) (omega arith)))
 
   pub number_short : length (number_field v) ≤ 2
   number_short = by_size (λ f. length f ≤ 2) (λ h. omega arith) (λ h. omega arith)
 
   -- It is the number of a word, where there are more than v words.
-  pub number-known : (n : ℕ) → v < n → is_number n (number_field v) ≡ true
+  pub number_known : (n : ℕ) → v < n → is_number n (number_field v) ≡ true
   unfolding is_number every
-  number-known n h = by_size Good one two number-back
+  number_known n h = by_size Good one two number_back
     where
       Good : List ℕ → Type 0
       Good f = number_of f ≡ v → is_number n f ≡ true

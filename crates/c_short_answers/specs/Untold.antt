@@ -32,38 +32,38 @@ pub record Untold (conditions : List Condition) (r : ℕ) : Type 0 where
   pub lowest : Lowest (conditions ++ (no_answer ∷ [])) refusal
   pub number : r ≡ refusal_number refusal
 
-lowest-more : (r : Refusal) (cs : List Condition) → Lowest cs r → Lowest (cs ++ (no_answer ∷ [])) r
-lowest-more r [] h = absurd h
-lowest-more r (c ∷ cs) (inl h) = inl h
-lowest-more r (c ∷ cs) (inr h) = inr (h.0, lowest-more r cs h.1)
+lowest_more : (r : Refusal) (cs : List Condition) → Lowest cs r → Lowest (cs ++ (no_answer ∷ [])) r
+lowest_more r [] h = absurd h
+lowest_more r (c ∷ cs) (inl h) = inl h
+lowest_more r (c ∷ cs) (inr h) = inr (h.0, lowest_more r cs h.1)
 
 none_more : (cs : List Condition) → NoneHolds cs → Lowest (cs ++ (no_answer ∷ [])) ShortBuffer
 none_more [] h = inl (tt, refl)
 none_more (c ∷ cs) h = inr (h.0, none_more cs h.1)
 
-untold-refused : (r : Refusal) {n : ℕ} (cs : List Condition) → Lowest cs r → n ≡ refusal_number r → Untold cs n
-untold-refused r cs h e = record { refusal = r; lowest = lowest-more r cs h; number = e }
+untold_refused : (r : Refusal) {n : ℕ} (cs : List Condition) → Lowest cs r → n ≡ refusal_number r → Untold cs n
+untold_refused r cs h e = record { refusal = r; lowest = lowest_more r cs h; number = e }
 
-untold-none : {n : ℕ} (cs : List Condition) → NoneHolds cs → n ≡ short_number → Untold cs n
-untold-none cs h e = record { refusal = ShortBuffer; lowest = none_more cs h; number = e }
+untold_none : {n : ℕ} (cs : List Condition) → NoneHolds cs → n ≡ short_number → Untold cs n
+untold_none cs h e = record { refusal = ShortBuffer; lowest = none_more cs h; number = e }
 
 -- The number of an answer that cannot be told
 abbrev untold_encoding : Encoding → ℕ
 untold_encoding (Encoded k) = short_number
 untold_encoding (Not-encoded r) = refusal_number r
 
-pub untold-encoding : {v : Enlarged} {s b : List ℕ} {e : Encoding} {n : ℕ} → Encodes limits v s [] b e → n ≡ untold_encoding e → Untold (encoding_conditions limits v s []) n
-untold-encoding (Encodes.refused {r} h k) = untold-refused r _ h
-untold-encoding (Encodes.encoded h k w) = untold-none _ h
+pub untold_encoding_lem : {v : Enlarged} {s b : List ℕ} {e : Encoding} {n : ℕ} → Encodes limits v s [] b e → n ≡ untold_encoding e → Untold (encoding_conditions limits v s []) n
+untold_encoding_lem (Encodes.refused {r} h k) = untold_refused r _ h
+untold_encoding_lem (Encodes.encoded h k w) = untold_none _ h
 
 abbrev untold_splitting : Splitting → ℕ
 untold_splitting (Split k) = short_number
 untold_splitting (Not-split r) = refusal_number r
 
-pub untold-splitting : {v : Enlarged} {classes : Classes} {s b m f g w : List ℕ} {e : Splitting} {n : ℕ} → SplitsText limits v classes s [] [] [] [] [] b m f g w e
+pub untold_splitting_lem : {v : Enlarged} {classes : Classes} {s b m f g w : List ℕ} {e : Splitting} {n : ℕ} → SplitsText limits v classes s [] [] [] [] [] b m f g w e
     → n ≡ untold_splitting e → Untold (splitting_conditions limits v classes s [] [] [] [] []) n
-untold-splitting (SplitsText.refused {r} h i j k l m) = untold-refused r _ h
-untold-splitting (SplitsText.split h d c o i j k l) = untold-none _ h
+untold_splitting_lem (SplitsText.refused {r} h i j k l m) = untold_refused r _ h
+untold_splitting_lem (SplitsText.split h d c o i j k l) = untold_none _ h
 
 abbrev untold_reading : Reading → ℕ
 untold_reading (One k) = short_number
@@ -71,28 +71,28 @@ untold_reading (Two k l) = short_number
 untold_reading (Not-read r) = refusal_number r
 
 -- Reading needs an entry of the working buffer even for the empty message, so it does not get as far as 14.
-pub untold-reading : {v : Enlarged} {m f g w : List ℕ} {e : Reading} {n : ℕ} → ReadsMessage limits v m [] [] [] f g w e → n ≡ untold_reading e
+pub untold_reading_lem : {v : Enlarged} {m f g w : List ℕ} {e : Reading} {n : ℕ} → ReadsMessage limits v m [] [] [] f g w e → n ≡ untold_reading e
     → Untold (reading_conditions limits v m [] [] []) n
-untold-reading (ReadsMessage.refused {r} h i j k) = untold-refused r _ h
-untold-reading (ReadsMessage.unreadable h none i j k) = absurd (h.1.1.1.0 (inr (inr (omega arith))))
-untold-reading (ReadsMessage.one h only l i j k) = untold-none _ h
-untold-reading (ReadsMessage.two h two l m i j k) = untold-none _ h
+untold_reading_lem (ReadsMessage.refused {r} h i j k) = untold_refused r _ h
+untold_reading_lem (ReadsMessage.unreadable h none i j k) = absurd (h.1.1.1.0 (inr (inr (omega arith))))
+untold_reading_lem (ReadsMessage.one h only l i j k) = untold_none _ h
+untold_reading_lem (ReadsMessage.two h two l m i j k) = untold_none _ h
 
 abbrev untold_naming : Naming → ℕ
 untold_naming (Named x) = short_number
 untold_naming (Not-named r) = refusal_number r
 
 -- Naming needs the verdict's working buffer, so it does not get as far as 21, 12 and 14.
-pub untold-naming : {v : Enlarged} {m w : List ℕ} {e : Naming} {n : ℕ} → NamesNext limits v m [] w e → n ≡ untold_naming e → Untold (naming_conditions limits v m []) n
-untold-naming (NamesNext.refused {r} h k) = untold-refused r _ h
-untold-naming (NamesNext.unnamed h f k) = absurd (h.1.1.0 (omega arith))
-untold-naming (NamesNext.named h n f k) = untold-none _ h
+pub untold_naming_lem : {v : Enlarged} {m w : List ℕ} {e : Naming} {n : ℕ} → NamesNext limits v m [] w e → n ≡ untold_naming e → Untold (naming_conditions limits v m []) n
+untold_naming_lem (NamesNext.refused {r} h k) = untold_refused r _ h
+untold_naming_lem (NamesNext.unnamed h f k) = absurd (h.1.1.0 (omega arith))
+untold_naming_lem (NamesNext.named h n f k) = untold_none _ h
 
 abbrev untold_verdict : Judgement → ℕ
 untold_verdict (Judged v) = short_number
 untold_verdict (Not-judged r) = refusal_number r
 
-pub untold-verdict : {v : Enlarged} {m f g w : List ℕ} {e : Judgement} {n : ℕ} → Judges limits v [] [] [] [] m f g w e → n ≡ untold_verdict e
+pub untold_verdict_lem : {v : Enlarged} {m f g w : List ℕ} {e : Judgement} {n : ℕ} → Judges limits v [] [] [] [] m f g w e → n ≡ untold_verdict e
     → Untold (verdict_conditions limits v [] [] [] []) n
-untold-verdict (Judges.refused {r} h i j k l) = untold-refused r _ h
-untold-verdict (Judges.judged x s u h means shown k) = untold-none _ h
+untold_verdict_lem (Judges.refused {r} h i j k l) = untold_refused r _ h
+untold_verdict_lem (Judges.judged x s u h means shown k) = untold_none _ h

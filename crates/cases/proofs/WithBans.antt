@@ -2,17 +2,17 @@
 use Rattle.std.proofs.Math.Bool.{and-eq-true_iff}
 use mathlib.Core.List.{Memᴰ}
 use Rattle.code.specs.Definitions.Lists.{every}
-use Rattle.cases.specs.Members.{every-member}
+use Rattle.cases.specs.Members.{every_member}
 use Rattle.cases.specs.Cases.{Holds, check}
 use Rattle.cases.proofs.Cases.{sound}
 use Rattle.cases.specs.Banned.{BannedCase, BannedHolds, check_banned}
-use Rattle.cases.proofs.Banned.{sound-banned}
-use Rattle.cases.specs.WithBans.{freely, banned, banned-checked}
+use Rattle.cases.proofs.Banned.{sound_banned}
+use Rattle.cases.specs.WithBans.{freely, banned, banned_checked}
 
 -- The code without its ban holds, by the definitions,
-pub freely-holds : Holds freely
-freely-holds = sound freely ((and-eq-true_iff (check freely) (every check_banned banned)).0 banned-checked).0
+pub freely_holds : Holds freely
+freely_holds = sound freely ((and-eq-true_iff (check freely) (every check_banned banned)).0 banned_checked).0
 
 -- and so does every entry of the table.
-pub banned-hold : {c : BannedCase} → Memᴰ c banned → BannedHolds c
-banned-hold {c} m = sound-banned c (every-member check_banned ((and-eq-true_iff (check freely) (every check_banned banned)).0 banned-checked).1 m)
+pub banned_hold : {c : BannedCase} → Memᴰ c banned → BannedHolds c
+banned_hold {c} m = sound_banned c (every_member check_banned ((and-eq-true_iff (check freely) (every check_banned banned)).0 banned_checked).1 m)

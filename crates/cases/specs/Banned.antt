@@ -9,11 +9,11 @@ use Rattle.code.specs.Definitions.Lists.{any, every}
 use Rattle.code.specs.Definitions.Tables.{Table, size}
 use Rattle.code.specs.Definitions.Bans.{Ban, banned_by, with_bans, copies_from, copies_of, origin, number_after, may_come, enlarged}
 use Rattle.code.specs.Definitions.Readings.{OnlyReading, Ambiguous}
-use Rattle.ban_theory.specs.BanLists.{Known, no-ban, ban, copies-serve}
-use Rattle.ban_theory.specs.Copies.{enlarged-covers}
+use Rattle.ban_theory.specs.BanLists.{Known, no_ban, ban, copies_serve}
+use Rattle.ban_theory.specs.Copies.{enlarged_covers}
 use Rattle.ban_theory.specs.Covers.{Cover, lift}
-use Rattle.ban_theory.specs.Matches.{named-only, decipherable-named, named-delay, named-unbounded, named-ambiguous}
-use Rattle.pair_theory.specs.Bounded.{every_below, every-below}
+use Rattle.ban_theory.specs.Matches.{named_only, decipherable_named, named_delay, named_unbounded, named_ambiguous}
+use Rattle.pair_theory.specs.Bounded.{every_below, every_below_lem}
 use Rattle.cases.specs.Comparing.{equal, equal-true}
 use Rattle.cases.specs.Cases.{Case, Expected, delay, without_bound, ambiguous, only_reading, case_table, Means, is_non_empty, is_meant}
 
@@ -31,7 +31,7 @@ is_known n b = ltb b.x n && (ltb b.y n && ltb b.z n)
 
 pub all_known : (n : ℕ) (bs : List Ban) → every (is_known n) bs ≡ true → Known n bs
 unfolding every is_known
-all_known n [] e = no-ban
+all_known n [] e = no_ban
 all_known n (b ∷ bs) e =
     let h = (and-eq-true_iff (is_known n b) (every (is_known n) bs)).0 e in
     let x = (and-eq-true_iff (ltb b.x n) (ltb b.y n && ltb b.z n)).0 h.0 in
@@ -78,7 +78,7 @@ module _ (t : Table) (bs : List Ban) where
 
   rises : is_rising ≡ true → (x y : ℕ) → x < y → y < size enlarged_by → name x ≤ name y
   unfolding is_rising
-  rises e x y h k = leb-true (name x) (name y) (every-below (λ x. leb (name x) (name y)) y (every-below (λ y. every_below (λ x. leb (name x) (name y)) y) (size enlarged_by) e y k) x h)
+  rises e x y h k = leb-true (name x) (name y) (every_below_lem (λ x. leb (name x) (name y)) y (every_below_lem (λ y. every_below (λ x. leb (name x) (name y)) y) (size enlarged_by) e y k) x h)
 
   named : (s : List ℕ) → are_named s ≡ true → map name (numbers s) ≡ s
   unfolding are_named
@@ -87,18 +87,18 @@ module _ (t : Table) (bs : List Ban) where
   module _ (known : Known (size t) bs) where
     covers : Cover enlarged_by (with_bans t (banned_by bs)) name (λ x. x) (number_after (size t) (copies_of bs))
     unfolding name
-    covers = enlarged-covers t (copies_of bs) (banned_by bs) (copies-serve bs known)
+    covers = enlarged_covers t (copies_of bs) (banned_by bs) (copies_serve bs known)
 
     -- What holds of the enlarged code, said in numbers, holds of the table with its bans.
-    pub named-over : (x : Expected) → is_named x ≡ true → Means enlarged_by (in_numbers x) → Means (with_bans t (banned_by bs)) x
+    pub named_over : (x : Expected) → is_named x ≡ true → Means enlarged_by (in_numbers x) → Means (with_bans t (banned_by bs)) x
     unfolding is_named
-    named-over (delay N) e m = (decipherable-named covers m.0, named-delay covers m.1)
-    named-over without_bound e m = (decipherable-named covers m.0, named-unbounded covers m.1)
-    named-over (ambiguous m s u) e a =
+    named_over (delay N) e m = (decipherable_named covers m.0, named_delay covers m.1)
+    named_over without_bound e m = (decipherable_named covers m.0, named_unbounded covers m.1)
+    named_over (ambiguous m s u) e a =
         let h = (and-eq-true_iff is_rising (are_named s && are_named u)).0 e in
         let k = (and-eq-true_iff (are_named s) (are_named u)).0 h.1 in
-        subst₂ (Ambiguous (with_bans t (banned_by bs)) m) (named s k.0) (named u k.1) (named-ambiguous covers (rises h.0) a)
-    named-over (only_reading m s) e o = subst (OnlyReading (with_bans t (banned_by bs)) m) (named s e) (named-only covers o)
+        subst₂ (Ambiguous (with_bans t (banned_by bs)) m) (named s k.0) (named u k.1) (named_ambiguous covers (rises h.0) a)
+    named_over (only_reading m s) e o = subst (OnlyReading (with_bans t (banned_by bs)) m) (named s e) (named_only covers o)
 
 -- The bans are on known words, and the enlarged code passes the check for what is expected, in its numbers.
 unfoldable pub check_with : Table → List Ban → Expected → Bool

@@ -5,7 +5,7 @@ use Rattle.code.specs.Definitions.Tables.{Table, size, word}
 use Rattle.code.specs.Definitions.Readings.{OnlyReading, Ambiguous, Decipherable}
 use Rattle.code.specs.Definitions.Delays.{Delay, WithoutBound}
 use Rattle.code.specs.Laws.Sequences.{NonEmpty}
-use Rattle.pair_theory.specs.Bounded.{every_below, every-below}
+use Rattle.pair_theory.specs.Bounded.{every_below, every_below_lem}
 use Rattle.cases.specs.Delays.{delay_is, is_without_bound}
 use Rattle.cases.specs.Messages.{least_is}
 use Rattle.cases.specs.Enumeration.{readings}
@@ -64,6 +64,6 @@ unfoldable pub check : Case → Bool
 unfolding check_table
 check c = check_table (case_table c) c.expected
 
-pub non-empty : (t : Table) → is_non_empty t ≡ true → NonEmpty t
+pub non_empty : (t : Table) → is_non_empty t ≡ true → NonEmpty t
 unfolding is_non_empty
-non-empty t e x h = leb-true 1 (length (word t x)) (every-below (λ z. leb 1 (length (word t z))) (size t) e x h)
+non_empty t e x h = leb-true 1 (length (word t x)) (every_below_lem (λ z. leb 1 (length (word t z))) (size t) e x h)

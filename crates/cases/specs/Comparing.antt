@@ -21,10 +21,10 @@ equal-true (x ∷ s) [] e = absurd (false≢true e)
 equal-true (x ∷ s) (y ∷ t) e = let h = (and-eq-true_iff (eqb x y) (equal s t)).0 e in ap₂ ◌∷◌ (eqb-true x y h.0) (equal-true s t h.1)
 
 -- It calls every list equal to itself.
-pub equal-same : (s : List ℕ) → equal s s ≡ true
+pub equal_same : (s : List ℕ) → equal s s ≡ true
 unfolding equal
-equal-same [] = refl
-equal-same (x ∷ s) = (and-eq-true_iff (eqb x x) (equal s s)).1 (eq-eqb x x refl, equal-same s)
+equal_same [] = refl
+equal_same (x ∷ s) = (and-eq-true_iff (eqb x x) (equal s s)).1 (eq-eqb x x refl, equal_same s)
 
 unfoldable pub before : List ℕ → List ℕ → Bool
 before s [] = false
@@ -48,9 +48,9 @@ unfolding equal before
 not_before s t = equal s t || (eqb (length s) (length t) && before s t)
 
 -- Such a list is the same, or comes after s in order of length and then of entries.
-pub not-before-true : (s t : List ℕ) → not_before s t ≡ true → (s ≡ t) ⊎ Shortlex s t
+pub not_before_true : (s t : List ℕ) → not_before s t ≡ true → (s ≡ t) ⊎ Shortlex s t
 unfolding not_before
-not-before-true s t e = by (or_cases (equal s t) (eqb (length s) (length t) && before s t) e)
+not_before_true s t e = by (or_cases (equal s t) (eqb (length s) (length t) && before s t) e)
   where
     by : (equal s t ≡ true) ⊎ ((eqb (length s) (length t) && before s t) ≡ true) → (s ≡ t) ⊎ Shortlex s t
     by (inl h) = inl (equal-true s t h)

@@ -16,11 +16,11 @@ module _ (t : Table) where
   apart_ends e = both_end e && not (eqb e.p.w e.q.w)
 
   -- Two ends pass the test.
-  pub both_end-law : (m : List ℕ) {p q : Place} → BothEnd t p q → both_end (labelled m p q) ≡ true
-  both_end-law m {p} {q} h = (and-eq-true_iff (is_end t p) (is_end t q)).1 (eq-eqb _ _ h.left, eq-eqb _ _ h.right)
+  pub both_end_lem : (m : List ℕ) {p q : Place} → BothEnd t p q → both_end (labelled m p q) ≡ true
+  both_end_lem m {p} {q} h = (and-eq-true_iff (is_end t p) (is_end t q)).1 (eq-eqb _ _ h.left, eq-eqb _ _ h.right)
 
   -- The ends of different words pass the test.
-  pub apart-ends : (m : List ℕ) {p q : Place} → ApartEnds t p q → apart_ends (labelled m p q) ≡ true
-  apart-ends m {p} {q} h =
-      let both = both_end-law m {p = p} {q = q} (record { left = h.left; right = h.right }) in
+  pub apart_ends_lem : (m : List ℕ) {p q : Place} → ApartEnds t p q → apart_ends (labelled m p q) ≡ true
+  apart_ends_lem m {p} {q} h =
+      let both = both_end_lem m {p = p} {q = q} (record { left = h.left; right = h.right }) in
       rw (both, ne_eqb p.w q.w (λ e. h.apart (ends_same t h.left h.right e))) refl

@@ -11,14 +11,14 @@ use Prim.Native.Nat.{ℕ, zero, suc, ◌≤◌, ◌<◌}
 use Rattle.std.proofs.Math.Seq.{take-append_seam, drop-append_seam}
 use Rattle.code.specs.Definitions.Tables.{Table, size, word, Linked, none, one, more, Permitted, empty as nothing, message}
 use Rattle.code.specs.Definitions.Readings.{Reads}
-use Rattle.code.specs.Laws.Sequences.{NonEmpty, Free, first_word, rest-linked, second-follows, linked-within, permitted-linked, first-begins, free-permitted, words-most}
-use Rattle.cases.specs.Members.{empty, keep, keep-in, keep_out, numbers, numbers-in, numbers-out, flat_map-in, flat_map-out}
-use Rattle.cases.specs.Comparing.{equal, equal-true, equal-same}
+use Rattle.code.specs.Laws.Sequences.{NonEmpty, Free, first_word, rest_linked, second_follows, linked_within, permitted_linked, first_begins, free_permitted, words_most}
+use Rattle.cases.specs.Members.{empty, keep, keep_in, keep_out, numbers, numbers_in, numbers_out, flat_map_in, flat_map_out}
+use Rattle.cases.specs.Comparing.{equal, equal-true, equal_same}
 
-empty-nil : (m : List ℕ) → empty m ≡ true → m ≡ []
+empty_nil : (m : List ℕ) → empty m ≡ true → m ≡ []
 unfolding empty
-empty-nil [] e = refl
-empty-nil (c ∷ m) e = absurd (false≢true e)
+empty_nil [] e = refl
+empty_nil (c ∷ m) e = absurd (false≢true e)
 
 -- The first word of a sequence, if there is one, passes the test.
 abbrev pub MayBegin : (ℕ → Bool) → List ℕ → Type 0
@@ -65,21 +65,21 @@ module _ (t : Table) where
     joined : message t s ≡ m
     begins : MayBegin f s
 
-  empty-out : {s : List ℕ} (f : ℕ → Bool) (m : List ℕ) → Memᴰ s (empty_reading m) → ReadsFrom f m s
-  empty-out {s} f m i =
+  empty_out : {s : List ℕ} (f : ℕ → Bool) (m : List ℕ) → Memᴰ s (empty_reading m) → ReadsFrom f m s
+  empty_out {s} f m i =
       let o = keep_out (λ s. empty m) ([] ∷ []) i in
-      rw (Memᴰ.eq_of_singleton o.0, empty-nil m o.1) (record { linked = none; joined = refl; begins = tt })
+      rw (Memᴰ.eq_of_singleton o.0, empty_nil m o.1) (record { linked = none; joined = refl; begins = tt })
 
-  linked-cons : {x : ℕ} (s : List ℕ) → x < size t → Linked t s → MayBegin (may_follow x) s → Linked t (x ∷ s)
-  linked-cons [] h p b = one h
-  linked-cons (y ∷ s) h p b = more h b p
+  linked_cons : {x : ℕ} (s : List ℕ) → x < size t → Linked t s → MayBegin (may_follow x) s → Linked t (x ∷ s)
+  linked_cons [] h p b = one h
+  linked_cons (y ∷ s) h p b = more h b p
 
   opened_out : (x : ℕ) (f : ℕ → Bool) (m s : List ℕ) → x < size t → opens f m x ≡ true → ReadsFrom (may_follow x) (left m x) s → ReadsFrom f m (x ∷ s)
   opened_out x f m s h e r =
       let a = (and-eq-true_iff (f x) (equal (take (length (word t x)) m) (word t x))).0 e in
       let w = equal-true (take (length (word t x)) m) (word t x) a.1 in
       record {
-        linked = linked-cons s h r.linked r.begins;
+        linked = linked_cons s h r.linked r.begins;
         joined = rw r.joined (ap (λ (l : List ℕ). l ++ left m x) (sym w) ∙ take-append-drop (length (word t x)) m);
         begins = a.0;
       }
@@ -88,70 +88,70 @@ module _ (t : Table) where
   abbrev Sound : ℕ → Type 0
   Sound n = (f : ℕ → Bool) (m s : List ℕ) → Memᴰ s (readings_from n f m) → ReadsFrom f m s
 
-  openers-out : (n : ℕ) → Sound n → (f : ℕ → Bool) (m s : List ℕ) → Memᴰ s (flat_map (opened_by (readings_from n) m) (openers f m)) → ReadsFrom f m s
-  openers-out n ih f m s i =
-      let a = flat_map-out (opened_by (readings_from n) m) (openers f m) i in
+  openers_out : (n : ℕ) → Sound n → (f : ℕ → Bool) (m s : List ℕ) → Memᴰ s (flat_map (opened_by (readings_from n) m) (openers f m)) → ReadsFrom f m s
+  openers_out n ih f m s i =
+      let a = flat_map_out (opened_by (readings_from n) m) (openers f m) i in
       let x = a.a in
       let o = keep_out (opens f m) (numbers (size t)) a.member in
       let b = Memᴰ.of_map (◌∷◌ x) (readings_from n (may_follow x) (left m x)) a.gives in
-      subst (ReadsFrom f m) b.2 (opened_out x f m b.0 (numbers-out (size t) o.0) o.1 (ih (may_follow x) (left m x) b.0 b.1))
+      subst (ReadsFrom f m) b.2 (opened_out x f m b.0 (numbers_out (size t) o.0) o.1 (ih (may_follow x) (left m x) b.0 b.1))
 
-  either-out : (n : ℕ) → Sound n → (f : ℕ → Bool) (m s : List ℕ)
+  either_out : (n : ℕ) → Sound n → (f : ℕ → Bool) (m s : List ℕ)
       → Memᴰ s (empty_reading m) ⊎ Memᴰ s (flat_map (opened_by (readings_from n) m) (openers f m)) → ReadsFrom f m s
-  either-out n ih f m s (inl i) = empty-out f m i
-  either-out n ih f m s (inr i) = openers-out n ih f m s i
+  either_out n ih f m s (inl i) = empty_out f m i
+  either_out n ih f m s (inr i) = openers_out n ih f m s i
 
-  readings-out : (n : ℕ) → Sound n
+  readings_out : (n : ℕ) → Sound n
   unfolding readings_from
-  readings-out zero f m s i = empty-out f m i
-  readings-out (suc n) f m s i = either-out n (readings-out n) f m s (Memᴰ.append_cases (empty_reading m) i)
+  readings_out zero f m s i = empty_out f m i
+  readings_out (suc n) f m s i = either_out n (readings_out n) f m s (Memᴰ.append_cases (empty_reading m) i)
 
-  empty-in : Memᴰ [] (empty_reading [])
+  empty_in : Memᴰ [] (empty_reading [])
   unfolding empty
-  empty-in = keep-in (λ s. empty {A = ℕ} []) {l = [] ∷ []} (Memᴰ.head refl) refl
+  empty_in = keep_in (λ s. empty {A = ℕ} []) {l = [] ∷ []} (Memᴰ.head refl) refl
 
-  begins-rest : {x : ℕ} (s : List ℕ) → Linked t (x ∷ s) → MayBegin (may_follow x) s
-  begins-rest [] p = tt
-  begins-rest (y ∷ s) p = second-follows p
+  begins_rest : {x : ℕ} (s : List ℕ) → Linked t (x ∷ s) → MayBegin (may_follow x) s
+  begins_rest [] p = tt
+  begins_rest (y ∷ s) p = second_follows p
 
   opened_in : (n : ℕ) (f : ℕ → Bool) (x : ℕ) (s : List ℕ) → Linked t (x ∷ s) → f x ≡ true → Memᴰ s (readings_from n (may_follow x) (message t s))
       → Memᴰ (x ∷ s) (flat_map (opened_by (readings_from n) (message t (x ∷ s))) (openers f (message t (x ∷ s))))
   opened_in n f x s p b i =
       let m = message t (x ∷ s) in
       let rest : left m x ≡ message t s = drop-append_seam (word t x) (message t s) in
-      let opened : opens f m x ≡ true = (and-eq-true_iff (f x) _).1 (b, rw (take-append_seam (word t x) (message t s)) (equal-same (word t x))) in
-      flat_map-in (opened_by (readings_from n) m) (keep-in (opens f m) (numbers-in (size t) (first_word p)) opened)
+      let opened : opens f m x ≡ true = (and-eq-true_iff (f x) _).1 (b, rw (take-append_seam (word t x) (message t s)) (equal_same (word t x))) in
+      flat_map_in (opened_by (readings_from n) m) (keep_in (opens f m) (numbers_in (size t) (first_word p)) opened)
       (Memᴰ.map (◌∷◌ x) {l = readings_from n (may_follow x) (left m x)} (rw rest i))
 
   -- Every linked sequence of at most n words, of which the first passes the test f, is in the list of its message.
-  readings-in : (n : ℕ) (f : ℕ → Bool) (s : List ℕ) → Linked t s → MayBegin f s → length s ≤ n → Memᴰ s (readings_from n f (message t s))
+  readings_in : (n : ℕ) (f : ℕ → Bool) (s : List ℕ) → Linked t s → MayBegin f s → length s ≤ n → Memᴰ s (readings_from n f (message t s))
   unfolding readings_from
-  readings-in zero f [] p b l = empty-in
-  readings-in zero f (x ∷ s) p b l = absurd (omega arith)
-  readings-in (suc n) f [] p b l = Memᴰ.append_left (flat_map (opened_by (readings_from n) []) (openers f [])) empty-in
-  readings-in (suc n) f (x ∷ s) p b l =
+  readings_in zero f [] p b l = empty_in
+  readings_in zero f (x ∷ s) p b l = absurd (omega arith)
+  readings_in (suc n) f [] p b l = Memᴰ.append_left (flat_map (opened_by (readings_from n) []) (openers f [])) empty_in
+  readings_in (suc n) f (x ∷ s) p b l =
       Memᴰ.append_right (empty_reading (message t (x ∷ s)))
-      (opened_in n f x s p b (readings-in n (may_follow x) s (rest-linked p) (begins-rest s p) (omega arith)))
+      (opened_in n f x s p b (readings_in n (may_follow x) s (rest_linked p) (begins_rest s p) (omega arith)))
 
-  permitted-begins : (s : List ℕ) → Permitted t s → MayBegin t.begins s
-  permitted-begins [] p = tt
-  permitted-begins (x ∷ s) p = first-begins p
+  permitted_begins : (s : List ℕ) → Permitted t s → MayBegin t.begins s
+  permitted_begins [] p = tt
+  permitted_begins (x ∷ s) p = first_begins p
 
-  linked-permitted : Free t → (s : List ℕ) → Linked t s → MayBegin t.begins s → Permitted t s
-  linked-permitted free [] l b = nothing
-  linked-permitted free (x ∷ s) l b = free-permitted free b l
+  linked_permitted : Free t → (s : List ℕ) → Linked t s → MayBegin t.begins s → Permitted t s
+  linked_permitted free [] l b = nothing
+  linked_permitted free (x ∷ s) l b = free_permitted free b l
 
   -- Every reading of m is in the list.
-  pub reading-in : NonEmpty t → {m s : List ℕ} → Reads t m s → Memᴰ s (readings m)
+  pub reading_in : NonEmpty t → {m s : List ℕ} → Reads t m s → Memᴰ s (readings m)
   unfolding readings
-  reading-in ne {s = s} r =
-      let linked = permitted-linked r.permitted in
-      let short = words-most t ne s (linked-within linked) in
-      subst (λ (l : List ℕ). Memᴰ s (readings l)) r.joined (readings-in (length (message t s)) t.begins s linked (permitted-begins s r.permitted) short)
+  reading_in ne {s = s} r =
+      let linked = permitted_linked r.permitted in
+      let short = words_most t ne s (linked_within linked) in
+      subst (λ (l : List ℕ). Memᴰ s (readings l)) r.joined (readings_in (length (message t s)) t.begins s linked (permitted_begins s r.permitted) short)
 
   -- Without bans every member of the list is a reading of m.
-  pub reading-out : Free t → {s : List ℕ} (m : List ℕ) → Memᴰ s (readings m) → Reads t m s
+  pub reading_out : Free t → {s : List ℕ} (m : List ℕ) → Memᴰ s (readings m) → Reads t m s
   unfolding readings
-  reading-out free {s} m i =
-      let r = readings-out (length m) t.begins m s i in
-      record { permitted = linked-permitted free s r.linked r.begins; joined = r.joined }
+  reading_out free {s} m i =
+      let r = readings_out (length m) t.begins m s i in
+      record { permitted = linked_permitted free s r.linked r.begins; joined = r.joined }

@@ -18,22 +18,22 @@ module _ {A : Type 0} where
     pub member : Memᴰ a l
 
   -- An empty list has no member.
-  pub empty-none : {a : A} {l : List A} → empty l ≡ true → Memᴰ a l → ⊥
+  pub empty_none : {a : A} {l : List A} → empty l ≡ true → Memᴰ a l → ⊥
   unfolding empty
-  empty-none e (Memᴰ.head h) = false≢true e
-  empty-none e (Memᴰ.tail m) = false≢true e
+  empty_none e (Memᴰ.head h) = false≢true e
+  empty_none e (Memᴰ.tail m) = false≢true e
 
   -- Another list has a member.
-  pub some-member : (l : List A) → empty l ≡ false → Member l
+  pub some_member : (l : List A) → empty l ≡ false → Member l
   unfolding empty
-  some-member [] e = absurd (false≢true (sym e))
-  some-member (a ∷ l) e = record { a = a; member = Memᴰ.head refl }
+  some_member [] e = absurd (false≢true (sym e))
+  some_member (a ∷ l) e = record { a = a; member = Memᴰ.head refl }
 
   -- Where every member passes a test, each does.
-  pub every-member : (f : A → Bool) {a : A} {l : List A} → every f l ≡ true → Memᴰ a l → f a ≡ true
+  pub every_member : (f : A → Bool) {a : A} {l : List A} → every f l ≡ true → Memᴰ a l → f a ≡ true
   unfolding every
-  every-member f e (Memᴰ.head {x} {xs} h) = ap f h ∙ ((and-eq-true_iff (f x) (every f xs)).0 e).0
-  every-member f e (Memᴰ.tail {x} {xs} m) = every-member f ((and-eq-true_iff (f x) (every f xs)).0 e).1 m
+  every_member f e (Memᴰ.head {x} {xs} h) = ap f h ∙ ((and-eq-true_iff (f x) (every f xs)).0 e).0
+  every_member f e (Memᴰ.tail {x} {xs} m) = every_member f ((and-eq-true_iff (f x) (every f xs)).0 e).1 m
 
 module _ {A B : Type 0} (f : A → List B) where
   -- A member of l, and b in its list.
@@ -43,23 +43,23 @@ module _ {A B : Type 0} (f : A → List B) where
     pub gives : Memᴰ b (f a)
 
   -- Lists joined to one have the members of each.
-  pub flat_map-in : {a : A} {b : B} {l : List A} → Memᴰ a l → Memᴰ b (f a) → Memᴰ b (flat_map f l)
+  pub flat_map_in : {a : A} {b : B} {l : List A} → Memᴰ a l → Memᴰ b (f a) → Memᴰ b (flat_map f l)
   unfolding flat_map
-  flat_map-in (Memᴰ.head {xs = xs} h) m = Memᴰ.append_left (flat_map f xs) (rw h at m)
-  flat_map-in (Memᴰ.tail {x} n) m = Memᴰ.append_right (f x) (flat_map-in n m)
+  flat_map_in (Memᴰ.head {xs = xs} h) m = Memᴰ.append_left (flat_map f xs) (rw h at m)
+  flat_map_in (Memᴰ.tail {x} n) m = Memᴰ.append_right (f x) (flat_map_in n m)
 
-  source-later : {b : B} {x : A} {l : List A} → Source b l → Source b (x ∷ l)
-  source-later s = record { a = s.a; member = Memᴰ.tail s.member; gives = s.gives }
+  source_later : {b : B} {x : A} {l : List A} → Source b l → Source b (x ∷ l)
+  source_later s = record { a = s.a; member = Memᴰ.tail s.member; gives = s.gives }
 
-  source-cases : {b : B} {x : A} {l : List A} → (Memᴰ b (flat_map f l) → Source b l) → Memᴰ b (f x) ⊎ Memᴰ b (flat_map f l) → Source b (x ∷ l)
-  source-cases {x = x} ih (inl m) = record { a = x; member = Memᴰ.head refl; gives = m }
-  source-cases ih (inr m) = source-later (ih m)
+  source_cases : {b : B} {x : A} {l : List A} → (Memᴰ b (flat_map f l) → Source b l) → Memᴰ b (f x) ⊎ Memᴰ b (flat_map f l) → Source b (x ∷ l)
+  source_cases {x = x} ih (inl m) = record { a = x; member = Memᴰ.head refl; gives = m }
+  source_cases ih (inr m) = source_later (ih m)
 
   -- A member of the joined list is a member of one of them.
-  pub flat_map-out : {b : B} (l : List A) → Memᴰ b (flat_map f l) → Source b l
+  pub flat_map_out : {b : B} (l : List A) → Memᴰ b (flat_map f l) → Source b l
   unfolding flat_map
-  flat_map-out [] m = absurd (Memᴰ.not-nil m)
-  flat_map-out (x ∷ l) m = source-cases (λ n. flat_map-out l n) (Memᴰ.append_cases (f x) m)
+  flat_map_out [] m = absurd (Memᴰ.not-nil m)
+  flat_map_out (x ∷ l) m = source_cases (λ n. flat_map_out l n) (Memᴰ.append_cases (f x) m)
 
 module _ {A : Type 0} (f : A → Bool) where
   -- a, if it passes the test
@@ -71,21 +71,21 @@ module _ {A : Type 0} (f : A → Bool) where
   unfolding flat_map
   keep l = flat_map single l
 
-  single-out : {a b : A} (c : Bool) → Memᴰ b (if c then a ∷ [] else []) → (b ≡ a) × (c ≡ true)
-  single-out true m = (Memᴰ.eq_of_singleton m, refl)
-  single-out false m = absurd (Memᴰ.not-nil m)
+  single_out : {a b : A} (c : Bool) → Memᴰ b (if c then a ∷ [] else []) → (b ≡ a) × (c ≡ true)
+  single_out true m = (Memᴰ.eq_of_singleton m, refl)
+  single_out false m = absurd (Memᴰ.not-nil m)
 
   -- A member that passes the test is kept.
-  pub keep-in : {a : A} {l : List A} → Memᴰ a l → f a ≡ true → Memᴰ a (keep l)
+  pub keep_in : {a : A} {l : List A} → Memᴰ a l → f a ≡ true → Memᴰ a (keep l)
   unfolding keep
-  keep-in m e = flat_map-in single m (rw e (Memᴰ.head refl))
+  keep_in m e = flat_map_in single m (rw e (Memᴰ.head refl))
 
   -- What is kept is a member and passes the test.
   pub keep_out : {a : A} (l : List A) → Memᴰ a (keep l) → Memᴰ a l × (f a ≡ true)
   unfolding keep
   keep_out l m =
-      let s = flat_map-out single l m in
-      let o = single-out (f s.a) s.gives in
+      let s = flat_map_out single l m in
+      let o = single_out (f s.a) s.gives in
       (Memᴰ.cast o.0 s.member, ap f o.0 ∙ o.1)
 
 -- the numbers below n
@@ -93,22 +93,22 @@ unfoldable pub numbers : ℕ → List ℕ
 unfolding tabulate
 numbers n = tabulate (λ x. x) n
 
-last-in : {x n : ℕ} → (x < n → Memᴰ x (numbers n)) → x < suc n → Dec (x ≡ n) → Memᴰ x (numbers (suc n))
+last_in : {x n : ℕ} → (x < n → Memᴰ x (numbers n)) → x < suc n → Dec (x ≡ n) → Memᴰ x (numbers (suc n))
 unfolding numbers
-last-in {n = n} ih h (yes e) = Memᴰ.append_right (numbers n) (Memᴰ.head e)
-last-in {n = n} ih h (no e) = Memᴰ.append_left (n ∷ []) (ih (omega arith))
+last_in {n = n} ih h (yes e) = Memᴰ.append_right (numbers n) (Memᴰ.head e)
+last_in {n = n} ih h (no e) = Memᴰ.append_left (n ∷ []) (ih (omega arith))
 
 -- The list has every number below n,
-pub numbers-in : {x : ℕ} (n : ℕ) → x < n → Memᴰ x (numbers n)
-numbers-in zero h = absurd (omega arith)
-numbers-in {x} (suc n) h = last-in (λ l. numbers-in n l) h (ℕ_discrete x n)
+pub numbers_in : {x : ℕ} (n : ℕ) → x < n → Memᴰ x (numbers n)
+numbers_in zero h = absurd (omega arith)
+numbers_in {x} (suc n) h = last_in (λ l. numbers_in n l) h (ℕ_discrete x n)
 
-below-cases : {x n : ℕ} → (Memᴰ x (numbers n) → x < n) → Memᴰ x (numbers n) ⊎ Memᴰ x (n ∷ []) → x < suc n
-below-cases ih (inl m) = omega (arith, ih m)
-below-cases ih (inr m) = omega (arith, Memᴰ.eq_of_singleton m)
+below_cases : {x n : ℕ} → (Memᴰ x (numbers n) → x < n) → Memᴰ x (numbers n) ⊎ Memᴰ x (n ∷ []) → x < suc n
+below_cases ih (inl m) = omega (arith, ih m)
+below_cases ih (inr m) = omega (arith, Memᴰ.eq_of_singleton m)
 
 -- and no other.
-pub numbers-out : {x : ℕ} (n : ℕ) → Memᴰ x (numbers n) → x < n
+pub numbers_out : {x : ℕ} (n : ℕ) → Memᴰ x (numbers n) → x < n
 unfolding numbers
-numbers-out zero m = absurd (Memᴰ.not-nil m)
-numbers-out (suc n) m = below-cases (λ k. numbers-out n k) (Memᴰ.append_cases (numbers n) m)
+numbers_out zero m = absurd (Memᴰ.not-nil m)
+numbers_out (suc n) m = below_cases (λ k. numbers_out n k) (Memᴰ.append_cases (numbers n) m)

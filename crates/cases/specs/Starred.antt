@@ -71,6 +71,6 @@ opened =
     ∷ []
 
 -- The lone statement: both tables pass the check.
-pub starred-checked : every check (starred ++ opened) ≡ true
+pub starred_checked : every check (starred ++ opened) ≡ true
 unfolding every check
-starred-checked = refl
+starred_checked = refl

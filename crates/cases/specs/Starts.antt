@@ -38,8 +38,8 @@ module _ (t : Table) where
 
   -- a is a pair of words of the table, and one of S.
   pub record Starting (S : ℕ → ℕ → Type 0) (a : WordPair) : Type 0 where
-    pub left-known : a.x < size t
-    pub right-known : a.y < size t
+    pub left_known : a.x < size t
+    pub right_known : a.y < size t
     pub starts : S a.x a.y
 
   -- The list has the pairs of words of S and no other.

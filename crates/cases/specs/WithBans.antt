@@ -38,6 +38,6 @@ banned =
     ∷ []
 
 -- The lone statement: the code without its ban and the table pass the checks.
-pub banned-checked : (check freely && every check_banned banned) ≡ true
+pub banned_checked : (check freely && every check_banned banned) ≡ true
 unfolding every check check_banned
-banned-checked = refl
+banned_checked = refl

@@ -10,7 +10,7 @@ use borrow.Author.Tests.{lt-ltb, le-ltb, le-leb, lt-leb}
 use Rattle.code.specs.Definitions.ClassSheets.{different_bytes, all_bytes}
 use Rattle.code.specs.Definitions.Lists.{any}
 use Rattle.code.specs.Definitions.Texts.{other, class_of, is_letter}
-use Rattle.code.specs.Laws.Lists.{any-tabulate, any_found, any-alike}
+use Rattle.code.specs.Laws.Lists.{any-tabulate, any_found, any_alike}
 
 -- the bytes from `low` to `high`
 abbrev pub from_to : ℕ → ℕ → ℕ → Bool
@@ -33,12 +33,12 @@ pub record FilledBy (taken : ℕ → Bool) (symbol : ℕ) (c d : List ℕ) (t : 
 
 module _ {p : ℕ → Bool} {symbol : ℕ} {c d : List ℕ} {t : Bool} where
   -- Only what is taken counts.
-  filled-alike : (q : ℕ → Bool) → ((b : ℕ) → b < different_bytes → p b ≡ q b) → FilledBy p symbol c d t → FilledBy q symbol c d t
+  filled_alike : (q : ℕ → Bool) → ((b : ℕ) → b < different_bytes → p b ≡ q b) → FilledBy p symbol c d t → FilledBy q symbol c d t
   unfolding all_bytes
-  filled-alike q same f = record {
+  filled_alike q same f = record {
     long = f.long;
     at = λ b h. rw (← same b h) (f.at b h);
-    met = f.met ∙ any-alike (λ b. is_letter c b && p b) (λ b. is_letter c b && q b) (λ b. b) different_bytes (λ b h. ap (λ (x : Bool). is_letter c b && x) (same b h));
+    met = f.met ∙ any_alike (λ b. is_letter c b && p b) (λ b. is_letter c b && q b) (λ b. b) different_bytes (λ b h. ap (λ (x : Bool). is_letter c b && x) (same b h));
   }
 
   -- One byte more is taken, that was not.
@@ -52,9 +52,9 @@ module _ {p : ℕ → Bool} {symbol : ℕ} {c d : List ℕ} {t : Bool} where
         both false = refl
 
     -- It is a letter already.
-    pub filled-letter : class_of d e < other → FilledBy q symbol c d true
+    pub filled_letter : class_of d e < other → FilledBy q symbol c d true
     unfolding all_bytes
-    filled-letter l =
+    filled_letter l =
         let letter : is_letter c e ≡ true = lt-ltb (class_of c e) other (rw still at l) in
         record {
           long = f.long;
@@ -68,15 +68,15 @@ module _ {p : ℕ → Bool} {symbol : ℕ} {c d : List ℕ} {t : Bool} where
         same b (no h) letter = rw (others b h)
 
     -- It becomes one.
-    pub filled-other : other ≤ class_of d e → FilledBy q symbol c (set d e symbol) t
+    pub filled_other : other ≤ class_of d e → FilledBy q symbol c (set d e symbol) t
     unfolding all_bytes
-    filled-other l =
+    filled_other l =
         let none : is_letter c e ≡ false = le-ltb (class_of c e) other (rw still at l) in
         record {
           long = length-set d e symbol ∙ f.long;
           at = λ b h. here b h (ℕ_discrete b e) none;
           met = f.met
-              ∙ any-alike (λ b. is_letter c b && p b) (λ b. is_letter c b && q b) (λ b. b) different_bytes (λ b h. alike b (ℕ_discrete b e) none);
+              ∙ any_alike (λ b. is_letter c b && p b) (λ b. is_letter c b && q b) (λ b. b) different_bytes (λ b h. alike b (ℕ_discrete b e) none);
         }
       where
         here : (b : ℕ) → b < different_bytes → Dec (b ≡ e) → is_letter c e ≡ false
@@ -99,9 +99,9 @@ between_none low b = by_place (dec_le low b)
     by_place (yes h) = rw (le-ltb b low h, and-false)
     by_place (no h) = rw (lt-leb low b (omega arith))
 
-pub filling-starts : (low symbol : ℕ) (c : List ℕ) → length c ≡ different_bytes → FilledBy (between low low) symbol c c false
+pub filling_starts : (low symbol : ℕ) (c : List ℕ) → length c ≡ different_bytes → FilledBy (between low low) symbol c c false
 unfolding all_bytes
-filling-starts low symbol c long = record {
+filling_starts low symbol c long = record {
   long = long;
   at = λ b h. rw (between_none low b) (both b (is_letter c b));
   met = sym (any-tabulate (λ b. is_letter c b && between low low b) (λ b. b) different_bytes (λ b h. rw (between_none low b, and-false)));
@@ -115,11 +115,11 @@ filling-starts low symbol c long = record {
 between_next : (low e : ℕ) → low ≤ e → between low (e + 1) e ≡ true
 between_next low e h = rw (le-leb low e h, lt-ltb e (e + 1) (omega arith))
 
-between-new : (low e : ℕ) → between low e e ≡ false
-between-new low e = rw (le-ltb e e (omega arith), and-false)
+between_new : (low e : ℕ) → between low e e ≡ false
+between_new low e = rw (le-ltb e e (omega arith), and-false)
 
-between-others : (low e b : ℕ) → (b ≡ e → ⊥) → between low e b ≡ between low (e + 1) b
-between-others low e b n = by_place (dec_lt b e)
+between_others : (low e b : ℕ) → (b ≡ e → ⊥) → between low e b ≡ between low (e + 1) b
+between_others low e b n = by_place (dec_lt b e)
   where
     by_place : Dec (b < e) → between low e b ≡ between low (e + 1) b
     by_place (yes h) = rw (lt-ltb b e h, lt-ltb b (e + 1) (omega arith))
@@ -133,14 +133,14 @@ between-others low e b n = by_place (dec_lt b e)
         by_two (no k) = absurd (n (omega arith))
 
 module _ (low e : ℕ) {symbol : ℕ} {c d : List ℕ} {t : Bool} (f : FilledBy (between low e) symbol c d t) (from : low ≤ e) (within : e < different_bytes) where
-  pub filling-on : {d' : List ℕ} {r t' : Bool} → Gives e symbol d d' r → t' ≡ (r || t) → FilledBy (between low (e + 1)) symbol c d' t'
-  filling-on (had l p) q = rw (p, q) (filled-letter e within (between-new low e) (between low (e + 1)) (between_next low e from) (between-others low e) f l)
-  filling-on (got l p) q = rw (p, q) (filled-other e within (between-new low e) (between low (e + 1)) (between_next low e from) (between-others low e) f l)
+  pub filling_on : {d' : List ℕ} {r t' : Bool} → Gives e symbol d d' r → t' ≡ (r || t) → FilledBy (between low (e + 1)) symbol c d' t'
+  filling_on (had l p) q = rw (p, q) (filled_letter e within (between_new low e) (between low (e + 1)) (between_next low e from) (between_others low e) f l)
+  filling_on (got l p) q = rw (p, q) (filled_other e within (between_new low e) (between low (e + 1)) (between_next low e from) (between_others low e) f l)
 
 -- Past the highest byte all of the range are.
-pub filling-ends : (low high e : ℕ) {symbol : ℕ} {c d : List ℕ} {t : Bool} → FilledBy (between low e) symbol c d t → e - low ≤ high + 1 - low → high < e
+pub filling_ends : (low high e : ℕ) {symbol : ℕ} {c d : List ℕ} {t : Bool} → FilledBy (between low e) symbol c d t → e - low ≤ high + 1 - low → high < e
     → FilledBy (from_to low high) symbol c d t
-filling-ends low high e f few past = filled-alike (from_to low high) (λ b h. by_place b (dec_le low b) (dec_lt b e) (dec_le b high)) f
+filling_ends low high e f few past = filled_alike (from_to low high) (λ b h. by_place b (dec_le low b) (dec_lt b e) (dec_le b high)) f
   where
     by_place : (b : ℕ) → Dec (low ≤ b) → Dec (b < e) → Dec (b ≤ high) → between low e b ≡ from_to low high b
     by_place b (no h) k l = rw (lt-leb low b (omega arith))

@@ -11,15 +11,15 @@ use Rattle.code.specs.Definitions.Sheets.{is_digit, value_of, bad_bytes, body, c
 pub digit_low : (b : ℕ) → b ≤ 57 → leb 48 b ≡ is_digit b
 digit_low b h = rw (le-leb b 57 h, lt-leb 65 b (omega arith), and-true, or-false)
 
-pub digit-high : (b : ℕ) → 57 < b → 65 ≤ b → leb b 70 ≡ is_digit b
-digit-high b h k = rw (lt-leb b 57 h, le-leb 65 b k, and-false)
+pub digit_high : (b : ℕ) → 57 < b → 65 ≤ b → leb b 70 ≡ is_digit b
+digit_high b h k = rw (lt-leb b 57 h, le-leb 65 b k, and-false)
 
-pub digit-between : (b : ℕ) → 57 < b → b < 65 → false ≡ is_digit b
-digit-between b h k = rw (lt-leb b 57 h, lt-leb 65 b k, and-false)
+pub digit_between : (b : ℕ) → 57 < b → b < 65 → false ≡ is_digit b
+digit_between b h k = rw (lt-leb b 57 h, lt-leb 65 b k, and-false)
 
 -- a digit's byte is 48 at least
-pub digit-from : (b : ℕ) → is_digit b ≡ true → 48 ≤ b
-digit-from b e = go (leb 48 b) (leb 65 b) refl refl
+pub digit_from : (b : ℕ) → is_digit b ≡ true → 48 ≤ b
+digit_from b e = go (leb 48 b) (leb 65 b) refl refl
   where
     go : (t u : Bool) → leb 48 b ≡ t → leb 65 b ≡ u → 48 ≤ b
     go true u p q = leb-true 48 b p
@@ -29,8 +29,8 @@ digit-from b e = go (leb 48 b) (leb 65 b) refl refl
 pub value_low : (b : ℕ) → b ≤ 57 → b - 48 ≡ value_of b
 value_low b h = rw (le-leb b 57 h)
 
-pub value-high : (b : ℕ) → 57 < b → b - 55 ≡ value_of b
-value-high b h = rw (lt-leb b 57 h)
+pub value_high : (b : ℕ) → 57 < b → b - 55 ≡ value_of b
+value_high b h = rw (lt-leb b 57 h)
 
 -- refusal 2 at one byte, and whether the byte after it stands after a CR
 abbrev pub bad_byte : Bool → ℕ → Bool
@@ -47,45 +47,45 @@ bad_more true a s = refl
 bad_more false a s = refl
 
 -- a pass over the bytes: what was bad so far, and what the rest adds
-pub bad-on : (bad cr : Bool) (s : List ℕ) (i : ℕ) → i < length s
+pub bad_on : (bad cr : Bool) (s : List ℕ) (i : ℕ) → i < length s
     → (bad || bad_byte cr (get_or s i 0)) || bad_bytes (after_cr cr (get_or s i 0)) (drop (i + 1) s) ≡ bad || bad_bytes cr (drop i s)
-bad-on bad cr s i h = rw (add-one i, drop-cons s i 0 h, bad_more, or_assoc)
+bad_on bad cr s i h = rw (add-one i, drop-cons s i 0 h, bad_more, or_assoc)
 
-pub bad-end : (bad cr : Bool) (s : List ℕ) (i : ℕ) → length s ≤ i → bad || bad_bytes cr (drop i s) ≡ bad || cr
+pub bad_end : (bad cr : Bool) (s : List ℕ) (i : ℕ) → length s ≤ i → bad || bad_bytes cr (drop i s) ≡ bad || cr
 unfolding bad_bytes
-bad-end bad cr s i h = rw (drop_of_length-le s h)
+bad_end bad cr s i h = rw (drop_of_length-le s h)
 
 -- a wrong byte, by the tests in turn
-pub bad-plain : (cr : Bool) (b : ℕ) → cr ≡ false → is_digit b ≡ true → false ≡ bad_byte cr b
-bad-plain cr b p q = rw (p, q)
+pub bad_plain : (cr : Bool) (b : ℕ) → cr ≡ false → is_digit b ≡ true → false ≡ bad_byte cr b
+bad_plain cr b p q = rw (p, q)
 
-pub bad-comma : (cr : Bool) (b : ℕ) → cr ≡ false → is_digit b ≡ false → b ≡ 44 → false ≡ bad_byte cr b
-bad-comma cr b p q e = rw (p, q, eq-eqb b 44 e)
+pub bad_comma : (cr : Bool) (b : ℕ) → cr ≡ false → is_digit b ≡ false → b ≡ 44 → false ≡ bad_byte cr b
+bad_comma cr b p q e = rw (p, q, eq-eqb b 44 e)
 
-pub bad-other : (cr : Bool) (b : ℕ) → cr ≡ false → is_digit b ≡ false → (b ≡ 44 → ⊥) → not (eqb b 13) ≡ bad_byte cr b
-bad-other cr b p q n = rw (p, q, ne_eqb b 44 n)
+pub bad_other : (cr : Bool) (b : ℕ) → cr ≡ false → is_digit b ≡ false → (b ≡ 44 → ⊥) → not (eqb b 13) ≡ bad_byte cr b
+bad_other cr b p q n = rw (p, q, ne_eqb b 44 n)
 
 -- the final CR LF, by the tests in turn
-crlf-once : (a : ℕ) → crlf a a ≡ false
-crlf-once a = go (eqb a 13) refl
+crlf_once : (a : ℕ) → crlf a a ≡ false
+crlf_once a = go (eqb a 13) refl
   where
     go : (t : Bool) → eqb a 13 ≡ t → crlf a a ≡ false
     go true e = rw (eqb-true a 13 e)
     go false e = rw e
 
-pub body-short : (s : List ℕ) → length s < 2 → take (length s) s ≡ body s
+pub body_short : (s : List ℕ) → length s < 2 → take (length s) s ≡ body s
 unfolding body
-body-short [] h = refl
-body-short (a ∷ []) h = rw (crlf-once a)
-body-short (a ∷ b ∷ s) h = absurd (omega arith)
+body_short [] h = refl
+body_short (a ∷ []) h = rw (crlf_once a)
+body_short (a ∷ b ∷ s) h = absurd (omega arith)
 
-pub body-no-cr : (s : List ℕ) → (get_or s (length s - 2) 0 ≡ 13 → ⊥) → take (length s) s ≡ body s
+pub body_no_cr : (s : List ℕ) → (get_or s (length s - 2) 0 ≡ 13 → ⊥) → take (length s) s ≡ body s
 unfolding body
-body-no-cr s n = rw (ne_eqb (get_or s (length s - 2) 0) 13 n, take-length)
+body_no_cr s n = rw (ne_eqb (get_or s (length s - 2) 0) 13 n, take-length)
 
-pub body-no-lf : (s : List ℕ) → (get_or s (length s - 1) 0 ≡ 10 → ⊥) → take (length s) s ≡ body s
+pub body_no_lf : (s : List ℕ) → (get_or s (length s - 1) 0 ≡ 10 → ⊥) → take (length s) s ≡ body s
 unfolding body
-body-no-lf s n = rw (ne_eqb (get_or s (length s - 1) 0) 10 n, and-false, take-length)
+body_no_lf s n = rw (ne_eqb (get_or s (length s - 1) 0) 10 n, and-false, take-length)
 
 pub body_end : (s : List ℕ) → get_or s (length s - 2) 0 ≡ 13 → get_or s (length s - 1) 0 ≡ 10 → take (length s - 2) s ≡ body s
 unfolding body
@@ -97,35 +97,35 @@ leading [] = []
 leading (a ∷ s) = if is_digit a then a ∷ leading s else []
 
 -- a scan for the end of a field: one digit more, another byte, the end of the file
-pub leading-on : (s : List ℕ) (i : ℕ) → i < length s → is_digit (get_or s i 0) ≡ true → length (leading (drop i s)) ≡ length (leading (drop (i + 1) s)) + 1
+pub leading_on : (s : List ℕ) (i : ℕ) → i < length s → is_digit (get_or s i 0) ≡ true → length (leading (drop i s)) ≡ length (leading (drop (i + 1) s)) + 1
 unfolding leading
-leading-on s i h d = rw (add-one i, drop-cons s i 0 h, d, add-one)
+leading_on s i h d = rw (add-one i, drop-cons s i 0 h, d, add-one)
 
-pub leading-stop : (s : List ℕ) (i : ℕ) → i < length s → is_digit (get_or s i 0) ≡ false → length (leading (drop i s)) ≡ 0
+pub leading_stop : (s : List ℕ) (i : ℕ) → i < length s → is_digit (get_or s i 0) ≡ false → length (leading (drop i s)) ≡ 0
 unfolding leading
-leading-stop s i h d = rw (drop-cons s i 0 h, d)
+leading_stop s i h d = rw (drop-cons s i 0 h, d)
 
 pub leading_end : (s : List ℕ) (i : ℕ) → length s ≤ i → length (leading (drop i s)) ≡ 0
 unfolding leading
 leading_end s i h = rw (drop_of_length-le s h)
 
 -- a field that is not empty begins with the digit that stands there
-pub leading-first : (s : List ℕ) (i : ℕ) → 0 < length (leading (drop i s))
+pub leading_first : (s : List ℕ) (i : ℕ) → 0 < length (leading (drop i s))
     → (leading (drop i s) ≡ get_or s i 0 ∷ leading (drop (i + 1) s)) × (is_digit (get_or s i 0) ≡ true)
 unfolding leading
-leading-first s i h = go (dec_lt i (length s)) (is_digit (get_or s i 0)) refl
+leading_first s i h = go (dec_lt i (length s)) (is_digit (get_or s i 0)) refl
   where
     go : Dec (i < length s) → (t : Bool) → is_digit (get_or s i 0) ≡ t
         → (leading (drop i s) ≡ get_or s i 0 ∷ leading (drop (i + 1) s)) × (is_digit (get_or s i 0) ≡ true)
     go (yes l) true e = (rw (add-one i, drop-cons s i 0 l, e), e)
-    go (yes l) false e = absurd (omega (arith, leading-stop s i l e))
+    go (yes l) false e = absurd (omega (arith, leading_stop s i l e))
     go (no l) t e = absurd (omega (arith, leading_end s i (omega arith)))
 
 -- the bytes of a field are digits, and stand at the front in order
 pub leading_at : (t : List ℕ) (k d : ℕ) → k < length (leading t) → (get_or t k d ≡ get_or (leading t) k d) × (is_digit (get_or t k d) ≡ true)
 unfolding leading
 leading_at [] k d h = absurd (omega arith)
-leading_at (a ∷ t) k d h = by-digit a t k d (leading_at t) (is_digit a) refl h
+leading_at (a ∷ t) k d h = by_digit a t k d (leading_at t) (is_digit a) refl h
   where
     at_front : (a : ℕ) (t : List ℕ) (k d : ℕ) → is_digit a ≡ true
         → ((k d : ℕ) → k < length (leading t) → (get_or t k d ≡ get_or (leading t) k d) × (is_digit (get_or t k d) ≡ true))
@@ -133,8 +133,8 @@ leading_at (a ∷ t) k d h = by-digit a t k d (leading_at t) (is_digit a) refl h
     at_front a t zero d e rest h = (refl, e)
     at_front a t (suc k) d e rest h = rest k d (omega arith)
 
-    by-digit : (a : ℕ) (t : List ℕ) (k d : ℕ)
+    by_digit : (a : ℕ) (t : List ℕ) (k d : ℕ)
         → ((k d : ℕ) → k < length (leading t) → (get_or t k d ≡ get_or (leading t) k d) × (is_digit (get_or t k d) ≡ true))
         → (b : Bool) → is_digit a ≡ b → k < length (leading (a ∷ t)) → (get_or (a ∷ t) k d ≡ get_or (leading (a ∷ t)) k d) × (is_digit (get_or (a ∷ t) k d) ≡ true)
-    by-digit a t k d rest true e h = rw e (at_front a t k d e rest (rw e at h))
-    by-digit a t k d rest false e h = let z : k < 0 = rw e at h in absurd (omega arith)
+    by_digit a t k d rest true e h = rw e (at_front a t k d e rest (rw e at h))
+    by_digit a t k d rest false e h = let z : k < 0 = rw e at h in absurd (omega arith)

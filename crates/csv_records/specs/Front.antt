@@ -7,41 +7,41 @@ use Rattle.std.proofs.Math.ListN.{get_or-eq_default}
 use Rattle.std.proofs.lemmas.Bool.{lt-leb}
 use Rattle.code.specs.Definitions.Lists.{any}
 use Rattle.code.specs.Definitions.Sheets.{is_digit, push}
-use Rattle.code.specs.Laws.Clean.{Clean, none, digit, comma, line, record_fields, record_fields-none, record_fields-digit, record_fields-comma, record_fields-line}
+use Rattle.code.specs.Laws.Clean.{Clean, none, digit, comma, line, record_fields, record_fields_none, record_fields_digit, record_fields_comma, record_fields_line}
 use Rattle.csv_records.specs.Fields.{leading}
 
 -- g are the fields, record by record, of a string whose first field is f and that goes on with t
 pub data Front (g : List (List (List ℕ))) (f : List ℕ) : List ℕ → Type 0 where
-  at-end : g ≡ (f ∷ []) ∷ [] → Front g f []
-  at-comma : {t : List ℕ} → Clean t → g ≡ (f ∷ get_or (record_fields t) 0 []) ∷ drop 1 (record_fields t) → Front g f (44 ∷ t)
-  at-line : {t : List ℕ} → Clean t → g ≡ (f ∷ []) ∷ record_fields t → Front g f (13 ∷ 10 ∷ t)
+  at_end : g ≡ (f ∷ []) ∷ [] → Front g f []
+  at_comma : {t : List ℕ} → Clean t → g ≡ (f ∷ get_or (record_fields t) 0 []) ∷ drop 1 (record_fields t) → Front g f (44 ∷ t)
+  at_line : {t : List ℕ} → Clean t → g ≡ (f ∷ []) ∷ record_fields t → Front g f (13 ∷ 10 ∷ t)
 
-front-digit : (a : ℕ) {g h : List (List (List ℕ))} {f t : List ℕ} → h ≡ push a (get_or g 0 []) ∷ drop 1 g → Front g f t → Front h (a ∷ f) t
-front-digit a e (at-end p) = at-end (e ∙ rw p)
-front-digit a e (at-comma c p) = at-comma c (e ∙ rw p)
-front-digit a e (at-line c p) = at-line c (e ∙ rw p)
+front_digit : (a : ℕ) {g h : List (List (List ℕ))} {f t : List ℕ} → h ≡ push a (get_or g 0 []) ∷ drop 1 g → Front g f t → Front h (a ∷ f) t
+front_digit a e (at_end p) = at_end (e ∙ rw p)
+front_digit a e (at_comma c p) = at_comma c (e ∙ rw p)
+front_digit a e (at_line c p) = at_line c (e ∙ rw p)
 
-front-on : (a : ℕ) (s : List ℕ) → is_digit a ≡ true → Front (record_fields s) (leading s) (drop (length (leading s)) s)
+front_on : (a : ℕ) (s : List ℕ) → is_digit a ≡ true → Front (record_fields s) (leading s) (drop (length (leading s)) s)
     → Front (record_fields (a ∷ s)) (leading (a ∷ s)) (drop (length (leading (a ∷ s))) (a ∷ s))
 unfolding leading
-front-on a s p r = rw p (front-digit a (record_fields-digit a s p) r)
+front_on a s p r = rw p (front_digit a (record_fields_digit a s p) r)
 
 -- Every clean string is so made.
 pub front : {s : List ℕ} → Clean s → Front (record_fields s) (leading s) (drop (length (leading s)) s)
 unfolding leading
-front none = at-end record_fields-none
-front (digit {a} {s} p c) = front-on a s p (front c)
-front (comma {s} c) = at-comma c (record_fields-comma s)
-front (line {s} c) = at-line c (record_fields-line s)
+front none = at_end record_fields_none
+front (digit {a} {s} p c) = front_on a s p (front c)
+front (comma {s} c) = at_comma c (record_fields_comma s)
+front (line {s} c) = at_line c (record_fields_line s)
 
 -- Its first record begins with its first field.
-pub first_field-law : {t : List ℕ} → Clean t → record_fields t ≡ (leading t ∷ drop 1 (get_or (record_fields t) 0 [])) ∷ drop 1 (record_fields t)
-first_field-law c = begins (front c)
+pub first_field_lem : {t : List ℕ} → Clean t → record_fields t ≡ (leading t ∷ drop 1 (get_or (record_fields t) 0 [])) ∷ drop 1 (record_fields t)
+first_field_lem c = begins (front c)
   where
     begins : {g : List (List (List ℕ))} {f t : List ℕ} → Front g f t → g ≡ (f ∷ drop 1 (get_or g 0 [])) ∷ drop 1 g
-    begins (at-end p) = rw p
-    begins (at-comma c p) = rw p
-    begins (at-line c p) = rw p
+    begins (at_end p) = rw p
+    begins (at_comma c p) = rw p
+    begins (at_line c p) = rw p
 
 -- a field, and the record that goes on behind its comma
 pub joined : {g : List (List (List ℕ))} (f : List ℕ) (h : List (List (List ℕ))) (r : List (List ℕ)) (l : List (List (List ℕ)))
@@ -49,9 +49,9 @@ pub joined : {g : List (List (List ℕ))} (f : List ℕ) (h : List (List (List �
 joined f h r l e q = rw q at e
 
 -- A first record that is refused
-pub any-first : (p : List (List ℕ) → Bool) {g : List (List (List ℕ))} (r : List (List ℕ)) (l : List (List (List ℕ))) → g ≡ r ∷ l → p r ≡ true → any p g ≡ true
+pub any_first : (p : List (List ℕ) → Bool) {g : List (List (List ℕ))} (r : List (List ℕ)) (l : List (List (List ℕ))) → g ≡ r ∷ l → p r ≡ true → any p g ≡ true
 unfolding any
-any-first p r l e b = rw (e, b)
+any_first p r l e b = rw (e, b)
 
 -- What a test of the byte after the field tells.
 pub record Next (g : List (List (List ℕ))) (f t : List ℕ) : Type 0 where
@@ -63,26 +63,26 @@ pub record Down (g : List (List (List ℕ))) (f t : List ℕ) : Type 0 where
   pub same : g ≡ (f ∷ []) ∷ record_fields t
 
 module _ {g : List (List (List ℕ))} {f : List ℕ} where
-  is-end : {u : List ℕ} → Front g f u → u ≡ [] → g ≡ (f ∷ []) ∷ []
-  is-end (at-end p) e = p
-  is-end (at-comma {t} c p) e = absurd (nil≢cons (sym e))
-  is-end (at-line {t} c p) e = absurd (nil≢cons (sym e))
+  is_end_lem : {u : List ℕ} → Front g f u → u ≡ [] → g ≡ (f ∷ []) ∷ []
+  is_end_lem (at_end p) e = p
+  is_end_lem (at_comma {t} c p) e = absurd (nil≢cons (sym e))
+  is_end_lem (at_line {t} c p) e = absurd (nil≢cons (sym e))
 
-  is-comma : {u t : List ℕ} → Front g f u → u ≡ 44 ∷ t → Next g f t
-  is-comma (at-end p) e = absurd (nil≢cons e)
-  is-comma {t = t} (at-comma {t = v} c p) e = moved v t (tail-eq_of_cons-eq e) c p
+  is_comma : {u t : List ℕ} → Front g f u → u ≡ 44 ∷ t → Next g f t
+  is_comma (at_end p) e = absurd (nil≢cons e)
+  is_comma {t = t} (at_comma {t = v} c p) e = moved v t (tail-eq_of_cons-eq e) c p
     where
       moved : (v t : List ℕ) → v ≡ t → Clean v → g ≡ (f ∷ get_or (record_fields v) 0 []) ∷ drop 1 (record_fields v) → Next g f t
       moved v t q c p = record { clean = rw q at c; same = rw q at p }
-  is-comma (at-line c p) e = absurd (no-comma (head-eq_of_cons-eq e))
+  is_comma (at_line c p) e = absurd (no_comma (head-eq_of_cons-eq e))
     where
-      no-comma : ◌≡◌ {A = ℕ} 13 44 → ⊥
-      no-comma z = omega arith
+      no_comma : ◌≡◌ {A = ℕ} 13 44 → ⊥
+      no_comma z = omega arith
 
-  is-line : {u t : List ℕ} {b : ℕ} → Front g f u → u ≡ b ∷ t → (b ≡ 44 → ⊥) → Down g f (drop 1 t) × (1 ≤ length t)
-  is-line (at-end p) e n = absurd (nil≢cons e)
-  is-line (at-comma c p) e n = absurd (n (sym (head-eq_of_cons-eq e)))
-  is-line {t = t} (at-line {t = v} c p) e n = moved v t (tail-eq_of_cons-eq e) c p
+  is_line : {u t : List ℕ} {b : ℕ} → Front g f u → u ≡ b ∷ t → (b ≡ 44 → ⊥) → Down g f (drop 1 t) × (1 ≤ length t)
+  is_line (at_end p) e n = absurd (nil≢cons e)
+  is_line (at_comma c p) e n = absurd (n (sym (head-eq_of_cons-eq e)))
+  is_line {t = t} (at_line {t = v} c p) e n = moved v t (tail-eq_of_cons-eq e) c p
     where
       moved : (v t : List ℕ) → 10 ∷ v ≡ t → Clean v → g ≡ (f ∷ []) ∷ record_fields v → Down g f (drop 1 t) × (1 ≤ length t)
       moved v t q c p = rw (← q) (record { clean = c; same = p }, omega arith)
@@ -91,15 +91,15 @@ module _ {g : List (List (List ℕ))} {f : List ℕ} where
 abbrev pub rest_of : List ℕ → ℕ → List (List (List ℕ))
 rest_of s at = if leb at (length s) then record_fields (drop at s) else []
 
-pub rest-within : (s : List ℕ) (at : ℕ) → at ≤ length s → rest_of s at ≡ record_fields (drop at s)
-rest-within s at h = rw (le-leb at (length s) h)
+pub rest_within : (s : List ℕ) (at : ℕ) → at ≤ length s → rest_of s at ≡ record_fields (drop at s)
+rest_within s at h = rw (le-leb at (length s) h)
 
-pub rest-past : (s : List ℕ) (at : ℕ) → length s < at → rest_of s at ≡ []
-rest-past s at h = rw (lt-leb at (length s) h)
+pub rest_past : (s : List ℕ) (at : ℕ) → length s < at → rest_of s at ≡ []
+rest_past s at h = rw (lt-leb at (length s) h)
 
 -- past the end a read gives 0, which is no comma
-pub comma-within : (s : List ℕ) (e : ℕ) → get_or s e 0 ≡ 44 → e < length s
-comma-within s e k = go (dec_lt e (length s))
+pub comma_within : (s : List ℕ) (e : ℕ) → get_or s e 0 ≡ 44 → e < length s
+comma_within s e k = go (dec_lt e (length s))
   where
     go : Dec (e < length s) → e < length s
     go (yes h) = h
@@ -110,27 +110,27 @@ module _ (s : List ℕ) (at e : ℕ) (c : Clean (drop at s)) (q : e ≡ at + len
   front_at : Front (record_fields (drop at s)) (leading (drop at s)) (drop e s)
   front_at = rw (q, ← drop-drop (length (leading (drop at s))) at s) (front c)
 
-  pub field-last : length s ≤ e → record_fields (drop at s) ≡ (leading (drop at s) ∷ []) ∷ []
-  field-last h = is-end front_at (drop_of_length-le s h)
+  pub field_last : length s ≤ e → record_fields (drop at s) ≡ (leading (drop at s) ∷ []) ∷ []
+  field_last h = is_end_lem front_at (drop_of_length-le s h)
 
-  pub field-comma : e < length s → get_or s e 0 ≡ 44 → Next (record_fields (drop at s)) (leading (drop at s)) (drop (e + 1) s)
-  field-comma h k = rw add-one (is-comma front_at (drop-cons s e 0 h ∙ rw k))
+  pub field_comma : e < length s → get_or s e 0 ≡ 44 → Next (record_fields (drop at s)) (leading (drop at s)) (drop (e + 1) s)
+  field_comma h k = rw add-one (is_comma front_at (drop-cons s e 0 h ∙ rw k))
 
-  pub field-line : e < length s → (get_or s e 0 ≡ 44 → ⊥) → Down (record_fields (drop at s)) (leading (drop at s)) (drop (e + 2) s) × (e + 2 ≤ length s)
-  field-line h n =
-      let r = is-line front_at (drop-cons s e 0 h) n in
+  pub field_line : e < length s → (get_or s e 0 ≡ 44 → ⊥) → Down (record_fields (drop at s)) (leading (drop at s)) (drop (e + 2) s) × (e + 2 ≤ length s)
+  field_line h n =
+      let r = is_line front_at (drop-cons s e 0 h) n in
       (rw (drop-drop 1 (suc e) s, two) at r.0, omega (arith, r.1, length-drop (suc e) s))
     where
       two : suc e + 1 ≡ e + 2
       two = omega arith
 
   -- The byte at e alone tells whether the record goes on, and where the next one begins.
-  pub record-goes-on : get_or s e 0 ≡ 44 → Next (record_fields (drop at s)) (leading (drop at s)) (drop (e + 1) s) × (e < length s)
-  record-goes-on k = let h = comma-within s e k in (field-comma h k, h)
+  pub record_goes_on : get_or s e 0 ≡ 44 → Next (record_fields (drop at s)) (leading (drop at s)) (drop (e + 1) s) × (e < length s)
+  record_goes_on k = let h = comma_within s e k in (field_comma h k, h)
 
-  pub record-ends : (get_or s e 0 ≡ 44 → ⊥) → (record_fields (drop at s) ≡ (leading (drop at s) ∷ []) ∷ rest_of s (e + 2)) × (e + 2 ≤ length s → Clean (drop (e + 2) s))
-  record-ends n = go (dec_lt e (length s))
+  pub record_ends : (get_or s e 0 ≡ 44 → ⊥) → (record_fields (drop at s) ≡ (leading (drop at s) ∷ []) ∷ rest_of s (e + 2)) × (e + 2 ≤ length s → Clean (drop (e + 2) s))
+  record_ends n = go (dec_lt e (length s))
     where
       go : Dec (e < length s) → (record_fields (drop at s) ≡ (leading (drop at s) ∷ []) ∷ rest_of s (e + 2)) × (e + 2 ≤ length s → Clean (drop (e + 2) s))
-      go (yes h) = let d = field-line h n in (rw (rest-within s (e + 2) d.1) d.0.same, λ l. d.0.clean)
-      go (no h) = (rw (rest-past s (e + 2) (omega arith)) (field-last (omega arith)), λ l. absurd (omega arith))
+      go (yes h) = let d = field_line h n in (rw (rest_within s (e + 2) d.1) d.0.same, λ l. d.0.clean)
+      go (no h) = (rw (rest_past s (e + 2) (omega arith)) (field_last (omega arith)), λ l. absurd (omega arith))

@@ -4,8 +4,8 @@ use Rattle.std.specs.Prelude.{◌⊎◌, ℕ, ◌≤◌, ◌<◌, ltb}
 use Rattle.std.proofs.Common.{inl, inr, arith}
 use Rattle.code.specs.Definitions.Operations.{verdict_room, verdict_work}
 use Rattle.code.specs.Definitions.Sheets.{limits}
-use Rattle.code.specs.Laws.Buffers.{long-enough}
-use Rattle.code.specs.Laws.Exactly.{Exactly, exactly-iff, exactly-lt}
+use Rattle.code.specs.Laws.Buffers.{long_enough}
+use Rattle.code.specs.Laws.Exactly.{Exactly, exactly_iff, exactly_lt}
 
 -- 02, request 1: "The verdict's three buffers need 8,384 entries"; 01: "and a working buffer of 16,384 entries"
 abbrev pub Short : (m f g w : ℕ) → Type 0
@@ -19,8 +19,8 @@ pub record Room (m f g w : ℕ) : Type 0 where
 
 module _ {m f g w : ℕ} where
   -- Where the other three are long enough, the working buffer decides.
-  pub short-work : verdict_room limits ≤ m → verdict_room limits ≤ f → verdict_room limits ≤ g → Exactly (ltb w (verdict_work limits)) (Short m f g w)
-  short-work hm hf hg = exactly-iff (λ h. inr (inr (inr h)), back) (exactly-lt w (verdict_work limits))
+  pub short_work : verdict_room limits ≤ m → verdict_room limits ≤ f → verdict_room limits ≤ g → Exactly (ltb w (verdict_work limits)) (Short m f g w)
+  short_work hm hf hg = exactly_iff (λ h. inr (inr (inr h)), back) (exactly_lt w (verdict_work limits))
     where
       back : Short m f g w → w < verdict_work limits
       back (inl h) = absurd (omega arith)
@@ -28,17 +28,17 @@ module _ {m f g w : ℕ} where
       back (inr (inr (inl h))) = absurd (omega arith)
       back (inr (inr (inr h))) = h
 
-  pub room-not-short : Room m f g w → Short m f g w → ⊥
-  room-not-short r (inl h) = omega (arith, r.message)
-  room-not-short r (inr (inl h)) = omega (arith, r.first)
-  room-not-short r (inr (inr (inl h))) = omega (arith, r.second)
-  room-not-short r (inr (inr (inr h))) = omega (arith, r.work)
+  pub room_not_short : Room m f g w → Short m f g w → ⊥
+  room_not_short r (inl h) = omega (arith, r.message)
+  room_not_short r (inr (inl h)) = omega (arith, r.first)
+  room_not_short r (inr (inr (inl h))) = omega (arith, r.second)
+  room_not_short r (inr (inr (inr h))) = omega (arith, r.work)
 
   -- Buffers of which none is too short have room.
   pub has_room : (Short m f g w → ⊥) → Room m f g w
   has_room none = record {
-    message = long-enough (verdict_room limits) m (λ h. none (inl h));
-    first = long-enough (verdict_room limits) f (λ h. none (inr (inl h)));
-    second = long-enough (verdict_room limits) g (λ h. none (inr (inr (inl h))));
-    work = long-enough (verdict_work limits) w (λ h. none (inr (inr (inr h))));
+    message = long_enough (verdict_room limits) m (λ h. none (inl h));
+    first = long_enough (verdict_room limits) f (λ h. none (inr (inl h)));
+    second = long_enough (verdict_room limits) g (λ h. none (inr (inr (inl h))));
+    work = long_enough (verdict_work limits) w (λ h. none (inr (inr (inr h))));
   }

@@ -18,8 +18,8 @@ use Rattle.code.specs.Definitions.Operations.{FromLists, Lowest, verdict_conditi
 use Rattle.code.specs.Definitions.Readings.{Ambiguous, Decipherable}
 use Rattle.code.specs.Definitions.Sheets.{limits}
 use Rattle.code.specs.Definitions.Tables.{Table}
-use Rattle.code.proofs.Laws.Verdicts.{verdict-unique}
-use Rattle.decipher.specs.Buffers.{Short, Room, room-not-short}
+use Rattle.code.proofs.Laws.Verdicts.{verdict_unique}
+use Rattle.decipher.specs.Buffers.{Short, Room, room_not_short}
 
 -- The verdict v holds of the table, by some message and readings.
 pub record Holds (t : Table) (v : Verdict) : Type 0 where
@@ -49,61 +49,61 @@ pub record Answered (t : Table) (r : Judgement) : Type 0 where
   pub holds : Holds t v
 
 module _ {e : Enlarged} (lists : FromLists limits e) (m f g w : List ℕ) (r : Refusal) where
-  lowest-13 : Lowest (verdict_conditions limits e m f g w) r → (r ≡ ShortBuffer) × Short (length m) (length f) (length g) (length w)
-  lowest-13 (inl h) = absurd (h.0 lists)
-  lowest-13 (inr (_, inl h)) = (h.1, h.0)
-  lowest-13 (inr (_, inr h)) = absurd h.1
+  lowest_13 : Lowest (verdict_conditions limits e m f g w) r → (r ≡ ShortBuffer) × Short (length m) (length f) (length g) (length w)
+  lowest_13 (inl h) = absurd (h.0 lists)
+  lowest_13 (inr (_, inl h)) = (h.1, h.0)
+  lowest_13 (inr (_, inr h)) = absurd h.1
 
 module _ {e : Enlarged} {m f g w m' f' g' w' : List ℕ} (lists : FromLists limits e) where
   -- A value that a sheet and a list give is refused only with 13, for a buffer that is too short.
-  pub only-13 : {r : Refusal} → Judges limits e m f g w m' f' g' w' (Refused r) → (r ≡ ShortBuffer) × Short (length m) (length f) (length g) (length w)
-  only-13 {r} (refused h _ _ _ _) = lowest-13 lists m f g w r h
+  pub only_13 : {r : Refusal} → Judges limits e m f g w m' f' g' w' (Refused r) → (r ≡ ShortBuffer) × Short (length m) (length f) (length g) (length w)
+  only_13 {r} (refused h _ _ _ _) = lowest_13 lists m f g w r h
 
   -- It is never refused with 8.
-  pub never-8 : Judges limits e m f g w m' f' g' w' (Refused NotFromSheet) → ⊥
-  never-8 h =
-      let e = (only-13 h).0 in
+  pub never_8 : Judges limits e m f g w m' f' g' w' (Refused NotFromSheet) → ⊥
+  never_8 h =
+      let e = (only_13 h).0 in
       let z : ◌≡◌ {A = ℕ} 0 1 = cc in
       omega arith
 
   module _ (room : Room (length m) (length f) (length g) (length w)) where
     -- The answer is a verdict that holds.
     pub answered : {r : Judgement} → Judges limits e m f g w m' f' g' w' r → Answered (original_table e) r
-    answered (refused {r = q} h _ _ _ _) = absurd (room-not-short room (lowest-13 lists m f g w q h).1)
+    answered (refused {r = q} h _ _ _ _) = absurd (room_not_short room (lowest_13 lists m f g w q h).1)
     answered (judged {v = v} x s u h means _ _) = record { v = v; is = refl; holds = record { x = x; s = s; u = u; means = means } }
 
     module _ {r : Judgement} (judges : Judges limits e m f g w m' f' g' w' r) where
-      answer-holds : {v : Verdict} → r ≡ Judged v → Answered (original_table e) r → Holds (original_table e) v
-      answer-holds {v} e h = let z : h.v ≡ v = cc in rw z at h.holds
+      answer_holds : {v : Verdict} → r ≡ Judged v → Answered (original_table e) r → Holds (original_table e) v
+      answer_holds {v} e h = let z : h.v ≡ v = cc in rw z at h.holds
 
       -- A verdict is answered exactly if it holds.
-      pub verdict-answered : (v : Verdict) → (r ≡ Judged v) ↔ Holds (original_table e) v
-      verdict-answered v = (λ e. answer-holds e (answered judges), λ h. by h (answered judges))
+      pub verdict_answered : (v : Verdict) → (r ≡ Judged v) ↔ Holds (original_table e) v
+      verdict_answered v = (λ e. answer_holds e (answered judges), λ h. by h (answered judges))
         where
           by : Holds (original_table e) v → Answered (original_table e) r → r ≡ Judged v
           by h y =
               let z = y.holds in
-              y.is ∙ ap Judged (verdict-unique (original_table e) z.x z.s z.u h.x h.s h.u y.v v z.means h.means)
+              y.is ∙ ap Judged (verdict_unique (original_table e) z.x z.s z.u h.x h.s h.u y.v v z.means h.means)
 
-      is-ambiguous : {n : SymbolCount} {a b : WordCount} → Holds (original_table e) (Two-ways n a b) → IsAmbiguous (original_table e)
-      is-ambiguous h = record { m = h.x; s = h.s; u = h.u; is = h.means.0 }
+      is_ambiguous : {n : SymbolCount} {a b : WordCount} → Holds (original_table e) (Two-ways n a b) → IsAmbiguous (original_table e)
+      is_ambiguous h = record { m = h.x; s = h.s; u = h.u; is = h.means.0 }
 
-      says-ambiguous : IsAmbiguous (original_table e) → SaysAmbiguous r
-      says-ambiguous y =
+      says_ambiguous : IsAmbiguous (original_table e) → SaysAmbiguous r
+      says_ambiguous y =
           let n : SymbolCount = record { 0 = length y.m } in
           let a : WordCount = record { 0 = length y.s } in
           let b : WordCount = record { 0 = length y.u } in
           let h : Holds (original_table e) (Two-ways n a b) = record { x = y.m; s = y.s; u = y.u; means = (y.is, refl, refl, refl) } in
-          record { n = n; a = a; b = b; is = (verdict-answered (Two-ways n a b)).1 h }
+          record { n = n; a = a; b = b; is = (verdict_answered (Two-ways n a b)).1 h }
 
       -- Ambiguous is answered exactly if the code is ambiguous.
-      pub ambiguous-answered : SaysAmbiguous r ↔ IsAmbiguous (original_table e)
-      ambiguous-answered = (λ y. is-ambiguous ((verdict-answered (Two-ways y.n y.a y.b)).0 y.is), says-ambiguous)
+      pub ambiguous_answered : SaysAmbiguous r ↔ IsAmbiguous (original_table e)
+      ambiguous_answered = (λ y. is_ambiguous ((verdict_answered (Two-ways y.n y.a y.b)).0 y.is), says_ambiguous)
 
       -- A delay is answered exactly if the code is decipherable and this is its delay.
-      pub finite-answered : (d : SymbolCount) → (r ≡ Judged (Finite d)) ↔ (Decipherable (original_table e) × Delay (original_table e) d.0)
-      finite-answered d = (λ e. ((verdict-answered (Finite d)).0 e).means, λ h. (verdict-answered (Finite d)).1 (record { x = []; s = []; u = []; means = h }))
+      pub finite_answered : (d : SymbolCount) → (r ≡ Judged (Finite d)) ↔ (Decipherable (original_table e) × Delay (original_table e) d.0)
+      finite_answered d = (λ e. ((verdict_answered (Finite d)).0 e).means, λ h. (verdict_answered (Finite d)).1 (record { x = []; s = []; u = []; means = h }))
 
       -- Unbounded is answered exactly if the code is decipherable and without bound.
-      pub unbounded-answered : (r ≡ Judged Unbounded) ↔ (Decipherable (original_table e) × WithoutBound (original_table e))
-      unbounded-answered = (λ e. ((verdict-answered Unbounded).0 e).means, λ h. (verdict-answered Unbounded).1 (record { x = []; s = []; u = []; means = h }))
+      pub unbounded_answered : (r ≡ Judged Unbounded) ↔ (Decipherable (original_table e) × WithoutBound (original_table e))
+      unbounded_answered = (λ e. ((verdict_answered Unbounded).0 e).means, λ h. (verdict_answered Unbounded).1 (record { x = []; s = []; u = []; means = h }))

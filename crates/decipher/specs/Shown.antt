@@ -13,9 +13,9 @@ use Rattle.code.specs.Definitions.Readings.{Ambiguous}
 use Rattle.code.specs.Laws.Buffers.{take-written}
 
 -- The three lengths of an ambiguous verdict take the message and its first two readings from the buffers.
-pub judged-ambiguous : {l : Limits} {e : Enlarged} {m f g w m' f' g' w' : List ℕ} {n : SymbolCount} {a b : WordCount}
+pub judged_ambiguous : {l : Limits} {e : Enlarged} {m f g w m' f' g' w' : List ℕ} {n : SymbolCount} {a b : WordCount}
     → Judges l e m f g w m' f' g' w' (Judged (Two-ways n a b)) → Ambiguous (original_table e) (take n.0 m') (take a.0 f') (take b.0 g')
-judged-ambiguous {m = m} {f = f} {g = g} {m' = m'} {f' = f'} {g' = g'} {n = n} {a = a} {b = b} (judged x s u h means shown z) =
+judged_ambiguous {m = m} {f = f} {g = g} {m' = m'} {f' = f'} {g' = g'} {n = n} {a = a} {b = b} (judged x s u h means shown z) =
     rw (
       take-written n.0 x m m' (sym means.1) shown.0,
       take-written a.0 s f f' (sym means.2) shown.1,

@@ -19,9 +19,9 @@ pub data ReadTwice (t : Table) (m f g w f' g' w' : List ℕ) : Verdict → Type 
       → f' ≡ written s f → g' ≡ written u g → w' ≡ zeroed w → ReadTwice t m f g w f' g' w' (Two-ways n a b)
 
 -- A message with two readings gets no other answer, and the counts of what was found are the lengths of its first two.
-pub finds-twice : {t : Table} {m f g w f' g' w' : List ℕ} {r : Found} {n : SymbolCount} {a b : WordCount} → FindsAll t m f g w f' g' w' r → TwoReadings t m
+pub finds_twice : {t : Table} {m f g w f' g' w' : List ℕ} {r : Found} {n : SymbolCount} {a b : WordCount} → FindsAll t m f g w f' g' w' r → TwoReadings t m
     → n.0 ≡ length m → a.0 ≡ first_count r → b.0 ≡ second_count r → ReadTwice t m f g w f' g' w' (Two-ways n a b)
-finds-twice {t} {m} {f} {g} {w} {f'} {g'} {w'} {r} {n} {a} {b} found h l i j = by found.finds i j
+finds_twice {t} {m} {f} {g} {w} {f'} {g'} {w'} {r} {n} {a} {b} found h l i j = by found.finds i j
   where
     by : {r : Found} → Finds t m f g f' g' r → a.0 ≡ first_count r → b.0 ≡ second_count r → ReadTwice t m f g w f' g' w' (Two-ways n a b)
     by (unreadable none p q) i j = absurd (none h.s h.first)

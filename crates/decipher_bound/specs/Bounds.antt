@@ -11,25 +11,25 @@ use Rattle.code.specs.Definitions.NextWords.{NoDelay}
 use Rattle.code.specs.Definitions.Operations.{unordered_pairs}
 use Rattle.code.specs.Definitions.Sheets.{limits}
 use Rattle.code.specs.Definitions.Tables.{Table}
-use Rattle.code.proofs.Laws.Delays.{delay-bounds, delay-decipherable}
-use Rattle.code.specs.Laws.Readings.{decipherable-not-two}
-use Rattle.decipher_delay.specs.Delays.{delay_of, DelayBy, finite, unbounded, given, delay-means}
+use Rattle.code.proofs.Laws.Delays.{delay_bounds, delay_decipherable}
+use Rattle.code.specs.Laws.Readings.{decipherable_not_two}
+use Rattle.decipher_delay.specs.Delays.{delay_of, DelayBy, finite, unbounded, given, delay_means}
 use Rattle.pair_longest.specs.Extents.{Given}
 use Rattle.graph.specs.Goals.{NoGoal}
 use Rattle.graph.specs.Graph.{Endless}
-use Rattle.pair_graph.specs.OpenPairs.{open-finds}
+use Rattle.pair_graph.specs.OpenPairs.{open_finds}
 use Rattle.pair_graph.specs.RivalPairs.{Ended}
 use Rattle.pair_places.specs.Flat.{Laid, pair_count, pair_graph}
-use Rattle.pair_places.specs.Nodes.{pairs-limited}
+use Rattle.pair_places.specs.Nodes.{pairs_limited}
 use Rattle.pair_places.specs.Opens.{open_graph}
 use Rattle.pair_places.specs.Roots.{Numbered}
 use Rattle.pair_places.specs.Whole.{LaidOut}
 use Rattle.pair_rivals.specs.Rivals.{some_rivals}
 use Rattle.pair_shortest.specs.Ensured.{Clear, SomeGoal}
-use Rattle.pair_shortest.specs.Writing.{clear-zeros}
-use Rattle.pair_storage.specs.Cleared.{clear-marks}
+use Rattle.pair_shortest.specs.Writing.{clear_zeros}
+use Rattle.pair_storage.specs.Cleared.{clear_marks}
 use Rattle.pair_storage.specs.Marks.{marks}
-use Rattle.pair_storage.specs.Rooms.{room_of, room-cells, room-pairs}
+use Rattle.pair_storage.specs.Rooms.{room_of, room_cells, room_pairs}
 use Rattle.code.specs.Laws.Exactly.{Exactly}
 use Rattle.pair_theory.specs.Ambiguity.{ends→readings}
 use Rattle.decipher_bound.specs.declared.Bound.{Bound}
@@ -43,51 +43,51 @@ pub data BoundBy (f : List ℕ) : Bound → Type 0 where
 
 -- A clear list serves both searches.
 module _ (f w : List ℕ) {w' : List ℕ} (room : room_of f ≤ length w) (clear : w' ≡ replicate (length w) 0) where
-  pub clear-list : Clear f (marks f w')
-  clear-list = rw (clear, clear-marks f (length w) (omega (arith, room-cells f))) (clear-zeros f)
+  pub clear_list : Clear f (marks f w')
+  clear_list = rw (clear, clear_marks f (length w) (omega (arith, room_cells f))) (clear_zeros f)
 
-  pub clear-queue : pair_count f + 2 ≤ length w'
-  clear-queue = omega (arith, room-pairs f, ap length clear ∙ length-replicate {A = ℕ} (length w) 0)
+  pub clear_queue : pair_count f + 2 ≤ length w'
+  clear_queue = omega (arith, room_pairs f, ap length clear ∙ length-replicate {A = ℕ} (length w) 0)
 
-  pub clear-given : Laid f → Numbered f → Given f (marks f w') w'
-  clear-given l n = given {n = length w} l n (omega (arith, room-cells f)) clear
+  pub clear_given : Laid f → Numbered f → Given f (marks f w') w'
+  clear_given l n = given {n = length w} l n (omega (arith, room_cells f)) clear
 
 -- What `find_delay` returns.
 module _ (f : List ℕ) {b : Bool} (x : Exactly b (SomeGoal (open_graph f))) where
-  pub bound-ends : b ≡ true → BoundBy f Nothing
-  bound-ends e = ambiguous (x.yes e)
+  pub bound_ends : b ≡ true → BoundBy f Nothing
+  bound_ends e = ambiguous (x.yes e)
 
-  no-goal : b ≡ false → NoGoal (open_graph f)
-  no-goal e m g = x.no e (record { symbols = m; goal = g })
+  no_goal : b ≡ false → NoGoal (open_graph f)
+  no_goal e m g = x.no e (record { symbols = m; goal = g })
 
   module _ (e : b ≡ false) where
-    pub bound-delay : {d : SymbolCount} {v : Verdict} → DelayBy f v → v ≡ Finite d → BoundBy f (Known d)
-    bound-delay {d} h q = known (no-goal e) (rw q at h)
+    pub bound_delay : {d : SymbolCount} {v : Verdict} → DelayBy f v → v ≡ Finite d → BoundBy f (Known d)
+    bound_delay {d} h q = known (no_goal e) (rw q at h)
 
-    pub bound-endless : {v : Verdict} → DelayBy f v → v ≡ Unbounded → BoundBy f Nothing
-    bound-endless (finite l q) z = let w : ◌≡◌ {A = ℕ} 0 1 = cc in absurd (omega arith)
-    bound-endless (unbounded u) z = endless (no-goal e) u
+    pub bound_endless : {v : Verdict} → DelayBy f v → v ≡ Unbounded → BoundBy f Nothing
+    bound_endless (finite l q) z = let w : ◌≡◌ {A = ℕ} 0 1 = cc in absurd (omega arith)
+    bound_endless (unbounded u) z = endless (no_goal e) u
 
-    pub bound-never : {n : SymbolCount} {a c : WordCount} {v : Verdict} → DelayBy f v → v ≡ Ambiguous n a c → BoundBy f Nothing
-    bound-never (finite l q) z = let w : ◌≡◌ {A = ℕ} 0 1 = cc in absurd (omega arith)
-    bound-never (unbounded u) z = endless (no-goal e) u
+    pub bound_never : {n : SymbolCount} {a c : WordCount} {v : Verdict} → DelayBy f v → v ≡ Ambiguous n a c → BoundBy f Nothing
+    bound_never (finite l q) z = let w : ◌≡◌ {A = ℕ} 0 1 = cc in absurd (omega arith)
+    bound_never (unbounded u) z = endless (no_goal e) u
 
 -- What a bound says: the delay, with its walks,
 pub record KnownBy (f : List ℕ) (d : SymbolCount) : Type 0 where
   pub none : NoGoal (open_graph f)
   pub delay : DelayBy f (Finite d)
 
-pub was-known : {f : List ℕ} {d : SymbolCount} {b : Bound} → BoundBy f b → b ≡ Known d → KnownBy f d
-was-known {f} {d} (known {d = c} n h) e =
+pub was_known : {f : List ℕ} {d : SymbolCount} {b : Bound} → BoundBy f b → b ≡ Known d → KnownBy f d
+was_known {f} {d} (known {d = c} n h) e =
     let z : c ≡ d = cc in
     let k : KnownBy f c = record { none = n; delay = h } in
     rw z at k
-was-known (ambiguous g) e = let z : ◌≡◌ {A = ℕ} 0 1 = cc in absurd (omega arith)
-was-known (endless n u) e = let z : ◌≡◌ {A = ℕ} 0 1 = cc in absurd (omega arith)
+was_known (ambiguous g) e = let z : ◌≡◌ {A = ℕ} 0 1 = cc in absurd (omega arith)
+was_known (endless n u) e = let z : ◌≡◌ {A = ℕ} 0 1 = cc in absurd (omega arith)
 
 -- 01: "Delays therefore run from 0 to 8,257 at most."
-pub delay-low : {f : List ℕ} {d : SymbolCount} {v : Verdict} → Laid f → DelayBy f v → v ≡ Finite d → d.0 ≤ unordered_pairs limits + 1
-delay-low {f} {d = d} l (finite {d = c} {r = r} w e) q =
+pub delay_low : {f : List ℕ} {d : SymbolCount} {v : Verdict} → Laid f → DelayBy f v → v ≡ Finite d → d.0 ≤ unordered_pairs limits + 1
+delay_low {f} {d = d} l (finite {d = c} {r = r} w e) q =
     let z : c ≡ d = cc in
     let h : c.0 ≤ r + 1 = rw e (low (some_rivals f)) in
     rw z at (by h)
@@ -97,22 +97,22 @@ delay-low {f} {d = d} l (finite {d = c} {r = r} w e) q =
     low false = omega arith
 
     by : c.0 ≤ r + 1 → c.0 ≤ unordered_pairs limits + 1
-    by h = omega (arith, pairs-limited l, w.low)
-delay-low l (unbounded u) q = let z : ◌≡◌ {A = ℕ} 0 1 = cc in absurd (omega arith)
+    by h = omega (arith, pairs_limited l, w.low)
+delay_low l (unbounded u) q = let z : ◌≡◌ {A = ℕ} 0 1 = cc in absurd (omega arith)
 
 module _ {f : List ℕ} {d : SymbolCount} {b : Bound} (h : BoundBy f b) (e : b ≡ Known d) where
-  pub known-low : Laid f → d.0 ≤ unordered_pairs limits + 1
-  known-low l = delay-low l (was-known h e).delay refl
+  pub known_low : Laid f → d.0 ≤ unordered_pairs limits + 1
+  known_low l = delay_low l (was_known h e).delay refl
 
   -- it is the delay of the table that is laid out;
-  pub known-means : {t : Table} → LaidOut t f → Ended t f → Delay t d.0
-  known-means laid ended = (delay-means laid ended (was-known h e).none [] [] [] (was-known h e).delay).1
+  pub known_means : {t : Table} → LaidOut t f → Ended t f → Delay t d.0
+  known_means laid ended = (delay_means laid ended (was_known h e).none [] [] [] (was_known h e).delay).1
 
 -- or that it has none.
-pub nothing-means : {t : Table} {f : List ℕ} {b : Bound} → LaidOut t f → Ended t f → BoundBy f b → b ≡ Nothing → NoDelay t
-nothing-means laid ended (known n h) e = let z : ◌≡◌ {A = ℕ} 0 1 = cc in absurd (omega arith)
-nothing-means laid ended (ambiguous g) e = λ N d.
-    decipherable-not-two (ends→readings laid.fits.plain ((open-finds laid ended.closed).ends g.goal)) (delay-decipherable laid.fits.plain.some d)
-nothing-means {f = f} laid ended (endless n u) e =
+pub nothing_means : {t : Table} {f : List ℕ} {b : Bound} → LaidOut t f → Ended t f → BoundBy f b → b ≡ Nothing → NoDelay t
+nothing_means laid ended (known n h) e = let z : ◌≡◌ {A = ℕ} 0 1 = cc in absurd (omega arith)
+nothing_means laid ended (ambiguous g) e = λ N d.
+    decipherable_not_two (ends→readings laid.fits.plain ((open_finds laid ended.closed).ends g.goal)) (delay_decipherable laid.fits.plain.some d)
+nothing_means {f = f} laid ended (endless n u) e =
     let k : DelayBy f Unbounded = unbounded u in
-    λ N d. delay-bounds d (delay-means laid ended n [] [] [] k).1
+    λ N d. delay_bounds d (delay_means laid ended n [] [] [] k).1

@@ -12,12 +12,12 @@ use Rattle.code.specs.Definitions.Enlarged.{plain_of}
 use Rattle.code.specs.Definitions.Operations.{WithoutCopies, Enlarges, refused, enlarged}
 use Rattle.code.specs.Definitions.Sheets.{limits, taken}
 use Rattle.well_enlarged.specs.WellEnlarged.{WellEnlarged}
-use Rattle.well_enlarged.proofs.Laws.Plain.{plain-well}
-use Rattle.well_enlarged.specs.Listed.{from-lists}
+use Rattle.well_enlarged.proofs.Laws.Plain.{plain_well}
+use Rattle.well_enlarged.specs.Listed.{from_lists}
 use Rattle.c_image.specs.Image.{Packable}
 use Rattle.well_formed.specs.Given.{well}
 use Rattle.turkish.specs.Types.{types, code_of_types}
-use Rattle.turkish.proofs.Given.{twelve-from-sheet}
+use Rattle.turkish.proofs.Given.{twelve_from_sheet}
 
 packs : {e : Enlarged} → WellEnlarged limits e → Packable e
 packs w = record {
@@ -35,11 +35,11 @@ packs w = record {
   behind = w.numbers.behind;
 }
 
-pub sheet-packs : (s : List ℕ) {t : Taken} {e : Enlarged} → t ≡ taken limits s → e ≡ plain_of limits t.code → t.answer ≡ Accepted → Packable e
-sheet-packs s g p a = rw p (packs (plain-well (well (record { sheet = s; gives = sym g ∙ rw a }))))
+pub sheet_packs : (s : List ℕ) {t : Taken} {e : Enlarged} → t ≡ taken limits s → e ≡ plain_of limits t.code → t.answer ≡ Accepted → Packable e
+sheet_packs s g p a = rw p (packs (plain_well (well (record { sheet = s; gives = sym g ∙ rw a }))))
 
-pub turkish-packs : {c : Code} {e : Enlarged} → c ≡ code_of_types limits types → e ≡ plain_of limits c → Packable e
-turkish-packs g p = rw (p, g) (packs (plain-well (well twelve-from-sheet)))
+pub turkish_packs : {c : Code} {e : Enlarged} → c ≡ code_of_types limits types → e ≡ plain_of limits c → Packable e
+turkish_packs g p = rw (p, g) (packs (plain_well (well twelve_from_sheet)))
 
 -- That a list is accepted says only that it is not so that refusal 8 holds. What can be packed is told by numbers, so this is enough.
 module _ {e : Enlarged} (n : (Packable e → ⊥) → ⊥) where
@@ -53,8 +53,8 @@ module _ {e : Enlarged} (n : (Packable e → ⊥) → ⊥) where
   eq : (a b : ℕ) → (Packable e → a ≡ b) → a ≡ b
   eq a b f = omega (arith, le a b (λ p. omega (arith, f p)), le b a (λ p. omega (arith, f p)))
 
-  packs-after-all : Packable e
-  packs-after-all = record {
+  packs_after_all : Packable e
+  packs_after_all = record {
     code = record {
       words = eq _ _ (λ p. p.code.words);
       rows = eq _ _ (λ p. p.code.rows);
@@ -70,23 +70,23 @@ module _ {e : Enlarged} (n : (Packable e → ⊥) → ⊥) where
   }
 
 module _ {v : Enlarged} {s : List ℕ} {x : Enlargement} where
-  pub list-accepted : Enlarges limits v s x → x.answer ≡ Accepted → Enlarges limits v s (record { answer = Accepted; enlarged = x.enlarged })
-  list-accepted g a = subst (λ (y : SheetAnswer). Enlarges limits v s (record { answer = y; enlarged = x.enlarged })) a g
+  pub list_accepted : Enlarges limits v s x → x.answer ≡ Accepted → Enlarges limits v s (record { answer = Accepted; enlarged = x.enlarged })
+  list_accepted g a = subst (λ (y : SheetAnswer). Enlarges limits v s (record { answer = y; enlarged = x.enlarged })) a g
 
-  not-refused-8 : Enlarges limits v s x → x.answer ≡ Accepted → (WithoutCopies limits v → ⊥) → ⊥
-  not-refused-8 (refused {r} h d) a =
+  not_refused_8 : Enlarges limits v s x → x.answer ≡ Accepted → (WithoutCopies limits v → ⊥) → ⊥
+  not_refused_8 (refused {r} h d) a =
       let b : Accepted ≡ Refused r = sym a ∙ ap (λ (y : Enlargement). y.answer) d in
       let y : ◌≡◌ {A = ℕ} 0 1 = cc in
       absurd (omega arith)
-  not-refused-8 (enlarged h d) a = h.1.0
+  not_refused_8 (enlarged h d) a = h.1.0
 
-  pub list-packs : Enlarges limits v s x → x.answer ≡ Accepted → Packable x.enlarged
-  list-packs g a =
-      packs-after-all
-      (λ no. not-refused-8 g a
-      (λ p. no (packs (from-lists (record {
+  pub list_packs : Enlarges limits v s x → x.answer ≡ Accepted → Packable x.enlarged
+  list_packs g a =
+      packs_after_all
+      (λ no. not_refused_8 g a
+      (λ p. no (packs (from_lists (record {
         table = v.code;
         given = p.given;
         list = s;
-        gives = subst (λ (w : Enlarged). Enlarges limits w s (record { answer = Accepted; enlarged = x.enlarged })) p.plain (list-accepted g a);
+        gives = subst (λ (w : Enlarged). Enlarges limits w s (record { answer = Accepted; enlarged = x.enlarged })) p.plain (list_accepted g a);
       })))))

@@ -4,7 +4,7 @@ use Rattle.std.specs.Prelude.{◌≡◌, refl, true, ℕ, zero, suc, ◌+◌, �
 use Rattle.std.proofs.Common.{zero-le, arith, below_more}
 use Rattle.std.proofs.Math.Decide.{dec_lt}
 use Rattle.graph.specs.Graph.{Graph, Edge, WalkOf, Longest}
-use Rattle.graph.specs.Paths.{PathFrom, here, along, shorter, RootPath, path-of-walk}
+use Rattle.graph.specs.Paths.{PathFrom, here, along, shorter, RootPath, path_of_walk}
 
 -- Some path from v has h edges, and none has more.
 pub record Height (g : Graph) (v h : ℕ) : Type 0 where
@@ -21,17 +21,17 @@ pub record HeightUpTo (g : Graph) (v j h : ℕ) : Type 0 where
   pub none : (i : ℕ) → i < j → g.arc v i < g.nodes → PathFrom g h (g.arc v i) → ⊥
 
 module _ {g : Graph} where
-  pub up-to-none : (v : ℕ) → HeightUpTo g v 0 0
-  up-to-none v = record { some = here; none = λ i l. absurd (omega arith) }
+  pub up_to_none : (v : ℕ) → HeightUpTo g v 0 0
+  up_to_none v = record { some = here; none = λ i l. absurd (omega arith) }
 
   -- A slot that leads nowhere adds nothing.
-  pub up-to-nowhere : {v j h : ℕ} → HeightUpTo g v j h → g.nodes ≤ g.arc v j → HeightUpTo g v (j + 1) h
-  up-to-nowhere {v} {j} {h} t l = record { some = t.some; none = below_more (NoneThrough g v h) j t.none (λ n. absurd (omega arith)) }
+  pub up_to_nowhere : {v j h : ℕ} → HeightUpTo g v j h → g.nodes ≤ g.arc v j → HeightUpTo g v (j + 1) h
+  up_to_nowhere {v} {j} {h} t l = record { some = t.some; none = below_more (NoneThrough g v h) j t.none (λ n. absurd (omega arith)) }
 
   -- A successor of height k leaves v at least one higher than itself.
-  pub up-to-edge : {v j h : ℕ} (k : ℕ) → HeightUpTo g v j h → j < g.slots → g.arc v j < g.nodes → Height g (g.arc v j) k
+  pub up_to_edge : {v j h : ℕ} (k : ℕ) → HeightUpTo g v j h → j < g.slots → g.arc v j < g.nodes → Height g (g.arc v j) k
       → HeightUpTo g v (j + 1) (max h (k + 1))
-  up-to-edge {v} {j} {h} k t s n e =
+  up_to_edge {v} {j} {h} k t s n e =
       record {
         some = go (dec_lt k h);
         none =
@@ -50,13 +50,13 @@ module _ {g : Graph} where
       go (yes l) = t.none s.slot l (rw s.leads s.node) (rw s.leads p)
       go (no n) = omega (arith, far s.slot (omega arith), s.leads, s.node)
 
-  no-path : {v j h k : ℕ} → HeightUpTo g v j h → ((i : ℕ) → j ≤ i → g.nodes ≤ g.arc v i) → k ≡ suc h → PathFrom g k v → ⊥
-  no-path t far e here = absurd (omega arith)
-  no-path {h = h} t far e (along {k = k} s p) = let q : k ≡ h = omega arith in no_edge t far s (rw q at p)
+  no_path : {v j h k : ℕ} → HeightUpTo g v j h → ((i : ℕ) → j ≤ i → g.nodes ≤ g.arc v i) → k ≡ suc h → PathFrom g k v → ⊥
+  no_path t far e here = absurd (omega arith)
+  no_path {h = h} t far e (along {k = k} s p) = let q : k ≡ h = omega arith in no_edge t far s (rw q at p)
 
   -- Where the slots from j on lead nowhere, the height through those below is the height.
-  pub up-to-all : {v j h : ℕ} → HeightUpTo g v j h → ((i : ℕ) → j ≤ i → g.nodes ≤ g.arc v i) → Height g v h
-  up-to-all t far = record { some = t.some; none = no-path t far refl }
+  pub up_to_all : {v j h : ℕ} → HeightUpTo g v j h → ((i : ℕ) → j ≤ i → g.nodes ≤ g.arc v i) → Height g v h
+  up_to_all t far = record { some = t.some; none = no_path t far refl }
 
   -- The longest walk reads r symbols where some walk does, if r is not 0, and every path from a root has fewer than r edges.
   pub longest : (r : ℕ) → ((k : ℕ) → r ≡ suc k → WalkOf g r) → ((v : ℕ) → v < g.nodes → g.root v ≡ true → PathFrom g r v → ⊥) → Longest g r
@@ -64,7 +64,7 @@ module _ {g : Graph} where
     where
       most : (k : ℕ) → WalkOf g k → k ≤ r
       most zero w = zero-le
-      most (suc k) w = go (path-of-walk w) (dec_lt k r)
+      most (suc k) w = go (path_of_walk w) (dec_lt k r)
         where
           go : RootPath g k → Dec (k < r) → suc k ≤ r
           go p (yes l) = l

@@ -41,20 +41,20 @@ module _ {g : Graph} where
       record { node = v; inside = inside; root = root; path = rw q at p }
   begin n (onward {c = c} {m = m} r s t) p e = begin n r (along s p) (omega (arith, length-append m (c ∷ [])))
 
-  pub walk_of-path : {k : ℕ} → RootPath g k → WalkOf g (suc k)
-  walk_of-path {k} p = extend (suc k) (start p.inside p.root refl) p.path (omega arith)
+  pub walk_of_path : {k : ℕ} → RootPath g k → WalkOf g (suc k)
+  walk_of_path {k} p = extend (suc k) (start p.inside p.root refl) p.path (omega arith)
 
-  pub path-of-walk : {k : ℕ} → WalkOf g (suc k) → RootPath g k
-  path-of-walk {k} w = begin k w.walk here (omega (arith, w.long))
+  pub path_of_walk : {k : ℕ} → WalkOf g (suc k) → RootPath g k
+  path_of_walk {k} w = begin k w.walk here (omega (arith, w.long))
 
-  pub reached-root : {v : ℕ} → v < g.nodes → g.root v ≡ true → Reached g v
-  reached-root {v} inside root = record { symbols = g.symbol v ∷ []; walk = start inside root refl }
+  pub reached_root : {v : ℕ} → v < g.nodes → g.root v ≡ true → Reached g v
+  reached_root {v} inside root = record { symbols = g.symbol v ∷ []; walk = start inside root refl }
 
-  pub reached-edge : {v w : ℕ} → Reached g v → Edge g v w → Reached g w
-  reached-edge {w = w} r e = record { symbols = r.symbols ++ (g.symbol w ∷ []); walk = onward r.walk e refl }
+  pub reached_edge : {v w : ℕ} → Reached g v → Edge g v w → Reached g w
+  reached_edge {w = w} r e = record { symbols = r.symbols ++ (g.symbol w ∷ []); walk = onward r.walk e refl }
 
   -- Where paths of every length go on from a node that is reached, there are walks of every length.
   pub endless : {v : ℕ} → Reached g v → ((k : ℕ) → PathFrom g k v) → Endless g
   endless r p k =
       let q = begin (length r.symbols + k) r.walk (p (suc k)) (omega arith) in
-      walk_of-path (record { node = q.node; inside = q.inside; root = q.root; path = shorter k (omega arith) q.path })
+      walk_of_path (record { node = q.node; inside = q.inside; root = q.root; path = shorter k (omega arith) q.path })

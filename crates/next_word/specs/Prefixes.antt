@@ -6,11 +6,11 @@ use mathlib.Core.List.{List, [], ◌∷◌, ◌++◌, head-eq_of_cons-eq, tail-e
 use Rattle.std.proofs.Math.Decide.{dec_lt}
 use Rattle.std.proofs.Math.ListN.{get_or-append}
 use Rattle.code.specs.Definitions.Tables.{Table, word, Permitted, message}
-use Rattle.code.specs.Laws.Sequences.{cut-permitted, message-append}
+use Rattle.code.specs.Laws.Sequences.{cut_permitted, message_append}
 use Rattle.read_sets.specs.Sets.{Lays}
 use Rattle.read_marks.specs.Text.{Text, From, done, word as then, Opens as OpensAt, opens_of}
 use Rattle.read_marks.specs.Message.{symbols_at, text}
-use Rattle.read_core.specs.Spells.{Spells, from-spells, spells-from, spelled}
+use Rattle.read_core.specs.Spells.{Spells, from_spells, spells_from, spelled}
 
 -- Word x begins a permitted sequence whose message is w, or where `cut` one that w begins.
 pub record Opens (t : Table) (cut : Bool) (w : List ℕ) (x : ℕ) : Type 0 where
@@ -62,8 +62,8 @@ module _ {t : Table} {having closing rows lengths : List ℕ} {n longest : ℕ} 
   K = text having rows lengths n (symbols_at cut w)
 
   -- The words that begin before the symbols end spell them.
-  front-spells : (s past : List ℕ) → message t s ≡ w ++ past → (cut ≡ false → past ≡ []) → (f : Front t (length w) s) → Spells t (symbols_at cut w) 0 f.front
-  front-spells s past joined ends f = record {
+  front_spells : (s past : List ℕ) → message t s ≡ w ++ past → (cut ≡ false → past ≡ []) → (f : Front t (length w) s) → Spells t (symbols_at cut w) 0 f.front
+  front_spells s past joined ends f = record {
     reaches = omega (arith, f.reaches);
     exact = λ q. omega (arith, f.reaches, long, ap length joined, length-append w past, ap length (ends q));
     symbols = λ j h k.
@@ -75,20 +75,20 @@ module _ {t : Table} {having closing rows lengths : List ℕ} {n longest : ℕ} 
   }
     where
       parts : message t s ≡ message t f.front ++ message t f.behind
-      parts = ap (message t) f.is ∙ message-append t f.front f.behind
+      parts = ap (message t) f.is ∙ message_append t f.front f.behind
 
       long : length (message t s) ≡ length (message t f.front) + length (message t f.behind)
       long = ap length parts ∙ length-append (message t f.front) (message t f.behind)
 
-  opens-front : {p y x : ℕ} {s f : List ℕ} → From K p y f → (b : List ℕ) → x ∷ s ≡ f ++ b → 0 < length (message t f) → OpensAt K p y x
-  opens-front (done e) b q h = absurd (omega arith)
-  opens-front {p} {y} (then g a r) b q h = subst (OpensAt K p y) (sym (head-eq_of_cons-eq q)) (opens_of g a r)
+  opens_front : {p y x : ℕ} {s f : List ℕ} → From K p y f → (b : List ℕ) → x ∷ s ≡ f ++ b → 0 < length (message t f) → OpensAt K p y x
+  opens_front (done e) b q h = absurd (omega arith)
+  opens_front {p} {y} (then g a r) b q h = subst (OpensAt K p y) (sym (head-eq_of_cons-eq q)) (opens_of g a r)
 
   -- What opens a reading of the symbols after the start opens a sequence with them, and the other way round.
-  pub opens-there : {x : ℕ} → OpensAt K 0 n x → Opens t cut w x
-  opens-there {x} o =
+  pub opens_there : {x : ℕ} → OpensAt K 0 n x → Opens t cut w x
+  opens_there {x} o =
       let s = o.begins.after.rest in
-      let r = from-spells l (symbols_at cut w) (x ∷ s) (then o.begins.here o.after o.begins.after.reads) in
+      let r = from_spells l (symbols_at cut w) (x ∷ s) (then o.begins.here o.after o.begins.after.reads) in
       record {
         s = s;
         permitted = r.0;
@@ -100,7 +100,7 @@ module _ {t : Table} {having closing rows lengths : List ℕ} {n longest : ℕ} 
   pub opens_back : {x : ℕ} → 0 < length w → Opens t cut w x → OpensAt K 0 n x
   opens_back {x} h o =
       let f = front_of t (x ∷ o.s) (length w) (omega (arith, ap length o.joined, length-append w o.past)) in
-      opens-front
-      (spells-from l (symbols_at cut w) f.front (cut-permitted f.front f.behind (subst (Permitted t) f.is o.permitted))
-      (front-spells (x ∷ o.s) o.past o.joined o.ends f))
+      opens_front
+      (spells_from l (symbols_at cut w) f.front (cut_permitted f.front f.behind (subst (Permitted t) f.is o.permitted))
+      (front_spells (x ∷ o.s) o.past o.joined o.ends f))
       f.behind f.is (omega (arith, f.reaches))

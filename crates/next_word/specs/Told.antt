@@ -11,5 +11,5 @@ use Rattle.code.specs.Definitions.Sheets.{limits}
 
 -- The answer by the delay: refused with 21, 12 or 14, or a word is named.
 pub data Told (e : Enlarged) (m : List ℕ) : Naming → Type 0 where
-  not-told : {r : Refusal} → FirstHolds (foretelling_conditions limits e m) r → Told e m (Refused r)
+  not_told : {r : Refusal} → FirstHolds (foretelling_conditions limits e m) r → Told e m (Refused r)
   told : {x : ℕ} → NoneHolds (foretelling_conditions limits e m) → Foretells (original_table e) m x → Told e m (Named x)

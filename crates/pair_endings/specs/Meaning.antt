@@ -2,9 +2,9 @@
 use Rattle.std.proofs.Common.{sym, ◌∙◌, arith}
 use Rattle.std.specs.Prelude.{List, ◌↔◌, ℕ, ◌<◌}
 use Rattle.code.specs.Definitions.Tables.{Table, size}
-use Rattle.code.specs.Laws.Endings.{Ending, first, next, ending-word}
+use Rattle.code.specs.Laws.Endings.{Ending, first, next, ending_word}
 use Rattle.pair_places.specs.Flat.{word_count}
-use Rattle.pair_places.specs.Whole.{LaidOut, begins-same, follow-same}
+use Rattle.pair_places.specs.Whole.{LaidOut, begins_same, follow_same}
 use Rattle.pair_endings.specs.Closing.{FlatEnding}
 use Rattle.pair_endings.specs.Closing as Closing
 
@@ -15,14 +15,14 @@ module _ {t : Table} {f : List ℕ} (l : LaidOut t f) where
   there : {x : ℕ} → x < size t → x < word_count f
   there h = omega (arith, l.lays.count)
 
-  flat-ending : {x : ℕ} → FlatEnding f x → Ending t x
-  flat-ending (Closing.first {x} h b) = first (known h) (sym (begins-same l x (known h)) ∙ b)
-  flat-ending (Closing.next {y} {x} d h b) = let e = flat-ending d in next e (known h) (sym (follow-same l x y (known h) (ending-word e)) ∙ b)
+  flat_ending : {x : ℕ} → FlatEnding f x → Ending t x
+  flat_ending (Closing.first {x} h b) = first (known h) (sym (begins_same l x (known h)) ∙ b)
+  flat_ending (Closing.next {y} {x} d h b) = let e = flat_ending d in next e (known h) (sym (follow_same l x y (known h) (ending_word e)) ∙ b)
 
-  ending-flat : {x : ℕ} → Ending t x → FlatEnding f x
-  ending-flat (first {x} h b) = Closing.first (there h) (begins-same l x h ∙ b)
-  ending-flat (next {y} {x} e h b) = Closing.next (ending-flat e) (there h) (follow-same l x y h (ending-word e) ∙ b)
+  ending_flat : {x : ℕ} → Ending t x → FlatEnding f x
+  ending_flat (first {x} h b) = Closing.first (there h) (begins_same l x h ∙ b)
+  ending_flat (next {y} {x} e h b) = Closing.next (ending_flat e) (there h) (follow_same l x y h (ending_word e) ∙ b)
 
   -- The words that end a sequence of the flat list end one of the table, and the other way round.
-  pub ending-iff : {x : ℕ} → FlatEnding f x ↔ Ending t x
-  ending-iff = (flat-ending, ending-flat)
+  pub ending_iff : {x : ℕ} → FlatEnding f x ↔ Ending t x
+  ending_iff = (flat_ending, ending_flat)

@@ -12,12 +12,12 @@ BeginBelow f n = (x : ℕ) → x < n → may_come f x at_start ≡ true
 abbrev pub Opens : List ℕ → ℕ → Type 0
 Opens f r = (r ≡ 1 → ⊥) → BeginBelow f (word_count f)
 
-pub opens-here : (f : List ℕ) → Opens f 1
-opens-here f n = absurd (n refl)
+pub opens_here : (f : List ℕ) → Opens f 1
+opens_here f n = absurd (n refl)
 
 module _ (f : List ℕ) (x : ℕ) where
-  pub begin-more : {b : Bool} → BeginBelow f x → b ≡ may_come f x at_start → not b ≡ false → BeginBelow f (x + 1)
-  begin-more {b} h e d = below_more (λ y. may_come f y at_start ≡ true) x h (sym e ∙ not-false b d)
+  pub begin_more : {b : Bool} → BeginBelow f x → b ≡ may_come f x at_start → not b ≡ false → BeginBelow f (x + 1)
+  begin_more {b} h e d = below_more (λ y. may_come f y at_start ≡ true) x h (sym e ∙ not-false b d)
 
-  pub opens-none : {n : ℕ} → BeginBelow f x → x ≤ n → n ≤ x → n ≡ word_count f → Opens f 0
-  opens-none h l k e z y i = h y (omega arith)
+  pub opens_none : {n : ℕ} → BeginBelow f x → x ≤ n → n ≤ x → n ≡ word_count f → Opens f 0
+  opens_none h l k e z y i = h y (omega arith)

@@ -6,26 +6,26 @@ use Rattle.std.proofs.Math.Decide.{ℕ_discrete, dec_lt}
 use Rattle.code.specs.Definitions.Sheets.{limits}
 use Rattle.code.specs.Definitions.Tables.{Table, size}
 use Rattle.code.specs.Laws.Below.{some_in, some_out}
-use Rattle.code.specs.Laws.Endings.{Ending, ending-word}
-use Rattle.code.specs.Laws.Openings.{Rivals, both-begin, both-follow, rivals-swap}
+use Rattle.code.specs.Laws.Endings.{Ending, ending_word}
+use Rattle.code.specs.Laws.Openings.{Rivals, both_begin_lem, both_follow_lem, rivals_swap}
 use Rattle.graph.specs.Goals.{GoalBefore}
 use Rattle.graph.specs.Graph.{Reach, start, onward}
 use Rattle.pair_places.specs.Flat.{symbol_at, end_at, first_at, at_start, behinds, may_come, ending_at, opens_at, both_behind, rivals_at, word_count, cell_count, lower, higher, slots_of, pair_graph}
 use Rattle.pair_places.specs.Flat as Flat
-use Rattle.pair_places.specs.Nodes.{NodeOf, of_node, node-below, node-swap, edge_leads, leads-edge, node-leads, node-goal}
+use Rattle.pair_places.specs.Nodes.{NodeOf, of_node, node_below, node_swap, edge_leads, leads_edge, node_leads, node_goal}
 use Rattle.pair_rivals.specs.Rivals.{rival_before, some_rivals}
-use Rattle.pair_places.specs.Roots.{root-starts, start-node, starts-root, rivals-of, node-rivals}
-use Rattle.pair_places.specs.Whole.{LaidOut, begins-same, follow-same}
-use Rattle.pair_theory.specs.Pairs.{compatible-reached, compatible-is, compatible-same}
-use Rattle.pair_theory.specs.Paths.{first-is, step_is}
+use Rattle.pair_places.specs.Roots.{root_starts, start_node_lem, starts_root, rivals_of, node_rivals}
+use Rattle.pair_places.specs.Whole.{LaidOut, begins_same, follow_same}
+use Rattle.pair_theory.specs.Pairs.{compatible_reached, compatible_is, compatible_same}
+use Rattle.pair_theory.specs.Paths.{first_is, step_is}
 use Rattle.pair_theory.specs.Places.{Place, symbol, Is, Parting, Compatible, FirstPair, CommonStep, Reached}
 use Rattle.pair_theory.specs.Places.{start as begin, onward as on}
 use Rattle.pair_theory.specs.Searches.{BothEnd, WalkTo, Shows}
 use Rattle.pair_theory.specs.Sharing.{SomeParting}
 use Rattle.pair_theory.specs.Unopened.{AllBegin}
-use Rattle.pair_graph.specs.Numbers.{number, Way, inner, outer, number-first, step-way, ends-marked, marked-ends}
-use Rattle.pair_graph.specs.OpenWalks.{ReachesPair, from_first, from-leads}
-use Rattle.pair_graph.specs.OpenPairs.{node_of, place-node, node-reads, node-cast}
+use Rattle.pair_graph.specs.Numbers.{number, Way, inner, outer, number_first, step_way, ends_marked, marked_ends}
+use Rattle.pair_graph.specs.OpenWalks.{ReachesPair, from_first, from_leads}
+use Rattle.pair_graph.specs.OpenPairs.{node_of, place_node, node_reads, node_cast}
 
 -- The list's marks say which words end a permitted sequence, and whether some word may not begin.
 pub record Ended (t : Table) (f : List ℕ) : Type 0 where
@@ -40,38 +40,38 @@ module _ {t : Table} {f : List ℕ} (l : LaidOut t f) (d : Ended t f) where
   by_word x y z h k b e (yes q) w =
       let a = (and-eq-true_iff (ending_at f z) (may_come f x z && may_come f y z)).0 e in
       let c = (and-eq-true_iff (may_come f x z) (may_come f y z)).0 a.1 in
-      both-begin (sym (begins-same l x h) ∙ subst (λ (i : ℕ). may_come f x i ≡ true) q c.0) (sym (begins-same l y k) ∙ subst (λ (i : ℕ). may_come f y i ≡ true) q c.1)
+      both_begin_lem (sym (begins_same l x h) ∙ subst (λ (i : ℕ). may_come f x i ≡ true) q c.0) (sym (begins_same l y k) ∙ subst (λ (i : ℕ). may_come f y i ≡ true) q c.1)
   by_word x y z h k b e (no q) (yes w) =
       let a = (and-eq-true_iff (ending_at f z) (may_come f x z && may_come f y z)).0 e in
       let c = (and-eq-true_iff (may_come f x z) (may_come f y z)).0 a.1 in
-      both-follow (d.marked z w a.0) (sym (follow-same l x z h w) ∙ c.0) (sym (follow-same l y z k w) ∙ c.1)
+      both_follow_lem (d.marked z w a.0) (sym (follow_same l x z h w) ∙ c.0) (sym (follow_same l y z k w) ∙ c.1)
   by_word x y z h k b e (no q) (no w) =
       let a = (and-eq-true_iff (ending_at f z) (may_come f x z && may_come f y z)).0 e in
       absurd (false≢true (sym (d.past z (omega arith) (omega arith)) ∙ a.0))
 
-  marked-rivals : (x y : ℕ) → x < size t → y < size t → rivals_at f x y ≡ true → Rivals t x y
+  marked_rivals : (x y : ℕ) → x < size t → y < size t → rivals_at f x y ≡ true → Rivals t x y
   unfolding rivals_at
-  marked-rivals x y h k e = let r = some_out (both_behind f x y) behinds e in by_word x y r.x h k r.below r.passes (ℕ_discrete r.x at_start) (dec_lt r.x (size t))
+  marked_rivals x y h k e = let r = some_out (both_behind f x y) behinds e in by_word x y r.x h k r.below r.passes (ℕ_discrete r.x at_start) (dec_lt r.x (size t))
 
   both_at : (x y z : ℕ) → ending_at f z ≡ true → may_come f x z ≡ true → may_come f y z ≡ true → z < behinds → rivals_at f x y ≡ true
   unfolding rivals_at
   both_at x y z a b c h =
       some_in (both_behind f x y) behinds z h ((and-eq-true_iff (ending_at f z) (may_come f x z && may_come f y z)).1 (a, (and-eq-true_iff (may_come f x z) (may_come f y z)).1 (b, c)))
 
-  rivals-marked : (x y : ℕ) → x < size t → y < size t → Rivals t x y → rivals_at f x y ≡ true
-  rivals-marked x y h k (both-begin a b) = both_at x y at_start d.source (begins-same l x h ∙ a) (begins-same l y k ∙ b) (omega arith)
-  rivals-marked x y h k (both-follow {z} e a b) =
-      let w = ending-word e in
-      both_at x y z (d.all z e) (follow-same l x z h w ∙ a) (follow-same l y z k w ∙ b) (omega (arith, l.fits.most))
+  rivals_marked : (x y : ℕ) → x < size t → y < size t → Rivals t x y → rivals_at f x y ≡ true
+  rivals_marked x y h k (both_begin_lem a b) = both_at x y at_start d.source (begins_same l x h ∙ a) (begins_same l y k ∙ b) (omega arith)
+  rivals_marked x y h k (both_follow_lem {z} e a b) =
+      let w = ending_word e in
+      both_at x y z (d.all z e) (follow_same l x z h w ∙ a) (follow_same l y z k w ∙ b) (omega (arith, l.fits.most))
 
   -- The list's rivals are those of the table.
-  pub rivals-iff : (x y : ℕ) → x < size t → y < size t → (rivals_at f x y ≡ true) ↔ Rivals t x y
-  rivals-iff x y h k = (marked-rivals x y h k, rivals-marked x y h k)
+  pub rivals_iff : (x y : ℕ) → x < size t → y < size t → (rivals_at f x y ≡ true) ↔ Rivals t x y
+  rivals_iff x y h k = (marked_rivals x y h k, rivals_marked x y h k)
 
   -- Two different words are rivals where the list says so,
-  pub some-parting : some_rivals f ≡ true → SomeParting t
+  pub some_parting : some_rivals f ≡ true → SomeParting t
   unfolding some_rivals rival_before
-  some-parting e =
+  some_parting e =
       let a = some_out (rival_before f) (word_count f) e in
       let b = some_out (rivals_at f a.x) a.x a.passes in
       let x< : a.x < size t = omega (arith, a.below, l.lays.count) in
@@ -79,59 +79,59 @@ module _ {t : Table} {f : List ℕ} (l : LaidOut t f) (d : Ended t f) where
       record {
         x = a.x;
         y = b.x;
-        left-known = x<;
-        right-known = y<;
-        parting = record { differ = λ q. omega (arith, b.below); rivals = marked-rivals a.x b.x x< y< b.passes };
+        left_known = x<;
+        right_known = y<;
+        parting = record { differ = λ q. omega (arith, b.below); rivals = marked_rivals a.x b.x x< y< b.passes };
       }
 
   -- and nowhere else.
-  pub none-part : some_rivals f ≡ false → (x y : ℕ) → x < size t → y < size t → (x ≡ y → ⊥) → Rivals t x y → ⊥
+  pub none_part : some_rivals f ≡ false → (x y : ℕ) → x < size t → y < size t → (x ≡ y → ⊥) → Rivals t x y → ⊥
   unfolding some_rivals rival_before
-  none-part e x y h k n r = by (dec_lt y x)
+  none_part e x y h k n r = by (dec_lt y x)
     where
       some : (x y : ℕ) → x < size t → y < x → Rivals t x y → ⊥
       some x y h k r =
-          let b = some_in (rivals_at f x) x y k (rivals-marked x y h (omega arith) r) in
+          let b = some_in (rivals_at f x) x y k (rivals_marked x y h (omega arith) r) in
           false≢true (sym e ∙ some_in (rival_before f) (word_count f) x (omega (arith, l.lays.count)) b)
 
       by : Dec (y < x) → ⊥
       by (yes m) = some x y h m r
-      by (no m) = some y x k (omega arith) (rivals-swap r)
+      by (no m) = some y x k (omega arith) (rivals_swap r)
 
   turn : (x y : ℕ) → Parting t x y → Parting t y x
-  turn x y b = record { differ = λ e. b.differ (sym e); rivals = rivals-swap b.rivals }
+  turn x y b = record { differ = λ e. b.differ (sym e); rivals = rivals_swap b.rivals }
 
-  from-root : {v c : ℕ} → v < cell_count f → (pair_graph f).root v ≡ true → symbol_at f (higher f v) ≡ c → ReachesPair t f (Parting t) (c ∷ []) v
-  from-root {v} h e r =
-      let s = root-starts l.laid l.numbered h e in
+  from_root : {v c : ℕ} → v < cell_count f → (pair_graph f).root v ≡ true → symbol_at f (higher f v) ≡ c → ReachesPair t f (Parting t) (c ∷ []) v
+  from_root {v} h e r =
+      let s = root_starts l.laid l.numbered h e in
       let y< : s.y < size t = omega (arith, s.known, l.lays.count) in
       let x< : s.x < size t = omega (arith, s.order) in
-      let m = rivals-of f s.x s.y (subst (λ (k : ℕ). k < cell_count f) (sym s.node) h) in
-      from_first l turn x< y< (record { differ = λ q. omega (arith, s.order, q); rivals = marked-rivals s.x s.y x< y< m })
-      (rw (number-first l s.x x<, number-first l s.y y<) (start-node l.laid l.numbered h s)) r
+      let m = rivals_of f s.x s.y (subst (λ (k : ℕ). k < cell_count f) (sym s.node) h) in
+      from_first l turn x< y< (record { differ = λ q. omega (arith, s.order, q); rivals = marked_rivals s.x s.y x< y< m })
+      (rw (number_first l s.x x<, number_first l s.y y<) (start_node_lem l.laid l.numbered h s)) r
 
-  pub rival-walk : {m : List ℕ} {v : ℕ} → Reach (pair_graph f) m v → ReachesPair t f (Parting t) m v
-  rival-walk (start h e c) = from-root h e c
-  rival-walk (onward r e c) = from-leads l turn (rival-walk r) (edge_leads e) c
+  pub rival_walk : {m : List ℕ} {v : ℕ} → Reach (pair_graph f) m v → ReachesPair t f (Parting t) m v
+  rival_walk (start h e c) = from_root h e c
+  rival_walk (onward r e c) = from_leads l turn (rival_walk r) (edge_leads e) c
 
   -- From pairs to walks.
-  starts-of : {v x y : ℕ} → x < size t → y < size t → Rivals t x y → NodeOf f (first_at f x) (first_at f y) v → x < y → (pair_graph f).root v ≡ true
-  starts-of {x = x} {y = y} h k r n o =
-      starts-root l.laid l.numbered (node-below n)
-      (record { x = x; y = y; order = o; known = omega (arith, l.lays.count); node = node-rivals f x y (rivals-marked x y h k r) ∙ of_node n })
+  starts_of : {v x y : ℕ} → x < size t → y < size t → Rivals t x y → NodeOf f (first_at f x) (first_at f y) v → x < y → (pair_graph f).root v ≡ true
+  starts_of {x = x} {y = y} h k r n o =
+      starts_root l.laid l.numbered (node_below n)
+      (record { x = x; y = y; order = o; known = omega (arith, l.lays.count); node = node_rivals f x y (rivals_marked x y h k r) ∙ of_node n })
 
-  root-of : {v x y : ℕ} → x < size t → y < size t → Parting t x y → NodeOf f (first_at f x) (first_at f y) v → Dec (x < y) → (pair_graph f).root v ≡ true
-  root-of h k r n (yes b) = starts-of h k r.rivals n b
-  root-of h k r n (no b) = starts-of k h (rivals-swap r.rivals) (node-swap n) (let z = r.differ in omega arith)
+  root_of : {v x y : ℕ} → x < size t → y < size t → Parting t x y → NodeOf f (first_at f x) (first_at f y) v → Dec (x < y) → (pair_graph f).root v ≡ true
+  root_of h k r n (yes b) = starts_of h k r.rivals n b
+  root_of h k r n (no b) = starts_of k h (rivals_swap r.rivals) (node_swap n) (let z = r.differ in omega arith)
 
-  to-root : {c : ℕ} {p q : Place} → FirstPair t (Parting t) p q → symbol t p ≡ c → Reach (pair_graph f) (c ∷ []) (node_of t p q)
-  to-root {p = p} {q = q} s e =
-      let i : Is t p = subst (Is t) (sym s.left) (first-is t l.fits.plain s.x s.left-known) in
-      let j : Is t q = subst (Is t) (sym s.right) (first-is t l.fits.plain s.y s.right-known) in
-      let n = place-node l i j s.same in
-      let a : number t p ≡ first_at f s.x = ap (number t) s.left ∙ number-first l s.x s.left-known in
-      let b : number t q ≡ first_at f s.y = ap (number t) s.right ∙ number-first l s.y s.right-known in
-      start (node-below n) (root-of s.left-known s.right-known s.starts (node-cast a b n) (dec_lt s.x s.y)) (node-reads l i j s.same ∙ e)
+  to_root : {c : ℕ} {p q : Place} → FirstPair t (Parting t) p q → symbol t p ≡ c → Reach (pair_graph f) (c ∷ []) (node_of t p q)
+  to_root {p = p} {q = q} s e =
+      let i : Is t p = subst (Is t) (sym s.left) (first_is t l.fits.plain s.x s.left_known) in
+      let j : Is t q = subst (Is t) (sym s.right) (first_is t l.fits.plain s.y s.right_known) in
+      let n = place_node l i j s.same in
+      let a : number t p ≡ first_at f s.x = ap (number t) s.left ∙ number_first l s.x s.left_known in
+      let b : number t q ≡ first_at f s.y = ap (number t) s.right ∙ number_first l s.y s.right_known in
+      start (node_below n) (root_of s.left_known s.right_known s.starts (node_cast a b n) (dec_lt s.x s.y)) (node_reads l i j s.same ∙ e)
 
   module _ {m : List ℕ} {c : ℕ} {p q p' q' : Place} (i : Is t p) (j : Is t q) (e : symbol t p ≡ symbol t q) (walk : Reach (pair_graph f) m (node_of t p q))
       (s : CommonStep t p q p' q') (r : symbol t p' ≡ c) where
@@ -141,56 +141,56 @@ module _ {t : Table} {f : List ℕ} (l : LaidOut t f) (d : Ended t f) where
     j' : Is t q'
     j' = step_is t l.fits.plain j s.right
 
-    by-slot : (k : ℕ) → k < slots_of f (number t p) (number t q) → Flat.onward f (number t p) k ≡ number t p' → Flat.onward f (number t q) k ≡ number t q'
+    by_slot : (k : ℕ) → k < slots_of f (number t p) (number t q) → Flat.onward f (number t p) k ≡ number t p' → Flat.onward f (number t q) k ≡ number t q'
         → Reach (pair_graph f) (m ++ (c ∷ [])) (node_of t p' q')
-    by-slot k h a b =
-        onward walk (leads-edge l.laid (node-leads (place-node l i j e) k h (node-cast (sym a) (sym b) (place-node l i' j' s.same))))
-        (node-reads l i' j' s.same ∙ r)
+    by_slot k h a b =
+        onward walk (leads_edge l.laid (node_leads (place_node l i j e) k h (node_cast (sym a) (sym b) (place_node l i' j' s.same))))
+        (node_reads l i' j' s.same ∙ r)
 
-    by-ways : Way t f p p' → Way t f q q' → Reach (pair_graph f) (m ++ (c ∷ [])) (node_of t p' q') ⊎ GoalBefore (pair_graph f) (m ++ (c ∷ []))
-    by-ways (inner a x) (inner b y) = inl (by-slot 0 (rw (a, b) (omega arith)) (x 0) (y 0))
-    by-ways (inner a x) (outer k b h y) = inl (by-slot k (rw (a, b) h) (x k) y)
-    by-ways (outer k a h x) (inner b y) = inl (by-slot k (rw (a, b) h) x (y k))
-    by-ways (outer k a h x) (outer n b z y) = inr (record {
+    by_ways : Way t f p p' → Way t f q q' → Reach (pair_graph f) (m ++ (c ∷ [])) (node_of t p' q') ⊎ GoalBefore (pair_graph f) (m ++ (c ∷ []))
+    by_ways (inner a x) (inner b y) = inl (by_slot 0 (rw (a, b) (omega arith)) (x 0) (y 0))
+    by_ways (inner a x) (outer k b h y) = inl (by_slot k (rw (a, b) h) (x k) y)
+    by_ways (outer k a h x) (inner b y) = inl (by_slot k (rw (a, b) h) x (y k))
+    by_ways (outer k a h x) (outer n b z y) = inr (record {
       n = m;
-      goal = record { v = node_of t p q; walk = walk; met = node-goal (place-node l i j e) a b };
+      goal = record { v = node_of t p q; walk = walk; met = node_goal (place_node l i j e) a b };
       before = omega (arith, length-append m (c ∷ []));
     })
 
   later : {m : List ℕ} (c : ℕ) → GoalBefore (pair_graph f) m → GoalBefore (pair_graph f) (m ++ (c ∷ []))
   later {m} c g = record { n = g.n; goal = g.goal; before = let b = g.before in omega (arith, length-append m (c ∷ [])) }
 
-  to-edge : {m : List ℕ} {c : ℕ} {p q p' q' : Place} → Compatible t (Parting t) m p q → Reach (pair_graph f) m (node_of t p q) ⊎ GoalBefore (pair_graph f) m
+  to_edge : {m : List ℕ} {c : ℕ} {p q p' q' : Place} → Compatible t (Parting t) m p q → Reach (pair_graph f) m (node_of t p q) ⊎ GoalBefore (pair_graph f) m
       → CommonStep t p q p' q' → symbol t p' ≡ c → Reach (pair_graph f) (m ++ (c ∷ [])) (node_of t p' q') ⊎ GoalBefore (pair_graph f) (m ++ (c ∷ []))
-  to-edge h (inl w) s r =
-      let i = compatible-is l.fits.plain h in
-      by-ways i.0 i.1 (compatible-same h) w s r (step-way l i.0 s.left) (step-way l i.1 s.right)
-  to-edge {c = c} h (inr g) s r = inr (later c g)
+  to_edge h (inl w) s r =
+      let i = compatible_is l.fits.plain h in
+      by_ways i.0 i.1 (compatible_same h) w s r (step_way l i.0 s.left) (step_way l i.1 s.right)
+  to_edge {c = c} h (inr g) s r = inr (later c g)
 
-  from-reached : {m : List ℕ} {p q : Place} → Reached t (Parting t) m p q → Reach (pair_graph f) m (node_of t p q) ⊎ GoalBefore (pair_graph f) m
-  from-reached (begin s e) = inl (to-root s e)
-  from-reached (on r s e) = to-edge (compatible-reached.1 r) (from-reached r) s e
+  from_reached : {m : List ℕ} {p q : Place} → Reached t (Parting t) m p q → Reach (pair_graph f) m (node_of t p q) ⊎ GoalBefore (pair_graph f) m
+  from_reached (begin s e) = inl (to_root s e)
+  from_reached (on r s e) = to_edge (compatible_reached.1 r) (from_reached r) s e
 
   ends_of : {m : List ℕ} {v : ℕ} (r : ReachesPair t f (Parting t) m v) → (pair_graph f).goal v ≡ true → BothEnd t r.p r.q
   ends_of {v = v} r e =
       let both = (and-eq-true_iff (end_at f (lower f v)) (end_at f (higher f v))).0 e in
       let s = r.stands in
-      record { left = marked-ends l s.left (ap (end_at f) (sym s.low) ∙ both.0); right = marked-ends l s.right (ap (end_at f) (sym s.high) ∙ both.1) }
+      record { left = marked_ends l s.left (ap (end_at f) (sym s.low) ∙ both.0); right = marked_ends l s.right (ap (end_at f) (sym s.high) ∙ both.1) }
 
-  walk-to : {m : List ℕ} {p q : Place} → Compatible t (Parting t) m p q → Reach (pair_graph f) m (node_of t p q) ⊎ GoalBefore (pair_graph f) m
+  walk_to : {m : List ℕ} {p q : Place} → Compatible t (Parting t) m p q → Reach (pair_graph f) m (node_of t p q) ⊎ GoalBefore (pair_graph f) m
       → WalkTo t (Parting t) (BothEnd t) (pair_graph f) m p q ⊎ GoalBefore (pair_graph f) m
-  walk-to {p = p} {q = q} h (inl w) =
-      let i = compatible-is l.fits.plain h in
+  walk_to {p = p} {q = q} h (inl w) =
+      let i = compatible_is l.fits.plain h in
       inl (record {
         v = node_of t p q;
         walk = w;
-        goal = λ a. node-goal (place-node l i.0 i.1 (compatible-same h)) (ends-marked l i.0 a.left) (ends-marked l i.1 a.right);
+        goal = λ a. node_goal (place_node l i.0 i.1 (compatible_same h)) (ends_marked l i.0 a.left) (ends_marked l i.1 a.right);
       })
-  walk-to h (inr g) = inr g
+  walk_to h (inr g) = inr g
 
   -- The walks of the graph are the compatible pairs of rivals, as far as the first goals.
-  pub rival-shows : Shows t (Parting t) (BothEnd t) (pair_graph f)
-  rival-shows = record {
-    pairs = λ r. let z = rival-walk r in record { p = z.p; q = z.q; pair = z.pair; ends = ends_of z };
-    walks = λ h. walk-to h (from-reached (compatible-reached.0 h));
+  pub rival_shows : Shows t (Parting t) (BothEnd t) (pair_graph f)
+  rival_shows = record {
+    pairs = λ r. let z = rival_walk r in record { p = z.p; q = z.q; pair = z.pair; ends = ends_of z };
+    walks = λ h. walk_to h (from_reached (compatible_reached.0 h));
   }

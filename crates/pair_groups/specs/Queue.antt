@@ -6,7 +6,7 @@ use Rattle.std.proofs.Common.{arith}
 use Rattle.graph.specs.Graph.{Graph}
 use Rattle.code.specs.Laws.Cells.{total}
 use Rattle.pair_storage.specs.Entries.{node_at, above_at}
-use Rattle.pair_groups.specs.Links.{Link, link-node}
+use Rattle.pair_groups.specs.Links.{Link, link_node}
 
 -- 1 for a mark, 0 for a clear cell
 unfoldable pub mark : ℕ → ℕ
@@ -59,8 +59,8 @@ pub record Queue (g : Graph) (ms q : List ℕ) (tail : ℕ) : Type 0 where
   pub marked : (i : ℕ) → 1 ≤ i → i < tail → 1 ≤ get_or ms (node_at q i) 0
   -- no more entries than marks, and the source
   pub room : tail ≤ total mark ms + 1
-  pub source-node : node_at q 0 ≡ g.nodes
-  pub source-from : above_at q 0 ≡ 0
+  pub source_node : node_at q 0 ≡ g.nodes
+  pub source_from : above_at q 0 ≡ 0
   -- no goal is queued
   pub plain : (i : ℕ) → 1 ≤ i → i < tail → g.goal (node_at q i) ≡ false
   pub ascending : Ascending g q tail
@@ -99,28 +99,28 @@ pub record Between (g : Graph) (ms q : List ℕ) (tail a : ℕ) : Type 0 where
 
 module _ {g : Graph} {ms q : List ℕ} {tail : ℕ} (s : Queue g ms q tail) where
   -- An entry stands after the group from which it comes.
-  pub from-early : (i : ℕ) → i < tail → above_at q i ≤ i
-  from-early i l = go (ℕ_discrete i 0)
+  pub from_early : (i : ℕ) → i < tail → above_at q i ≤ i
+  from_early i l = go (ℕ_discrete i 0)
     where
       go : Dec (i ≡ 0) → above_at q i ≤ i
-      go (yes z) = let d : above_at q i ≡ 0 = rw z s.source-from in omega arith
+      go (yes z) = let d : above_at q i ≡ 0 = rw z s.source_from in omega arith
       go (no n) = let o = s.origin i (omega arith) l in let f = o.from in let h = o.early in omega arith
 
   -- Every entry but the source holds a node.
-  pub entry-node : (i : ℕ) → 1 ≤ i → i < tail → node_at q i < g.nodes
-  entry-node i p l = link-node (s.origin i p l).link
+  pub entry_node : (i : ℕ) → 1 ≤ i → i < tail → node_at q i < g.nodes
+  entry_node i p l = link_node (s.origin i p l).link
 
-  pub entry-most : (i : ℕ) → i < tail → node_at q i ≤ g.nodes
-  entry-most i l = go (ℕ_discrete i 0)
+  pub entry_most : (i : ℕ) → i < tail → node_at q i ≤ g.nodes
+  entry_most i l = go (ℕ_discrete i 0)
     where
       go : Dec (i ≡ 0) → node_at q i ≤ g.nodes
-      go (yes z) = let d : node_at q i ≡ g.nodes = rw z s.source-node in omega arith
-      go (no n) = let h = entry-node i (omega arith) l in omega arith
+      go (yes z) = let d : node_at q i ≡ g.nodes = rw z s.source_node in omega arith
+      go (no n) = let h = entry_node i (omega arith) l in omega arith
 
   -- Only the source stands at index 0.
-  pub after-source : (i : ℕ) → node_at q i < g.nodes → 1 ≤ i
-  after-source i l = go (ℕ_discrete i 0)
+  pub after_source : (i : ℕ) → node_at q i < g.nodes → 1 ≤ i
+  after_source i l = go (ℕ_discrete i 0)
     where
       go : Dec (i ≡ 0) → 1 ≤ i
-      go (yes z) = let d : node_at q i ≡ g.nodes = rw z s.source-node in absurd (omega arith)
+      go (yes z) = let d : node_at q i ≡ g.nodes = rw z s.source_node in absurd (omega arith)
       go (no n) = omega arith

@@ -19,8 +19,8 @@ begun {g} {ms} {q} u n clear e z =
             found = λ v h. let d = clear v in absurd (omega arith);
             marked = λ i p l. absurd (omega arith);
             room = omega arith;
-            source-node = e;
-            source-from = z;
+            source_node = e;
+            source_from = z;
             plain = λ i p l. absurd (omega arith);
             ascending = record { keys = λ i j p l. let d : i ≡ j = omega arith in rw d (omega arith) };
             origin = λ i p l. absurd (omega arith);
@@ -37,8 +37,8 @@ begun {g} {ms} {q} u n clear e z =
 
 module _ {g : Graph} {ms q : List ℕ} {tail a b t k : ℕ} (s : Stage g ms q tail a b t k) where
   -- After the last member, the next symbol.
-  pub next-symbol : b ≤ k → t < 16 → Stage g ms q tail a b (t + 1) a
-  next-symbol h low =
+  pub next_symbol_lem : b ≤ k → t < 16 → Stage g ms q tail a b (t + 1) a
+  next_symbol_lem h low =
       record {
         queue = s.queue;
         group = s.group;
@@ -53,8 +53,8 @@ module _ {g : Graph} {ms q : List ℕ} {tail a b t k : ℕ} (s : Stage g ms q ta
       }
 
   -- After the last symbol, the next group.
-  pub next-group : 16 ≤ t → Between g ms q tail b
-  next-group h =
+  pub next_group : 16 ≤ t → Between g ms q tail b
+  next_group h =
       let u = s.group.some in
       let y = s.high in
       record {

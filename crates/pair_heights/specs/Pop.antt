@@ -10,9 +10,9 @@ use Rattle.pair_storage.specs.Marks.{marks}
 use Rattle.pair_storage.specs.Stores.{Marked, mark_of, MarkStored}
 use Rattle.pair_heights.specs.declared.Progress.TheVariants.{Depth}
 use Rattle.pair_heights.specs.State.{top}
-use Rattle.pair_heights.specs.Transitions.{Stepped, stepped-on, below_next}
+use Rattle.pair_heights.specs.Transitions.{Stepped, stepped_on, below_next}
 use Rattle.pair_heights.specs.Transitions as Transitions
-use Rattle.pair_heights.specs.Search.{finished_from, Top, top-numbers, top_within, top_above, top-finishes, Searching, Advanced, moved}
+use Rattle.pair_heights.specs.Search.{finished_from, Top, top_numbers, top_within, top_above, top_finishes, Searching, Advanced, moved}
 use Rattle.pair_heights.specs.Pass.{Passed, passed}
 
 -- A search is under way, the pair p is on top, and none of its slots from the next one on leads anywhere.
@@ -23,16 +23,16 @@ pub record Popping (f xs sk : List ℕ) (d : ℕ) (p : Pair) : Type 0 where
   pub nowhere : (j : ℕ) → get_or xs (top sk d) 0 - 1 ≤ j → cell_count f ≤ (pair_graph f).arc (top sk d) j
 
 module _ (f w : List ℕ) {d : ℕ} {p : Pair} (s : Popping f (marks f w) (entries_in f w) d p) where
-  pub pop-within : d - 1 < length w
-  pop-within = top_within f w s.searching.numbers
+  pub pop_within : d - 1 < length w
+  pop_within = top_within f w s.searching.numbers
 
   -- The pair has the height a on its entry.
   module _ {a : ℕ} (height : a ≡ above_at (links w) (d - 1)) where
-    pub pop-finishes : a + finished_from < mark_room
-    pop-finishes = top-finishes f w s.searching.numbers height
+    pub pop_finishes : a + finished_from < mark_room
+    pop_finishes = top_finishes f w s.searching.numbers height
 
-    pub pop-through : a + 1 < above_room
-    pop-through = omega (arith, pop-finishes)
+    pub pop_through : a + 1 < above_room
+    pop_through = omega (arith, pop_finishes)
 
     -- Its mark is stored.
     module _ (w₁ : List ℕ) (e : MarkStored f w p (a + finished_from) w₁) where
@@ -43,21 +43,21 @@ module _ (f w : List ℕ) {d : ℕ} {p : Pair} (s : Popping f (marks f w) (entri
       popped = rw (finished, e.entries) (Transitions.pop s.searching.state s.searching.numbers.some s.nowhere)
 
       -- It was the last on the stack.
-      pub pop-last : Advanced f (marks f w) (marks f w₁) (entries_in f w₁) (Depth (d - 1))
-      pop-last = moved popped
+      pub pop_last : Advanced f (marks f w) (marks f w₁) (entries_in f w₁) (Depth (d - 1))
+      pop_last = moved popped
 
       -- The pair below passes the slot that led to it.
-      pub pop-below : (d - 1 ≡ 0 → ⊥) → Top f (marks f w₁) (entries_in f w₁) (d - 1)
-      pop-below more = top-numbers s.searching.numbers.laid popped.state (omega arith)
+      pub pop_below : (d - 1 ≡ 0 → ⊥) → Top f (marks f w₁) (entries_in f w₁) (d - 1)
+      pop_below more = top_numbers s.searching.numbers.laid popped.state (omega arith)
 
-      mark-now : mark_of f (marks f w₁) p ≡ a + finished_from
-      mark-now =
+      mark_now : mark_of f (marks f w₁) p ≡ a + finished_from
+      mark_now =
           rw e.marks
           (get_or-set_same (marks f w) (pair_cell f p) (a + finished_from) 0 (omega (arith, s.node, s.searching.numbers.node, s.searching.numbers.size)))
 
-      pub pop-passed : {xs' sk' : List ℕ} → (d - 1 ≡ 0 → ⊥) → Passed (marks f w₁) (entries_in f w₁) (d - 1) (a + 1) xs' sk' → Advanced f (marks f w) xs' sk' (Depth (d - 1))
-      pop-passed more r =
+      pub pop_passed : {xs' sk' : List ℕ} → (d - 1 ≡ 0 → ⊥) → Passed (marks f w₁) (entries_in f w₁) (d - 1) (a + 1) xs' sk' → Advanced f (marks f w) xs' sk' (Depth (d - 1))
+      pop_passed more r =
           let led = below_next s.searching.state s.searching.numbers.some (omega arith) (above_at (entries_in f w) (d - 1) + finished_from) in
-          moved (stepped-on popped
-          (passed {w = pair_cell f p} s.searching.numbers.laid popped.state (omega arith) (rw (finished, e.entries, s.node) led) (omega (arith, mark-now))
-          (omega (arith, mark-now)) r))
+          moved (stepped_on popped
+          (passed {w = pair_cell f p} s.searching.numbers.laid popped.state (omega arith) (rw (finished, e.entries, s.node) led) (omega (arith, mark_now))
+          (omega (arith, mark_now)) r))

@@ -4,18 +4,18 @@ use Rattle.std.proofs.Common.{sym, ◌∙◌, arith}
 use Rattle.code.specs.Definitions.Sheets.{limits}
 use Rattle.pair_places.specs.declared.Pair.{Pair}
 use Rattle.pair_places.specs.Flat.{Laid, place_count, cell_count, pair_graph}
-use Rattle.pair_places.specs.Nodes.{cells-most}
+use Rattle.pair_places.specs.Nodes.{cells_most}
 use Rattle.pair_places.specs.Steps.{pair_cell}
-use Rattle.code.specs.Laws.Cells.{total-le}
+use Rattle.code.specs.Laws.Cells.{total_le}
 use Rattle.graph.specs.Graph.{Endless}
 use Rattle.pair_storage.specs.Fields.{mark_room, Carries}
-use Rattle.pair_storage.specs.Entries.{entries_in, above_at, links, length-entries-in, above-entries-in}
+use Rattle.pair_storage.specs.Entries.{entries_in, above_at, links, length_entries_in, above_entries_in}
 use Rattle.pair_storage.specs.Stores.{Marked, mark_of}
 use Rattle.pair_heights.specs.declared.Progress.{Progress}
 use Rattle.pair_heights.specs.declared.Progress.TheVariants.{Depth, Cycle}
-use Rattle.pair_heights.specs.Carrying.{CarriesNode, carries-node}
-use Rattle.pair_heights.specs.Marks.{finished, finished-le}
-use Rattle.pair_heights.specs.State.{State, top, has-entries, at_top}
+use Rattle.pair_heights.specs.Carrying.{CarriesNode, carries_node}
+use Rattle.pair_heights.specs.Marks.{finished, finished_le}
+use Rattle.pair_heights.specs.State.{State, top, has_entries, at_top}
 use Rattle.pair_heights.specs.Transitions.{Stepped}
 
 -- The least mark of a finished pair. A pair has no more slots than there can be words, and on the stack its mark is at most one more than these.
@@ -36,50 +36,50 @@ pub record Top (f xs sk : List ℕ) (d : ℕ) : Type 0 where
 -- The link on top: it carries the pair on top, whose mark is read and set, and the height so far above it.
 module _ (f sk : List ℕ) {xs : List ℕ} {d : ℕ} (t : Top f xs (entries_in f sk) d) where
   pub top_within : d - 1 < length sk
-  top_within = omega (arith, t.some, t.deep, length-entries-in f sk)
+  top_within = omega (arith, t.some, t.deep, length_entries_in f sk)
 
   pub top_above : {a : ℕ} → a ≡ above_at (links sk) (d - 1) → a ≡ above_at (entries_in f sk) (d - 1)
-  top_above e = e ∙ sym (above-entries-in f sk t.laid (d - 1))
+  top_above e = e ∙ sym (above_entries_in f sk t.laid (d - 1))
 
   -- A height has room in a mark.
-  pub top-finishes : {a : ℕ} → a ≡ above_at (links sk) (d - 1) → a + finished_from < mark_room
-  top-finishes e = omega (arith, top_above e, t.small, cells-most t.laid)
+  pub top_finishes : {a : ℕ} → a ≡ above_at (links sk) (d - 1) → a + finished_from < mark_room
+  top_finishes e = omega (arith, top_above e, t.small, cells_most t.laid)
 
   module _ {p : Pair} (c : Carries (get_or sk (d - 1) 0) p) where
-    on-top : CarriesNode f (top (entries_in f sk) d) p
-    on-top = carries-node f sk t.laid (d - 1) t.node c
+    on_top : CarriesNode f (top (entries_in f sk) d) p
+    on_top = carries_node f sk t.laid (d - 1) t.node c
 
-    pub top-cell : pair_cell f p ≡ top (entries_in f sk) d
-    top-cell = on-top.pair.node
+    pub top_cell : pair_cell f p ≡ top (entries_in f sk) d
+    top_cell = on_top.pair.node
 
-    pub top-low : p.low < place_count f
-    top-low = on-top.low
+    pub top_low : p.low < place_count f
+    top_low = on_top.low
 
-    pub top-high : p.high < place_count f
-    top-high = on-top.pair.inside
+    pub top_high : p.high < place_count f
+    top_high = on_top.pair.inside
 
-    pub top-marked : Marked f xs p
-    top-marked = record { laid = t.laid; size = t.size; low = top-low; high = top-high }
+    pub top_marked : Marked f xs p
+    top_marked = record { laid = t.laid; size = t.size; low = top_low; high = top_high }
 
     -- Its mark is met, and can rise.
-    pub top-met : {m : ℕ} → m ≡ mark_of f xs p → 1 ≤ m
-    top-met e = rw (e, top-cell) t.met
+    pub top_met : {m : ℕ} → m ≡ mark_of f xs p → 1 ≤ m
+    top_met e = rw (e, top_cell) t.met
 
-    pub top-rises : {m : ℕ} → m ≡ mark_of f xs p → m + 1 < mark_room
-    top-rises e = rw (e, top-cell) (omega (arith, t.low))
+    pub top_rises : {m : ℕ} → m ≡ mark_of f xs p → m + 1 < mark_room
+    top_rises e = rw (e, top_cell) (omega (arith, t.low))
 
-pub top-numbers : {f xs sk : List ℕ} {d : ℕ} → Laid f → State (pair_graph f) xs sk d → 1 ≤ d → Top f xs sk d
-top-numbers {f} {xs} laid s some =
+pub top_numbers : {f xs sk : List ℕ} {d : ℕ} → Laid f → State (pair_graph f) xs sk d → 1 ≤ d → Top f xs sk d
+top_numbers {f} {xs} laid s some =
     let t = at_top s some in
     record {
       laid = laid;
       some = some;
-      deep = has-entries s;
+      deep = has_entries s;
       size = s.marks.size;
       node = omega (arith, t.inside, s.marks.size);
       met = t.on.0;
       low = t.on.1;
-      small = omega (arith, t.height.low, total-le (finished (pair_graph f)) xs (finished-le (pair_graph f)), s.marks.size);
+      small = omega (arith, t.height.low, total_le (finished (pair_graph f)) xs (finished_le (pair_graph f)), s.marks.size);
     }
 
 -- A search is under way and its stack is not empty.
@@ -88,7 +88,7 @@ pub record Searching (f xs sk : List ℕ) (d : ℕ) : Type 0 where
   pub numbers : Top f xs sk d
 
 pub searching : {f xs sk : List ℕ} {d : ℕ} → Laid f → State (pair_graph f) xs sk d → 1 ≤ d → Searching f xs sk d
-searching l s some = record { state = s; numbers = top-numbers l s some }
+searching l s some = record { state = s; numbers = top_numbers l s some }
 
 -- A transition of the state; or a cycle is closed, so that there are walks of every length.
 pub data Advanced (f xs xs' sk' : List ℕ) : Progress → Type 0 where

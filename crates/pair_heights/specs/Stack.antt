@@ -3,10 +3,10 @@ use Rattle.std.specs.Prelude.{◌≡◌, refl, List, ℕ, zero, suc, ◌+◌, �
 use Rattle.std.proofs.Common.{ap, sym, ◌∙◌, arith, get_or-set_same, get_or-set_other}
 use Rattle.std.proofs.Math.Decide.{dec_lt}
 use Rattle.graph.specs.Graph.{Graph, Edge}
-use Rattle.code.specs.Laws.Cells.{on-set, on-push, total, total-set}
+use Rattle.code.specs.Laws.Cells.{on_set, on_push, total, total-set}
 use Rattle.graph.specs.Paths.{PathFrom, here, along}
 use Rattle.pair_storage.specs.Entries.{node_in, node_at}
-use Rattle.pair_heights.specs.Marks.{OnStack, Finished, stacked, stacked-one, stacked-zero, stacked-finished}
+use Rattle.pair_heights.specs.Marks.{OnStack, Finished, stacked, stacked_one, stacked_zero, stacked_finished}
 
 -- One of the first d entries is that of v.
 pub record At (sk : List ℕ) (d v : ℕ) : Type 0 where
@@ -30,41 +30,41 @@ pub record Stack (g : Graph) (xs sk : List ℕ) (d : ℕ) : Type 0 where
 
 module _ {g : Graph} {xs sk : List ℕ} {d : ℕ} (s : Stack g xs sk d) where
   -- No entry is that of a node not met before.
-  pub other-new : {w : ℕ} → get_or xs w 0 ≡ 0 → (i : ℕ) → i < d → node_at sk i ≡ w → ⊥
-  other-new new i h e = omega (arith, (s.on i h).0, ap (λ (v : ℕ). get_or xs v 0) e)
+  pub other_new : {w : ℕ} → get_or xs w 0 ≡ 0 → (i : ℕ) → i < d → node_at sk i ≡ w → ⊥
+  other_new new i h e = omega (arith, (s.on i h).0, ap (λ (v : ℕ). get_or xs v 0) e)
 
   -- No entry below the top is that of its node.
-  pub other-top : (i : ℕ) → i < d - 1 → node_at sk i ≡ node_at sk (d - 1) → ⊥
-  other-top i h e = omega (arith, s.apart i (d - 1) (omega arith) (omega arith) e)
+  pub other_top : (i : ℕ) → i < d - 1 → node_at sk i ≡ node_at sk (d - 1) → ⊥
+  other_top i h e = omega (arith, s.apart i (d - 1) (omega arith) (omega arith) e)
 
 -- A node alone is put on an empty stack.
-pub stack-start : {g : Graph} (xs sk : List ℕ) (r e : ℕ) → node_in e ≡ r → r < length xs → get_or xs r 0 ≡ 0 → 0 < length sk
+pub stack_start : {g : Graph} (xs sk : List ℕ) (r e : ℕ) → node_in e ≡ r → r < length xs → get_or xs r 0 ≡ 0 → 0 < length sk
     → ((v : ℕ) → OnStack g (get_or xs v 0) → ⊥) → Stack g (set xs r 1) (set sk 0 e) 1
-stack-start {g} xs sk r e node l new room none =
+stack_start {g} xs sk r e node l new room none =
     record {
       link = λ i h. absurd (omega arith);
       on = λ i h. let z : i ≡ 0 = omega arith in rw (z, get_or-set_same sk 0 e 0 room, node, get_or-set_same xs r 1 0 l) one_on;
       apart = λ i j hi hj z. omega arith;
       found =
-          on-set xs r 1 l (λ v x. OnStack g x → At (set sk 0 e) 1 v)
+          on_set xs r 1 l (λ v x. OnStack g x → At (set sk 0 e) 1 v)
           (λ _. record { place = 0; below = omega arith; is = rw (get_or-set_same sk 0 e 0 room) node })
           (λ v ne o. absurd (none v o));
-      room = omega (arith, total-set (stacked g) xs r 1 l, stacked-zero g new, stacked-one g one_on);
+      room = omega (arith, total-set (stacked g) xs r 1 l, stacked_zero g new, stacked_one g one_on);
     }
   where
     one_on : OnStack g 1
     one_on = omega arith
 
 -- The node on top gets another mark of a node on the stack.
-pub stack-pass : {g : Graph} {xs sk : List ℕ} {d : ℕ} → Stack g xs sk d → (y : ℕ) → node_at sk (d - 1) < length xs → 1 ≤ d → OnStack g y
+pub stack_pass : {g : Graph} {xs sk : List ℕ} {d : ℕ} → Stack g xs sk d → (y : ℕ) → node_at sk (d - 1) < length xs → 1 ≤ d → OnStack g y
     → Stack g (set xs (node_at sk (d - 1)) y) sk d
-stack-pass {g} {xs} {sk} {d} s y l some next =
+stack_pass {g} {xs} {sk} {d} s y l some next =
     record {
-      link = λ i h. rw (get_or-set_other xs u (node_at sk i) y 0 (other-top s i (omega arith))) (s.link i h);
-      on = λ i h. on-set xs u y l (λ v x. OnStack g (get_or xs v 0) → OnStack g x) (λ _. next) (λ v ne p. p) (node_at sk i) (s.on i h);
+      link = λ i h. rw (get_or-set_other xs u (node_at sk i) y 0 (other_top s i (omega arith))) (s.link i h);
+      on = λ i h. on_set xs u y l (λ v x. OnStack g (get_or xs v 0) → OnStack g x) (λ _. next) (λ v ne p. p) (node_at sk i) (s.on i h);
       apart = s.apart;
-      found = on-set xs u y l (λ v x. OnStack g x → At sk d v) (λ _. s.found u old) (λ v ne. s.found v);
-      room = omega (arith, s.room, total-set (stacked g) xs u y l, stacked-one g old, stacked-one g next);
+      found = on_set xs u y l (λ v x. OnStack g x → At sk d v) (λ _. s.found u old) (λ v ne. s.found v);
+      room = omega (arith, s.room, total-set (stacked g) xs u y l, stacked_one g old, stacked_one g next);
     }
   where
     u : ℕ
@@ -91,30 +91,30 @@ stack_push {g} {xs} {sk} {d} s w e node l new room next =
     record {
       link = λ i h.
           rw (get_or-set_other sk d i e 0 (omega arith), kept i (omega arith))
-          (on-push sk d e room (λ j x. i + 1 ≡ j → Next g (get_or xs (node_at sk i) 0) (node_at sk i) (node_in x)) (λ q. top i q)
+          (on_push sk d e room (λ j x. i + 1 ≡ j → Next g (get_or xs (node_at sk i) 0) (node_at sk i) (node_in x)) (λ q. top i q)
           (λ j k q. rw (← q) (s.link i (omega arith)))
           (i + 1) h refl);
       on =
-          on-push sk d e room (λ i x. OnStack g (get_or (set xs w 1) (node_in x) 0)) (rw (node, get_or-set_same xs w 1 0 l) one_on)
+          on_push sk d e room (λ i x. OnStack g (get_or (set xs w 1) (node_in x) 0)) (rw (node, get_or-set_same xs w 1 0 l) one_on)
           (λ i h. rw (kept i h) (s.on i h));
       apart =
-          λ i j hi. on-push sk d e room (λ k x. node_at (set sk d e) i ≡ node_in x → i ≡ k)
-          (on-push sk d e room (λ k x. node_in x ≡ node_in e → k ≡ d) (λ _. refl) (λ k hk q. absurd (other-new s new k hk (q ∙ node))) i hi)
+          λ i j hi. on_push sk d e room (λ k x. node_at (set sk d e) i ≡ node_in x → i ≡ k)
+          (on_push sk d e room (λ k x. node_in x ≡ node_in e → k ≡ d) (λ _. refl) (λ k hk q. absurd (other_new s new k hk (q ∙ node))) i hi)
           (λ k hk.
-          on-push sk d e room (λ n x. node_in x ≡ node_at sk k → n ≡ k) (λ q. absurd (other-new s new k hk (sym q ∙ node))) (λ n hn q. s.apart n k hn hk q) i hi)
+          on_push sk d e room (λ n x. node_in x ≡ node_at sk k → n ≡ k) (λ q. absurd (other_new s new k hk (sym q ∙ node))) (λ n hn q. s.apart n k hn hk q) i hi)
           j;
       found =
-          on-set xs w 1 l (λ v x. OnStack g x → At (set sk d e) (d + 1) v)
+          on_set xs w 1 l (λ v x. OnStack g x → At (set sk d e) (d + 1) v)
           (λ _. record { place = d; below = omega arith; is = rw (get_or-set_same sk d e 0 room) node })
           (λ v ne o. at_old v (s.found v o));
-      room = omega (arith, s.room, total-set (stacked g) xs w 1 l, stacked-zero g new, stacked-one g one_on);
+      room = omega (arith, s.room, total-set (stacked g) xs w 1 l, stacked_zero g new, stacked_one g one_on);
     }
   where
     one_on : OnStack g 1
     one_on = omega arith
 
     kept : (i : ℕ) → i < d → get_or (set xs w 1) (node_at sk i) 0 ≡ get_or xs (node_at sk i) 0
-    kept i h = get_or-set_other xs w (node_at sk i) 1 0 (other-new s new i h)
+    kept i h = get_or-set_other xs w (node_at sk i) 1 0 (other_new s new i h)
 
     top : (i : ℕ) → i + 1 ≡ d → Next g (get_or xs (node_at sk i) 0) (node_at sk i) (node_in e)
     top i q = let z : i ≡ d - 1 = omega arith in rw (node, z) next
@@ -128,22 +128,22 @@ stack_push {g} {xs} {sk} {d} s w e node l new room next =
         }
 
 -- The node on top is finished and taken off.
-pub stack-pop : {g : Graph} {xs sk : List ℕ} {d : ℕ} → Stack g xs sk d → (y : ℕ) → node_at sk (d - 1) < length xs → 1 ≤ d → Finished g y
+pub stack_pop : {g : Graph} {xs sk : List ℕ} {d : ℕ} → Stack g xs sk d → (y : ℕ) → node_at sk (d - 1) < length xs → 1 ≤ d → Finished g y
     → Stack g (set xs (node_at sk (d - 1)) y) sk (d - 1)
-stack-pop {g} {xs} {sk} {d} s y l some done =
+stack_pop {g} {xs} {sk} {d} s y l some done =
     record {
       link = λ i h. rw (kept i (omega arith)) (s.link i (omega arith));
       on = λ i h. rw (kept i h) (s.on i (omega arith));
       apart = λ i j hi hj. s.apart i j (omega arith) (omega arith);
-      found = on-set xs u y l (λ v x. OnStack g x → At sk (d - 1) v) (λ o. absurd (omega (arith, o.1))) (λ v ne o. at_rest v ne (s.found v o));
-      room = omega (arith, s.room, total-set (stacked g) xs u y l, stacked-one g (s.on (d - 1) (omega arith)), stacked-finished g done);
+      found = on_set xs u y l (λ v x. OnStack g x → At sk (d - 1) v) (λ o. absurd (omega (arith, o.1))) (λ v ne o. at_rest v ne (s.found v o));
+      room = omega (arith, s.room, total-set (stacked g) xs u y l, stacked_one g (s.on (d - 1) (omega arith)), stacked_finished g done);
     }
   where
     u : ℕ
     u = node_at sk (d - 1)
 
     kept : (i : ℕ) → i < d - 1 → get_or (set xs u y) (node_at sk i) 0 ≡ get_or xs (node_at sk i) 0
-    kept i h = get_or-set_other xs u (node_at sk i) y 0 (other-top s i h)
+    kept i h = get_or-set_other xs u (node_at sk i) y 0 (other_top s i h)
 
     at_rest : (v : ℕ) → (v ≡ u → ⊥) → At sk d v → At sk (d - 1) v
     at_rest v ne a = record { place = a.place; below = go (dec_lt a.place (d - 1)); is = a.is }
@@ -153,10 +153,10 @@ stack-pop {g} {xs} {sk} {d} s y l some done =
         go (no n) = let e : a.place ≡ d - 1 = omega (arith, a.below) in absurd (ne (sym a.is ∙ ap (λ (i : ℕ). node_at sk i) e))
 
 -- An edge from the top to a node on the stack closes a cycle: every node on the stack has paths of every length.
-pub cycle-paths : {g : Graph} {xs sk : List ℕ} {d w : ℕ} → Stack g xs sk d → Edge g (node_at sk (d - 1)) w → At sk d w
+pub cycle_paths : {g : Graph} {xs sk : List ℕ} {d w : ℕ} → Stack g xs sk d → Edge g (node_at sk (d - 1)) w → At sk d w
     → (k i : ℕ) → i < d → PathFrom g k (node_at sk i)
-cycle-paths s e a zero i h = here
-cycle-paths {g} {sk = sk} {d = d} {w = w} s e a (suc k) i h = go (cycle-paths s e a k) (dec_lt (i + 1) d)
+cycle_paths s e a zero i h = here
+cycle_paths {g} {sk = sk} {d = d} {w = w} s e a (suc k) i h = go (cycle_paths s e a k) (dec_lt (i + 1) d)
   where
     go : ((j : ℕ) → j < d → PathFrom g k (node_at sk j)) → Dec (i + 1 < d) → PathFrom g (suc k) (node_at sk i)
     go p (yes l) = along (s.link i l).edge (p (i + 1) l)

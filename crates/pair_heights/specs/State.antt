@@ -3,13 +3,13 @@ use Rattle.std.specs.Prelude.{◌≡◌, true, List, ℕ, ◌+◌, ◌-◌, ◌�
 use Rattle.std.proofs.Math.Decide.{dec_lt}
 use Rattle.std.proofs.Common.{arith, length-set}
 use Rattle.graph.specs.Graph.{Graph}
-use Rattle.code.specs.Laws.Cells.{on-push, inside, total-set, total-le}
-use Rattle.graph.specs.Paths.{Reached, reached-root}
+use Rattle.code.specs.Laws.Cells.{on_push, inside, total-set, total_le}
+use Rattle.graph.specs.Paths.{Reached, reached_root}
 use Rattle.pair_storage.specs.Fields.{above_in}
 use Rattle.pair_storage.specs.Entries.{node_in, node_at}
-use Rattle.pair_heights.specs.Marks.{OnStack, Finished, stacked, stacked-zero, stacked-one, stacked-le, Marks, marks-met}
-use Rattle.pair_heights.specs.Stack.{Stack, stack-start}
-use Rattle.pair_heights.specs.Height.{HeightSoFar, so-far-first}
+use Rattle.pair_heights.specs.Marks.{OnStack, Finished, stacked, stacked_zero, stacked_one, stacked_le, Marks, marks_met}
+use Rattle.pair_heights.specs.Stack.{Stack, stack_start}
+use Rattle.pair_heights.specs.Height.{HeightSoFar, so_far_first}
 
 -- No search is under way: the marks are right, and none is that of a node on the stack.
 pub record Idle (g : Graph) (xs : List ℕ) : Type 0 where
@@ -37,15 +37,15 @@ has_room {g} {xs = xs} s w n e =
       s.marks.size,
       s.stack.room,
       total-set (stacked g) xs w 1 l,
-      stacked-zero g e,
-      stacked-one g {x = 1} (omega arith),
-      total-le (stacked g) (set xs w 1) (stacked-le g),
+      stacked_zero g e,
+      stacked_one g {x = 1} (omega arith),
+      total_le (stacked g) (set xs w 1) (stacked_le g),
       length-set xs w 1,
     )
 
 -- All entries stand in the list.
-pub has-entries : {g : Graph} {xs sk : List ℕ} {d : ℕ} → State g xs sk d → d ≤ length sk
-has-entries {g} {xs} s = omega (arith, s.stack.room, s.wide, s.marks.size, total-le (stacked g) xs (stacked-le g))
+pub has_entries : {g : Graph} {xs sk : List ℕ} {d : ℕ} → State g xs sk d → d ≤ length sk
+has_entries {g} {xs} s = omega (arith, s.stack.room, s.wide, s.marks.size, total_le (stacked g) xs (stacked_le g))
 
 -- What holds of the node on top.
 pub record AtTop (g : Graph) (xs sk : List ℕ) (d : ℕ) : Type 0 where
@@ -72,10 +72,10 @@ begun {g} {xs} i sk r e node height wide n root new =
     let o : get_or xs r 0 ≤ g.slots + 1 = omega arith in
     record {
       wide = simp length-set wide;
-      marks = marks-met i.marks r 1 l (reached-root n root) o (omega arith);
-      stack = stack-start xs sk r e node l new (omega arith) i.none;
+      marks = marks_met i.marks r 1 l (reached_root n root) o (omega arith);
+      stack = stack_start xs sk r e node l new (omega arith) i.none;
       heights =
-          on-push sk 0 e (omega arith) (λ k x. HeightSoFar g (set xs r 1) x) (so-far-first xs r l o node height) (λ k h. absurd (omega arith));
+          on_push sk 0 e (omega arith) (λ k x. HeightSoFar g (set xs r 1) x) (so_far_first xs r l o node height) (λ k h. absurd (omega arith));
     }
 
 -- A search has ended: no node is on the stack, so those met are finished.

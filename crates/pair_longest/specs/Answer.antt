@@ -10,10 +10,10 @@ pub data Answer (f : List ℕ) (P : ℕ → Type 0) : Extent → Type 0 where
   finite : {n : ℕ} → P n → Answer f P (Finite n)
   unbounded : Endless (pair_graph f) → Answer f P Unbounded
 
-pub was-finite : {f : List ℕ} {P : ℕ → Type 0} {t : Extent} {n : ℕ} → Answer f P t → t ≡ Finite n → P n
-was-finite {P = P} {n = n} (finite {n = m} p) q = let z : m ≡ n = cc in rw z at p
-was-finite (unbounded u) q = let z : ◌≡◌ {A = ℕ} 0 1 = cc in absurd (omega arith)
+pub was_finite : {f : List ℕ} {P : ℕ → Type 0} {t : Extent} {n : ℕ} → Answer f P t → t ≡ Finite n → P n
+was_finite {P = P} {n = n} (finite {n = m} p) q = let z : m ≡ n = cc in rw z at p
+was_finite (unbounded u) q = let z : ◌≡◌ {A = ℕ} 0 1 = cc in absurd (omega arith)
 
-pub was-unbounded : {f : List ℕ} {P Q : ℕ → Type 0} {t : Extent} → Answer f P t → t ≡ Unbounded → Answer f Q Unbounded
-was-unbounded (finite p) q = let z : ◌≡◌ {A = ℕ} 0 1 = cc in absurd (omega arith)
-was-unbounded (unbounded u) q = unbounded u
+pub was_unbounded : {f : List ℕ} {P Q : ℕ → Type 0} {t : Extent} → Answer f P t → t ≡ Unbounded → Answer f Q Unbounded
+was_unbounded (finite p) q = let z : ◌≡◌ {A = ℕ} 0 1 = cc in absurd (omega arith)
+was_unbounded (unbounded u) q = unbounded u

@@ -4,18 +4,18 @@ use Rattle.std.proofs.Common.{sym, arith}
 use Rattle.code.specs.Definitions.Sheets.{limits}
 use Rattle.pair_places.specs.declared.Pair.{Pair}
 use Rattle.pair_places.specs.Flat.{Laid, word_count, place_count, cell_count, pair_count, first_node, pair_graph}
-use Rattle.pair_places.specs.Nodes.{cell-outside}
-use Rattle.pair_places.specs.Roots.{Numbered, starts-root}
+use Rattle.pair_places.specs.Nodes.{cell_outside}
+use Rattle.pair_places.specs.Roots.{Numbered, starts_root}
 use Rattle.pair_places.specs.Steps.{pair_cell, Arrives}
 use Rattle.graph.specs.Paths.{shorter, RootPath}
 use Rattle.pair_storage.specs.Stores.{Marked}
 use Rattle.pair_longest.specs.declared.Extent.{Extent}
 use Rattle.pair_longest.specs.declared.Extent.TheVariants.{Finite}
-use Rattle.pair_longest.specs.Answer.{Answer, finite, was-finite}
+use Rattle.pair_longest.specs.Answer.{Answer, finite, was_finite}
 use Rattle.pair_heights.specs.State.{Idle}
-use Rattle.pair_longest.specs.Bound.{pairs-few}
-use Rattle.pair_longest.specs.Explore.{AtRoot, marked-node, Explored}
-use Rattle.pair_longest.specs.Roots.{NoPath, Most, most-same, most-more, most-row}
+use Rattle.pair_longest.specs.Bound.{pairs_few}
+use Rattle.pair_longest.specs.Explore.{AtRoot, marked_node, Explored}
+use Rattle.pair_longest.specs.Roots.{NoPath, Most, most_same, most_more, most_row}
 
 -- The first pairs of the words before x, and of x and the words before y, are counted. No search is under way.
 pub record Counting (f xs : List ℕ) (x y b : ℕ) : Type 0 where
@@ -40,54 +40,54 @@ visiting sk c o k e l w = record { counting = c; order = o; known = omega arith;
 module _ {f xs sk : List ℕ} {x y b m : ℕ} {p : Pair} (s : Visiting f xs sk x y b) (a : Arrives f (first_node f x y) p) (count : m ≡ place_count f) where
   -- The walks from the first pair of x and y are no longer than those before.
   same : {xs' : List ℕ} → Idle (pair_graph f) xs' → NoPath f b x y → Answer f (Counting f xs' x (y + 1)) (Finite b)
-  same i n = let c = s.counting in finite (record { laid = c.laid; numbered = c.numbered; idle = i; most = most-same c.most n; low = c.low })
+  same i n = let c = s.counting in finite (record { laid = c.laid; numbered = c.numbered; idle = i; most = most_same c.most n; low = c.low })
 
   -- The words have no first pair.
-  pub visit-nowhere : m ≤ p.low → Answer f (Counting f xs x (y + 1)) (Finite b)
-  visit-nowhere l = same s.counting.idle (λ n. absurd (omega (arith, a.node, cell-outside f p.low p.high (omega arith))))
+  pub visit_nowhere : m ≤ p.low → Answer f (Counting f xs x (y + 1)) (Finite b)
+  visit_nowhere l = same s.counting.idle (λ n. absurd (omega (arith, a.node, cell_outside f p.low p.high (omega arith))))
 
   module _ (l : p.low < m) where
     marked : Marked f xs p
     marked = record { laid = s.counting.laid; size = s.counting.idle.marks.size; low = omega arith; high = a.high }
 
-    pub visit-root : AtRoot f xs sk p
-    visit-root =
+    pub visit_root : AtRoot f xs sk p
+    visit_root =
         let c = s.counting in
         record {
           pair = marked;
           idle = c.idle;
-          root = starts-root c.laid c.numbered (marked-node p marked) record { x = x; y = y; order = s.order; known = s.known; node = sym a.node };
+          root = starts_root c.laid c.numbered (marked_node p marked) record { x = x; y = y; order = s.order; known = s.known; node = sym a.node };
           wide = s.wide;
         }
 
     -- A path from the first pair of x and y has fewer edges than the longest walk from there reads symbols.
-    explored-none : {xs' : List ℕ} {n k : ℕ} → Explored f (pair_cell f p) xs' n → n ≤ k → NoPath f k x y
-    explored-none t h i q = t.height.none (shorter (suc t.edges) (omega (arith, t.more)) (rw (← a.node) at q))
+    explored_none : {xs' : List ℕ} {n k : ℕ} → Explored f (pair_cell f p) xs' n → n ≤ k → NoPath f k x y
+    explored_none t h i q = t.height.none (shorter (suc t.edges) (omega (arith, t.more)) (rw (← a.node) at q))
 
-    pub visit-lower : {xs' : List ℕ} {n : ℕ} {t : Extent} → Answer f (Explored f (pair_cell f p) xs') t → t ≡ Finite n → n ≤ b
+    pub visit_lower : {xs' : List ℕ} {n : ℕ} {t : Extent} → Answer f (Explored f (pair_cell f p) xs') t → t ≡ Finite n → n ≤ b
         → Answer f (Counting f xs' x (y + 1)) (Finite b)
-    visit-lower t q h = let d = was-finite t q in same d.idle (explored-none d h)
+    visit_lower t q h = let d = was_finite t q in same d.idle (explored_none d h)
 
     -- They are longer.
-    pub visit-higher : {xs' : List ℕ} {n : ℕ} {t : Extent} → Answer f (Explored f (pair_cell f p) xs') t → t ≡ Finite n → b < n
+    pub visit_higher : {xs' : List ℕ} {n : ℕ} {t : Extent} → Answer f (Explored f (pair_cell f p) xs') t → t ≡ Finite n → b < n
         → Answer f (Counting f xs' x (y + 1)) (Finite n)
-    visit-higher {n = n} t q h =
+    visit_higher {n = n} t q h =
         let c = s.counting in
-        let d = was-finite t q in
-        let r = visit-root in
-        let path : RootPath (pair_graph f) d.edges = record { node = pair_cell f p; inside = marked-node p marked; root = r.root; path = d.height.some } in
+        let d = was_finite t q in
+        let r = visit_root in
+        let path : RootPath (pair_graph f) d.edges = record { node = pair_cell f p; inside = marked_node p marked; root = r.root; path = d.height.some } in
         finite {n = n}
         record {
           laid = c.laid;
           numbered = c.numbered;
           idle = d.idle;
-          most = rw d.more (most-more d.edges c.most (omega (arith, d.more)) path (explored-none d (omega (arith, d.more))));
-          low = omega (arith, d.low, pairs-few c.laid c.numbered d.idle.marks);
+          most = rw d.more (most_more d.edges c.most (omega (arith, d.more)) path (explored_none d (omega (arith, d.more))));
+          low = omega (arith, d.low, pairs_few c.laid c.numbered d.idle.marks);
         }
 
 pub counted : {f xs : List ℕ} {x y b : ℕ} {t : Extent} → Answer f (Counting f xs x y) t → t ≡ Finite b → Counting f xs x y b
-counted a q = was-finite a q
+counted a q = was_finite a q
 
 -- The row of x is done.
-pub row-end : {f xs : List ℕ} {x y b n : ℕ} → Counting f xs x y b → n ≡ word_count f → n ≤ y → Answer f (Counting f xs (x + 1) (x + 1 + 1)) (Finite b)
-row-end c e l = finite (record { laid = c.laid; numbered = c.numbered; idle = c.idle; most = most-row c.most (omega arith); low = c.low })
+pub row_end : {f xs : List ℕ} {x y b n : ℕ} → Counting f xs x y b → n ≡ word_count f → n ≤ y → Answer f (Counting f xs (x + 1) (x + 1 + 1)) (Finite b)
+row_end c e l = finite (record { laid = c.laid; numbered = c.numbered; idle = c.idle; most = most_row c.most (omega arith); low = c.low })

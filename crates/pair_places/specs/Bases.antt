@@ -17,9 +17,9 @@ pub record Located (t : Table) (n p : ℕ) : Type 0 where
   pub number : p ≡ base t w + k
 
 module _ (t : Table) where
-  pub base-none : base t 0 ≡ 0
+  pub base_none : base t 0 ≡ 0
   unfolding base tabulate sum
-  base-none = refl
+  base_none = refl
 
   pub base_more : (n : ℕ) → base t (n + 1) ≡ base t n + length_of t n
   unfolding base
@@ -29,9 +29,9 @@ module _ (t : Table) where
   base-suc n = rw (← add-one n) (base_more n)
 
   -- An earlier word's places come before.
-  pub base-before : (x n : ℕ) → x < n → base t x + length_of t x ≤ base t n
-  base-before x zero h = absurd (omega arith)
-  base-before x (suc n) h = by_last (base-before x n) (dec_lt x n)
+  pub base_before : (x n : ℕ) → x < n → base t x + length_of t x ≤ base t n
+  base_before x zero h = absurd (omega arith)
+  base_before x (suc n) h = by_last (base_before x n) (dec_lt x n)
     where
       by_last : (x < n → base t x + length_of t x ≤ base t n) → Dec (x < n) → base t x + length_of t x ≤ base t (suc n)
       by_last before (yes l) = omega (arith, before l, base-suc n)
@@ -41,7 +41,7 @@ module _ (t : Table) where
 
   -- Each number below the end of n words is a place of one of them.
   pub locate : (n p : ℕ) → p < base t n → Located t n p
-  locate zero p h = absurd (omega (arith, base-none))
+  locate zero p h = absurd (omega (arith, base_none))
   locate (suc n) p h = by_last (locate n p) (dec_lt p (base t n))
     where
       by_last : (p < base t n → Located t n p) → Dec (p < base t n) → Located t (suc n) p

@@ -17,13 +17,13 @@ module _ (s : ℕ) where
   high_of v = v % s
 
   module _ (low high : ℕ) (h : high < s) where
-    pub low-cell : low_of (cell_of low high) ≡ low
+    pub low_cell : low_of (cell_of low high) ≡ low
     unfolding cell_of low_of
-    low-cell = ap (λ (v : ℕ). v / s) (add_comm (low * s) high) ∙ add-mul-div_right high low (omega arith) ∙ rw (div-eq_of_lt h) (omega arith)
+    low_cell = ap (λ (v : ℕ). v / s) (add_comm (low * s) high) ∙ add-mul-div_right high low (omega arith) ∙ rw (div-eq_of_lt h) (omega arith)
 
-    pub high-cell : high_of (cell_of low high) ≡ high
+    pub high_cell : high_of (cell_of low high) ≡ high
     unfolding cell_of high_of
-    high-cell = ap (λ (v : ℕ). v % s) (add_comm (low * s) high) ∙ add-mul-mod_self_right high low s ∙ mod-eq_of_lt h
+    high_cell = ap (λ (v : ℕ). v % s) (add_comm (low * s) high) ∙ add-mul-mod_self_right high low s ∙ mod-eq_of_lt h
 
     pub cell_below : low < s → cell_of low high < s * s
     unfolding cell_of
@@ -31,19 +31,19 @@ module _ (s : ℕ) where
         let whole : (low + 1) * s ≤ s * s = mul-le-mul (omega arith) (le_refl s) in
         omega (arith, add-mul low 1 s, one-mul s)
 
-  pub cell-back : (v : ℕ) → cell_of (low_of v) (high_of v) ≡ v
+  pub cell_back : (v : ℕ) → cell_of (low_of v) (high_of v) ≡ v
   unfolding cell_of low_of high_of
-  cell-back v = div-add-mod' v s
+  cell_back v = div-add-mod' v s
 
   pub low_below : (v : ℕ) → 0 < s → v < s * s → low_of v < s
   unfolding low_of
   low_below v some l = (div-lt_iff_lt-mul {x = v} {y = s} some).1 l
 
-  pub high-below : (v : ℕ) → 0 < s → high_of v < s
+  pub high_below : (v : ℕ) → 0 < s → high_of v < s
   unfolding high_of
-  high-below v some = mod-lt v some
+  high_below v some = mod-lt v some
 
   -- With the number after the last as its lower place, a pair is past every cell.
-  pub cell-past : (low high : ℕ) → s ≤ low → s * s ≤ cell_of low high
+  pub cell_past : (low high : ℕ) → s ≤ low → s * s ≤ cell_of low high
   unfolding cell_of
-  cell-past low high l = let whole : s * s ≤ low * s = mul-le-mul l (le_refl s) in omega arith
+  cell_past low high l = let whole : s * s ≤ low * s = mul-le-mul l (le_refl s) in omega arith

@@ -7,7 +7,7 @@ use Rattle.code.specs.declared.Word.{Word}
 use Rattle.code.specs.declared.Row.{Row}
 use Rattle.code.specs.Definitions.Sheets.{limits}
 use Rattle.code.specs.Definitions.Tables.{Table, size, word}
-use Rattle.pair_places.specs.Bases.{base_more, base-before}
+use Rattle.pair_places.specs.Bases.{base_more, base_before}
 use Rattle.pair_places.specs.Flat.{symbol_at, owner_at, first_at, word_count, begins_at}
 use Rattle.pair_places.specs.Lays.{length_of, base, LaysWord}
 use Rattle.pair_places.specs.Offsets.{owners_from, ends_from, firsts_from, follow_from, word_count_at, place_count_at, begins_from, list_length}
@@ -37,8 +37,8 @@ pub record Holds (t : Table) (x : ℕ) (w : Word) (r : Row) : Type 0 where
 
 module _ (t : Table) (most : size t ≤ limits.words) {f g : List ℕ} (same : (i : ℕ) → i < word_count_at → get_or g i 0 ≡ get_or f i 0) where
   -- A word stays where the entries before the counts stay.
-  pub word-stays : (x at : ℕ) → x < limits.words → at + length_of t x ≤ limits.total → LaysWord t f x at → LaysWord t g x at
-  word-stays x at h room a = record {
+  pub word_stays : (x at : ℕ) → x < limits.words → at + length_of t x ≤ limits.total → LaysWord t f x at → LaysWord t g x at
+  word_stays x at h room a = record {
     symbols = λ k l. same (at + k) (omega arith) ∙ a.symbols k l;
     owners = λ k l. same (owners_from + (at + k)) (omega arith) ∙ a.owners k l;
     ends = λ k l. ap (λ (v : ℕ). eqb v 1) (same (ends_from + (at + k)) (omega arith)) ∙ a.ends k l;
@@ -51,7 +51,7 @@ pub counted : (t : Table) (n v : ℕ) {f : List ℕ} → n ≤ limits.words → 
 counted t n v {f} few most room old = record {
   long = length-set f place_count_at v ∙ old.long;
   count = other word_count_at (omega arith) ∙ old.count;
-  words = λ x h. word-stays t most (λ i l. other i (omega arith)) x (base t x) (omega arith) (omega (arith, base-before t x n h)) (old.words x h);
+  words = λ x h. word_stays t most (λ i l. other i (omega arith)) x (base t x) (omega arith) (omega (arith, base_before t x n h)) (old.words x h);
   clear = λ p l h. let c = old.clear p l h in record {
     symbol = other p (omega arith) ∙ c.symbol;
     owner = other (owners_from + p) (omega arith) ∙ c.owner;
@@ -77,8 +77,8 @@ module _ (t : Table) where
     mark : (x : ℕ) → x < limits.words → get_or (set g word_count_at count) (begins_from + x) 0 ≡ get_or bs x 0
     mark x l = get_or-set_other g word_count_at (begins_from + x) count 0 (omega arith) ∙ marks.within x l
 
-    pub lays-none : LaysTo t 0 (set g word_count_at count)
-    lays-none = record {
+    pub lays_none : LaysTo t 0 (set g word_count_at count)
+    lays_none = record {
       long = length-set g word_count_at count ∙ long;
       count = get_or-set_same g word_count_at count 0 (omega (arith, long)) ∙ known;
       words = λ x l. absurd (omega arith);
@@ -92,7 +92,7 @@ module _ (t : Table) where
     -- an earlier word stays
     kept : (x : ℕ) → x < n → LaysWord t f x (base t x) → LaysWord t g x (base t x)
     kept x h a =
-        let before = base-before t x n h in
+        let before = base_before t x n h in
         let len = holds.len in
         record {
           symbols = λ k l. laid.others (base t x + k) (omega arith) ∙ a.symbols k l;

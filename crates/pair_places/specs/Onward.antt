@@ -13,15 +13,15 @@ module _ (f : List ℕ) (p j : ℕ) where
   pub banned : end_at f p ≡ true → may_follow f j (owner_at f p) ≡ false → j < word_count f → onward f p j ≡ place_count f
   banned e m l = simp (e, lt-ltb _ _ l, m)
 
-  pub no-word : end_at f p ≡ true → word_count f ≤ j → onward f p j ≡ place_count f
-  no-word e l = simp (e, le-ltb _ _ l)
+  pub no_word_lem : end_at f p ≡ true → word_count f ≤ j → onward f p j ≡ place_count f
+  no_word_lem e l = simp (e, le-ltb _ _ l)
 
 -- Where a slot leads from a pair.
 module _ (f : List ℕ) (p q j : ℕ) where
-  pub arc-within : j < slots_of f p q → arc_from f p q j ≡ pair_node f (onward f p j) (onward f q j)
+  pub arc_within : j < slots_of f p q → arc_from f p q j ≡ pair_node f (onward f p j) (onward f q j)
   unfolding arc_from
-  arc-within l = simp (lt-ltb _ _ l)
+  arc_within l = simp (lt-ltb _ _ l)
 
-  pub arc-past : slots_of f p q ≤ j → arc_from f p q j ≡ cell_count f
+  pub arc_past : slots_of f p q ≤ j → arc_from f p q j ≡ cell_count f
   unfolding arc_from
-  arc-past l = simp (le-ltb _ _ l)
+  arc_past l = simp (le-ltb _ _ l)

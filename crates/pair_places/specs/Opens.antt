@@ -13,10 +13,10 @@ use borrow.Author.Tests.{ltb-true, eqb-true, lt-ltb, le-ltb, eq-eqb, ne_eqb}
 use Rattle.code.specs.Definitions.Sheets.{limits}
 use Rattle.code.specs.Laws.Below.{or_cases}
 use Rattle.graph.specs.Graph.{Graph, Edge}
-use Rattle.pair_places.specs.Cells.{high-below}
+use Rattle.pair_places.specs.Cells.{high_below}
 use Rattle.pair_places.specs.Flat.{symbol_at, owner_at, end_at, first_at, may_follow, begins_at, at_start, may_come, opens_at, word_count, place_count, cell_count, cell, lower, higher, Laid, is_first, onward, slots_of, arc_from}
-use Rattle.pair_places.specs.Nodes.{NodeOf, Leads, node_of, of_node, node-below, parts, slots-few, lower-below, in_cell}
-use Rattle.pair_places.specs.Onward.{arc-within, arc-past}
+use Rattle.pair_places.specs.Nodes.{NodeOf, Leads, node_of, of_node, node_below, parts, slots_few, lower_below, in_cell}
+use Rattle.pair_places.specs.Onward.{arc_within, arc_past}
 use Rattle.pair_places.specs.Roots.{Numbered}
 use Rattle.pair_places.specs.Steps.{start_node}
 
@@ -67,26 +67,26 @@ module _ (f : List ℕ) where
   }
 
 -- What `may_come` returns.
-pub come-start : (f : List ℕ) (x y : ℕ) {b : Bool} → b ≡ begins_at f x → y ≡ at_start → b ≡ may_come f x y
-come-start f x y e z = rw z e
+pub come_start : (f : List ℕ) (x y : ℕ) {b : Bool} → b ≡ begins_at f x → y ≡ at_start → b ≡ may_come f x y
+come_start f x y e z = rw z e
 
-pub come-word : (f : List ℕ) (x y : ℕ) {b : Bool} → b ≡ may_follow f x y → (y ≡ at_start → ⊥) → b ≡ may_come f x y
-come-word f x y e z = rw (ne_eqb y at_start z) e
+pub come_word : (f : List ℕ) (x y : ℕ) {b : Bool} → b ≡ may_follow f x y → (y ≡ at_start → ⊥) → b ≡ may_come f x y
+come_word f x y e z = rw (ne_eqb y at_start z) e
 
 module _ (f : List ℕ) (x z : ℕ) where
   -- Words in order are in order.
-  pub in-order-le : in_order f x z ≡ true → x ≤ z
+  pub in_order_le : in_order f x z ≡ true → x ≤ z
   unfolding in_order
-  in-order-le e = by (or_cases (ltb x z) (eqb x z && opens_at f) e)
+  in_order_le e = by (or_cases (ltb x z) (eqb x z && opens_at f) e)
     where
       by : (ltb x z ≡ true) ⊎ ((eqb x z && opens_at f) ≡ true) → x ≤ z
       by (inl h) = omega (arith, ltb-true x z h)
       by (inr h) = omega (arith, eqb-true x z ((and-eq-true_iff (eqb x z) (opens_at f)).0 h).0)
 
   -- Nothing before x is in order behind it, and x itself only where openings matter.
-  pub in-order-least : in_order f x z ≡ true → (if opens_at f then x else x + 1) ≤ z
+  pub in_order_least : in_order f x z ≡ true → (if opens_at f then x else x + 1) ≤ z
   unfolding in_order
-  in-order-least e = by (opens_at f) (or_cases (ltb x z) (eqb x z && opens_at f) e)
+  in_order_least e = by (opens_at f) (or_cases (ltb x z) (eqb x z && opens_at f) e)
     where
       by : (o : Bool) → (ltb x z ≡ true) ⊎ ((eqb x z && o) ≡ true) → (if o then x else x + 1) ≤ z
       by true (inl h) = omega (arith, ltb-true x z h)
@@ -95,9 +95,9 @@ module _ (f : List ℕ) (x z : ℕ) where
       by false (inr h) = absurd (false≢true ((and-eq-true_iff (eqb x z) false).0 h).1)
 
   -- Words in one order or the other, where the same word is left only for openings.
-  pub in_order-law : x ≤ z → (x ≡ z → opens_at f ≡ true) → in_order f x z ≡ true
+  pub in_order_lem : x ≤ z → (x ≡ z → opens_at f ≡ true) → in_order f x z ≡ true
   unfolding in_order
-  in_order-law h o = by (ℕ_discrete x z)
+  in_order_lem h o = by (ℕ_discrete x z)
     where
       by : Dec (x ≡ z) → (ltb x z || (eqb x z && opens_at f)) ≡ true
       by (yes e) = rw (le-ltb x z (omega arith), eq-eqb x z e) (o e)
@@ -121,9 +121,9 @@ pub record Behind (f : List ℕ) (z j : ℕ) : Type 0 where
   pub right : may_come f (right_word j) z ≡ true
 
 module _ (f : List ℕ) where
-  pub behind-tests : (z j : ℕ) → pair_behind f z j < cell_count f → Behind f z j
+  pub behind_tests : (z j : ℕ) → pair_behind f z j < cell_count f → Behind f z j
   unfolding pair_behind
-  behind-tests z j h = go (in_order f (left_word j) (right_word j) && (ltb (right_word j) (word_count f) && (may_come f (left_word j) z && may_come f (right_word j) z))) refl h
+  behind_tests z j h = go (in_order f (left_word j) (right_word j) && (ltb (right_word j) (word_count f) && (may_come f (left_word j) z && may_come f (right_word j) z))) refl h
     where
       go : (a : Bool) → (in_order f (left_word j) (right_word j) && (ltb (right_word j) (word_count f) && (may_come f (left_word j) z && may_come f (right_word j) z))) ≡ a
           → (if a then start_node f (left_word j) (right_word j) else cell_count f) < cell_count f → Behind f z j
@@ -134,22 +134,22 @@ module _ (f : List ℕ) where
           let c = (and-eq-true_iff (may_come f (left_word j) z) (may_come f (right_word j) z)).0 b.1 in
           record { order = a.0; known = ltb-true _ _ b.0; left = c.0; right = c.1 }
 
-  pub behind-both : (z j : ℕ) → Behind f z j → pair_behind f z j ≡ start_node f (left_word j) (right_word j)
+  pub behind_both : (z j : ℕ) → Behind f z j → pair_behind f z j ≡ start_node f (left_word j) (right_word j)
   unfolding pair_behind
-  behind-both z j b = rw (b.order, lt-ltb _ _ b.known, b.left, b.right)
+  behind_both z j b = rw (b.order, lt-ltb _ _ b.known, b.left, b.right)
 
-  pub behind-words : (z j : ℕ) → pair_behind f z j < cell_count f → start_node f (left_word j) (right_word j) ≡ pair_behind f z j
-  behind-words z j h = sym (behind-both z j (behind-tests z j h))
+  pub behind_words : (z j : ℕ) → pair_behind f z j < cell_count f → start_node f (left_word j) (right_word j) ≡ pair_behind f z j
+  behind_words z j h = sym (behind_both z j (behind_tests z j h))
 
-  pub behind-comes : (z j : ℕ) → pair_behind f z j < cell_count f → Comes f z (pair_behind f z j)
-  behind-comes z j h =
-      let b = behind-tests z j h in
-      record { x = left_word j; y = right_word j; order = b.order; known = b.known; left = b.left; right = b.right; node = behind-words z j h }
+  pub behind_comes : (z j : ℕ) → pair_behind f z j < cell_count f → Comes f z (pair_behind f z j)
+  behind_comes z j h =
+      let b = behind_tests z j h in
+      record { x = left_word j; y = right_word j; order = b.order; known = b.known; left = b.left; right = b.right; node = behind_words z j h }
 
-  pub comes-behind : Laid f → {z v : ℕ} → (c : Comes f z v) → pair_behind f z (c.x * limits.words + c.y) ≡ v
+  pub comes_behind : Laid f → {z v : ℕ} → (c : Comes f z v) → pair_behind f z (c.x * limits.words + c.y) ≡ v
   unfolding pair_behind
-  comes-behind l {z} {v} c =
-      let o = in-order-le f c.x c.y c.order in
+  comes_behind l {z} {v} c =
+      let o = in_order_le f c.x c.y c.order in
       let k = c.known in
       let w = l.words in
       let a : left_word (c.x * limits.words + c.y) ≡ c.x = omega arith in
@@ -157,29 +157,29 @@ module _ (f : List ℕ) where
       rw (a, b) (simp (c.order, lt-ltb _ _ k, c.left, c.right) c.node)
 
   -- Turning pairs.
-  pub turning-source : (v : ℕ) → cell_count f ≤ v → turning f v ≡ at_start
+  pub turning_source : (v : ℕ) → cell_count f ≤ v → turning f v ≡ at_start
   unfolding turning
-  turning-source v h = simp (le-ltb _ _ h)
+  turning_source v h = simp (le-ltb _ _ h)
 
-  pub turning-end : (v : ℕ) → v < cell_count f → lower f v ≡ higher f v → end_at f (lower f v) ≡ true → opens_at f ≡ true → turning f v ≡ owner_at f (lower f v)
+  pub turning_end : (v : ℕ) → v < cell_count f → lower f v ≡ higher f v → end_at f (lower f v) ≡ true → opens_at f ≡ true → turning f v ≡ owner_at f (lower f v)
   unfolding turning
-  turning-end v h e d o = simp (lt-ltb _ _ h, eq-eqb _ _ e, d, o)
+  turning_end v h e d o = simp (lt-ltb _ _ h, eq-eqb _ _ e, d, o)
 
-  pub turning-apart : (v : ℕ) → v < cell_count f → (lower f v ≡ higher f v → ⊥) → turning f v ≡ straight_on
+  pub turning_apart : (v : ℕ) → v < cell_count f → (lower f v ≡ higher f v → ⊥) → turning f v ≡ straight_on
   unfolding turning
-  turning-apart v h e = simp (lt-ltb _ _ h, ne_eqb _ _ e)
+  turning_apart v h e = simp (lt-ltb _ _ h, ne_eqb _ _ e)
 
-  turns-none : (v : ℕ) (a b : Bool) → b ≡ false → (if a && b then owner_at f (lower f v) else straight_on) ≡ straight_on
-  turns-none v true b e = rw e
-  turns-none v false b e = refl
+  turns_none : (v : ℕ) (a b : Bool) → b ≡ false → (if a && b then owner_at f (lower f v) else straight_on) ≡ straight_on
+  turns_none v true b e = rw e
+  turns_none v false b e = refl
 
-  pub turning-inside : (v : ℕ) → v < cell_count f → end_at f (lower f v) ≡ false → turning f v ≡ straight_on
+  pub turning_inside : (v : ℕ) → v < cell_count f → end_at f (lower f v) ≡ false → turning f v ≡ straight_on
   unfolding turning
-  turning-inside v h d = simp (lt-ltb _ _ h) (turns-none v (eqb (lower f v) (higher f v)) (end_at f (lower f v) && opens_at f) (rw d))
+  turning_inside v h d = simp (lt-ltb _ _ h) (turns_none v (eqb (lower f v) (higher f v)) (end_at f (lower f v) && opens_at f) (rw d))
 
-  pub turning-closed : (v : ℕ) → v < cell_count f → opens_at f ≡ false → turning f v ≡ straight_on
+  pub turning_closed : (v : ℕ) → v < cell_count f → opens_at f ≡ false → turning f v ≡ straight_on
   unfolding turning
-  turning-closed v h d = simp (lt-ltb _ _ h) (turns-none v (eqb (lower f v) (higher f v)) (end_at f (lower f v) && opens_at f) (rw d (closed (end_at f (lower f v)))))
+  turning_closed v h d = simp (lt-ltb _ _ h) (turns_none v (eqb (lower f v) (higher f v)) (end_at f (lower f v) && opens_at f) (rw d (closed (end_at f (lower f v)))))
     where
       closed : (a : Bool) → (a && false) ≡ false
       closed true = refl
@@ -189,38 +189,38 @@ module _ (f : List ℕ) where
   unfolding toward
   toward-turning v j h = simp (lt-ltb _ _ h)
 
-  pub toward-other : (v j : ℕ) → turning f v ≡ straight_on → toward f v j ≡ arc_from f (lower f v) (higher f v) j
+  pub toward_other : (v j : ℕ) → turning f v ≡ straight_on → toward f v j ≡ arc_from f (lower f v) (higher f v) j
   unfolding toward
-  toward-other v j e = rw e
+  toward_other v j e = rw e
 
   -- An edge from a pair that does not turn is a slot that leads both places.
-  pub arc-leads : (v j : ℕ) {w : ℕ} → arc_from f (lower f v) (higher f v) j ≡ w → w < cell_count f → Leads f v w
-  arc-leads v j {w} e h = by (dec_le (j + 1) (slots_of f (lower f v) (higher f v)))
+  pub arc_leads : (v j : ℕ) {w : ℕ} → arc_from f (lower f v) (higher f v) j ≡ w → w < cell_count f → Leads f v w
+  arc_leads v j {w} e h = by (dec_le (j + 1) (slots_of f (lower f v) (higher f v)))
     where
       by : Dec (j + 1 ≤ slots_of f (lower f v) (higher f v)) → Leads f v w
-      by (yes l) = record { slot = j; within = omega arith; pair = node_of (onward f (lower f v) j) (onward f (higher f v) j) (sym (arc-within f (lower f v) (higher f v) j (omega arith)) ∙ e) h }
-      by (no l) = absurd (omega (arith, e, arc-past f (lower f v) (higher f v) j (omega arith)))
+      by (yes l) = record { slot = j; within = omega arith; pair = node_of (onward f (lower f v) j) (onward f (higher f v) j) (sym (arc_within f (lower f v) (higher f v) j (omega arith)) ∙ e) h }
+      by (no l) = absurd (omega (arith, e, arc_past f (lower f v) (higher f v) j (omega arith)))
 
-  pub leads-open : Laid f → {v w : ℕ} → turning f v ≡ straight_on → Leads f v w → Edge (open_graph f) v w
-  leads-open l {v} z s = record {
+  pub leads_open : Laid f → {v w : ℕ} → turning f v ≡ straight_on → Leads f v w → Edge (open_graph f) v w
+  leads_open l {v} z s = record {
     slot = s.slot;
-    within = omega (arith, s.within, slots-few l (lower f v) (higher f v));
-    leads = toward-other v s.slot z ∙ arc-within f (lower f v) (higher f v) s.slot s.within ∙ of_node s.pair;
-    node = node-below s.pair;
+    within = omega (arith, s.within, slots_few l (lower f v) (higher f v));
+    leads = toward_other v s.slot z ∙ arc_within f (lower f v) (higher f v) s.slot s.within ∙ of_node s.pair;
+    node = node_below s.pair;
   }
 
-  pub comes-open : Laid f → {v w : ℕ} → turning f v < straight_on → w < cell_count f → Comes f (turning f v) w → Edge (open_graph f) v w
-  comes-open l {v} h k c = record {
+  pub comes_open : Laid f → {v w : ℕ} → turning f v < straight_on → w < cell_count f → Comes f (turning f v) w → Edge (open_graph f) v w
+  comes_open l {v} h k c = record {
     slot = c.x * limits.words + c.y;
-    within = omega (arith, in-order-le f c.x c.y c.order, c.known, l.words);
-    leads = toward-turning v (c.x * limits.words + c.y) h ∙ comes-behind l c;
+    within = omega (arith, in_order_le f c.x c.y c.order, c.known, l.words);
+    leads = toward-turning v (c.x * limits.words + c.y) h ∙ comes_behind l c;
     node = k;
   }
 
   -- The roots are the pairs behind the start.
-  pub root-comes : Laid f → Numbered f → {v : ℕ} → v < cell_count f → begin_pair f (lower f v) (higher f v) ≡ true → Comes f at_start v
+  pub root_comes : Laid f → Numbered f → {v : ℕ} → v < cell_count f → begin_pair f (lower f v) (higher f v) ≡ true → Comes f at_start v
   unfolding begin_pair
-  root-comes l n {v} h e =
+  root_comes l n {v} h e =
       let p = lower f v in
       let q = higher f v in
       let a = (and-eq-true_iff (is_first f p) (is_first f q && (in_order f (owner_at f p) (owner_at f q) && (begins_at f (owner_at f p) && (begins_at f (owner_at f q) && eqb (symbol_at f p) (symbol_at f q)))))).0 e in
@@ -230,9 +230,9 @@ module _ (f : List ℕ) where
       let g = (and-eq-true_iff (begins_at f (owner_at f q)) (eqb (symbol_at f p) (symbol_at f q))).0 d.1 in
       let i = eqb-true (first_at f (owner_at f p)) p a.0 in
       let j = eqb-true (first_at f (owner_at f q)) q b.0 in
-      let lp : p < place_count f = lower-below f l h in
-      let lq : q < place_count f = high-below (place_count f) v l.some in
-      let m : NodeOf f p q v = record { left = lp; right = lq; same = eqb-true _ _ g.1; node = by_order n p q lp lq i j (in-order-le f (owner_at f p) (owner_at f q) c.0) v refl refl } in
+      let lp : p < place_count f = lower_below f l h in
+      let lq : q < place_count f = high_below (place_count f) v l.some in
+      let m : NodeOf f p q v = record { left = lp; right = lq; same = eqb-true _ _ g.1; node = by_order n p q lp lq i j (in_order_le f (owner_at f p) (owner_at f q) c.0) v refl refl } in
       record { x = owner_at f p; y = owner_at f q; order = c.0; known = n.owned q lq; left = d.0; right = g.0; node = rw (i, j) (of_node m) }
     where
       by_order : Numbered f → (p q : ℕ) → p < place_count f → q < place_count f → first_at f (owner_at f p) ≡ p → first_at f (owner_at f q) ≡ q → owner_at f p ≤ owner_at f q
@@ -243,15 +243,15 @@ module _ (f : List ℕ) where
           go (yes e) = let z : p ≡ q = sym i ∙ ap (first_at f) e ∙ j in in_cell f v low high (omega arith)
           go (no e) = let z = n.rising (owner_at f p) (owner_at f q) (omega arith) (n.owned q k) in in_cell f v low high (omega arith)
 
-  begin-tests : (p q : ℕ) → first_at f (owner_at f p) ≡ p → first_at f (owner_at f q) ≡ q → in_order f (owner_at f p) (owner_at f q) ≡ true → begins_at f (owner_at f p) ≡ true
+  begin_tests : (p q : ℕ) → first_at f (owner_at f p) ≡ p → first_at f (owner_at f q) ≡ q → in_order f (owner_at f p) (owner_at f q) ≡ true → begins_at f (owner_at f p) ≡ true
       → begins_at f (owner_at f q) ≡ true → symbol_at f p ≡ symbol_at f q → begin_pair f p q ≡ true
   unfolding begin_pair
-  begin-tests p q i j o a b e = simp (eq-eqb _ _ i, eq-eqb _ _ j, o, a, b, eq-eqb _ _ e)
+  begin_tests p q i j o a b e = simp (eq-eqb _ _ i, eq-eqb _ _ j, o, a, b, eq-eqb _ _ e)
 
-  pub comes-root : Numbered f → {v : ℕ} → v < cell_count f → Comes f at_start v → begin_pair f (lower f v) (higher f v) ≡ true
-  comes-root n {v} h c =
+  pub comes_root : Numbered f → {v : ℕ} → v < cell_count f → Comes f at_start v → begin_pair f (lower f v) (higher f v) ≡ true
+  comes_root n {v} h c =
       let m : NodeOf f (first_at f c.x) (first_at f c.y) v = node_of (first_at f c.x) (first_at f c.y) c.node h in
-      let le = in-order-le f c.x c.y c.order in
+      let le = in_order_le f c.x c.y c.order in
       let a = n.own c.x (omega (arith, le, c.known)) in
       let b = n.own c.y c.known in
       let r : first_at f c.x ≤ first_at f c.y = rising (ℕ_discrete c.x c.y) in
@@ -259,8 +259,8 @@ module _ (f : List ℕ) where
       let high : higher f v ≡ first_at f c.y = (parts m r).1 in
       let o : in_order f (owner_at f (first_at f c.x)) (owner_at f (first_at f c.y)) ≡ true = rw (a, b) c.order in
       rw (low, high)
-      (begin-tests (first_at f c.x) (first_at f c.y) (ap (first_at f) a) (ap (first_at f) b) o (ap (begins_at f) a ∙ c.left) (ap (begins_at f) b ∙ c.right) m.same)
+      (begin_tests (first_at f c.x) (first_at f c.y) (ap (first_at f) a) (ap (first_at f) b) o (ap (begins_at f) a ∙ c.left) (ap (begins_at f) b ∙ c.right) m.same)
     where
       rising : Dec (c.x ≡ c.y) → first_at f c.x ≤ first_at f c.y
       rising (yes e) = rw e (omega arith)
-      rising (no e) = omega (arith, n.rising c.x c.y (omega (arith, in-order-le f c.x c.y c.order)) c.known)
+      rising (no e) = omega (arith, n.rising c.x c.y (omega (arith, in_order_le f c.x c.y c.order)) c.known)

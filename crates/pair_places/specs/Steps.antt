@@ -27,12 +27,12 @@ nowhere f some n e = rw n (record { node = omega (arith, e); low = omega arith; 
 
 module _ (f : List ℕ) (p q : ℕ) where
   -- Two places with the same symbol are a node.
-  pub pair-node : p < place_count f → q < place_count f → symbol_at f p ≡ symbol_at f q → pair_node f p q ≡ cell f (min p q) (max p q)
-  pair-node a b e = simp (lt-ltb _ _ a, lt-ltb _ _ b, eq-eqb _ _ e)
+  pub pair_node_lem : p < place_count f → q < place_count f → symbol_at f p ≡ symbol_at f q → pair_node f p q ≡ cell f (min p q) (max p q)
+  pair_node_lem a b e = simp (lt-ltb _ _ a, lt-ltb _ _ b, eq-eqb _ _ e)
 
   -- Anything else is no node.
-  pub no-pair : (p < place_count f → q < place_count f → symbol_at f p ≡ symbol_at f q → ⊥) → pair_node f p q ≡ cell_count f
-  no-pair differ = go (ltb p (place_count f)) refl (ltb q (place_count f)) refl (eqb (symbol_at f p) (symbol_at f q)) refl
+  pub no_pair_lem : (p < place_count f → q < place_count f → symbol_at f p ≡ symbol_at f q → ⊥) → pair_node f p q ≡ cell_count f
+  no_pair_lem differ = go (ltb p (place_count f)) refl (ltb q (place_count f)) refl (eqb (symbol_at f p) (symbol_at f q)) refl
     where
       go : (a : Bool) → ltb p (place_count f) ≡ a → (b : Bool) → ltb q (place_count f) ≡ b → (e : Bool) → eqb (symbol_at f p) (symbol_at f q) ≡ e
           → (if a && b && e then cell f (min p q) (max p q) else cell_count f) ≡ cell_count f
@@ -41,8 +41,8 @@ module _ (f : List ℕ) (p q : ℕ) where
       go true a false b z e = refl
       go false a y b z e = refl
 
-  pub in_order-law : p < place_count f → q < place_count f → symbol_at f p ≡ symbol_at f q → p ≤ q → Arrives f (pair_node f p q) (record { low = p; high = q })
-  in_order-law a b e l = record { node = let m : min p q ≡ p = omega arith in let n : max p q ≡ q = omega arith in sym (pair-node a b e ∙ ap₂ (cell f) m n); low = omega arith; high = b; order = λ _. l }
+  pub in_order_lem : p < place_count f → q < place_count f → symbol_at f p ≡ symbol_at f q → p ≤ q → Arrives f (pair_node f p q) (record { low = p; high = q })
+  in_order_lem a b e l = record { node = let m : min p q ≡ p = omega arith in let n : max p q ≡ q = omega arith in sym (pair_node_lem a b e ∙ ap₂ (cell f) m n); low = omega arith; high = b; order = λ _. l }
 
   pub turned : p < place_count f → q < place_count f → symbol_at f p ≡ symbol_at f q → q ≤ p → Arrives f (pair_node f p q) (record { low = q; high = p })
-  turned a b e l = record { node = let m : min p q ≡ q = omega arith in let n : max p q ≡ p = omega arith in sym (pair-node a b e ∙ ap₂ (cell f) m n); low = omega arith; high = a; order = λ _. l }
+  turned a b e l = record { node = let m : min p q ≡ q = omega arith in let n : max p q ≡ p = omega arith in sym (pair_node_lem a b e ∙ ap₂ (cell f) m n); low = omega arith; high = a; order = λ _. l }

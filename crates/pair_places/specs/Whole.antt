@@ -5,7 +5,7 @@ use Rattle.std.proofs.Math.Decide.{dec_lt}
 use Rattle.code.specs.Definitions.Sheets.{limits}
 use Rattle.code.specs.Definitions.Tables.{Table, size, word}
 use Rattle.code.specs.Laws.Sequences.{Plain}
-use Rattle.pair_places.specs.Bases.{base-before, locate}
+use Rattle.pair_places.specs.Bases.{base_before, locate}
 use Rattle.pair_places.specs.Flat.{symbol_at, owner_at, first_at, place_count, at_start, may_come, Laid}
 use Rattle.pair_places.specs.Lays.{base, Lays}
 use Rattle.pair_places.specs.Layouts.{LaysTo}
@@ -28,11 +28,11 @@ pub record LaidOut (t : Table) (f : List ℕ) : Type 0 where
 
 -- What may come behind the start and behind a word, by the list and by the table.
 module _ {t : Table} {f : List ℕ} (l : LaidOut t f) where
-  pub begins-same : (x : ℕ) → x < size t → may_come f x at_start ≡ t.begins x
-  begins-same x h = l.lays.begins x h
+  pub begins_same : (x : ℕ) → x < size t → may_come f x at_start ≡ t.begins x
+  begins_same x h = l.lays.begins x h
 
-  pub follow-same : (x y : ℕ) → x < size t → y < size t → may_come f x y ≡ t.follow x y
-  follow-same x y h k = rw (ne_eqb y at_start (omega (arith, l.fits.most))) ((l.lays.words x h).follow y k)
+  pub follow_same : (x y : ℕ) → x < size t → y < size t → may_come f x y ≡ t.follow x y
+  follow_same x y h k = rw (ne_eqb y at_start (omega (arith, l.fits.most))) ((l.lays.words x h).follow y k)
 
 module _ {t : Table} (fits : Fits t) {f : List ℕ} (done : LaysTo t (size t) f) (placed : place_count f ≡ base t (size t)) where
   -- Each number below that of the places is a place of a word.
@@ -45,11 +45,11 @@ module _ {t : Table} (fits : Fits t) {f : List ℕ} (done : LaysTo t (size t) f)
       (omega (arith, own, at.known), omega (arith, read, fits.low at.w at.k at.known))
 
   some : 0 < place_count f
-  some = omega (arith, base-before t 0 (size t) fits.one, fits.plain.some 0 fits.one)
+  some = omega (arith, base_before t 0 (size t) fits.one, fits.plain.some 0 fits.one)
 
-  by-known : (x : ℕ) → x < limits.words → Dec (x < size t) → first_at f x < place_count f
-  by-known x h (yes l) = omega (arith, (done.words x l).first, base-before t x (size t) l, fits.plain.some x l)
-  by-known x h (no l) = omega (arith, done.firsts x (omega arith) h, some)
+  by_known : (x : ℕ) → x < limits.words → Dec (x < size t) → first_at f x < place_count f
+  by_known x h (yes l) = omega (arith, (done.words x l).first, base_before t x (size t) l, fits.plain.some x l)
+  by_known x h (no l) = omega (arith, done.firsts x (omega arith) h, some)
 
   own_first : (x : ℕ) → x < size t → owner_at f (first_at f x) ≡ x
   own_first x h =
@@ -60,7 +60,7 @@ module _ {t : Table} (fits : Fits t) {f : List ℕ} (done : LaysTo t (size t) f)
   rising : (x y : ℕ) → x < y → y < size t → first_at f x < first_at f y
   rising x y h l =
       omega
-      (arith, (done.words x (omega arith)).first, (done.words y l).first, base-before t x y h, fits.plain.some x (omega arith))
+      (arith, (done.words x (omega arith)).first, (done.words y l).first, base_before t x y h, fits.plain.some x (omega arith))
 
   -- With every word laid out, and the places counted, the list is the table's flat list.
   pub laid_out : LaidOut t f
@@ -74,7 +74,7 @@ module _ {t : Table} (fits : Fits t) {f : List ℕ} (done : LaysTo t (size t) f)
           some = some;
           places = omega (arith, fits.total);
           owners = λ p h. omega (arith, (at_place p h).0, fits.most);
-          firsts = λ x h. by-known x h (dec_lt x (size t));
+          firsts = λ x h. by_known x h (dec_lt x (size t));
         };
         numbered = record {
           symbols = λ p h. (at_place p h).1;

@@ -72,8 +72,8 @@ module _ (at x : ℕ) (w : Word) (r : Row) {f f₁ f₂ f₃ f₄ g : List ℕ} 
       rw e (row.within y l)
 
   -- Together they lay out the word.
-  pub word-laid : WordLaid at x w r f g
-  word-laid = record {
+  pub word_laid : WordLaid at x w r f g
+  word_laid = record {
     long = row.long ∙ first.long ∙ end.long ∙ owners.long ∙ symbols.long;
     symbols = λ k l. kept₁ (at + k) (omega (arith, room.places)) ∙ symbols.within k l;
     owners = own;

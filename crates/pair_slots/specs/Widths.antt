@@ -20,13 +20,13 @@ module _ (f : List ℕ) where
   unfolding turning
   width v t = if ltb (turning f v) straight_on then word_count f * limits.words else if leads_on (lower f v) (higher f v) t then slots_of f (lower f v) (higher f v) else 0
 
-  pub width-on : (v t : ℕ) → turning f v ≡ straight_on → leads_on (lower f v) (higher f v) t ≡ true → width v t ≡ slots_of f (lower f v) (higher f v)
+  pub width_on : (v t : ℕ) → turning f v ≡ straight_on → leads_on (lower f v) (higher f v) t ≡ true → width v t ≡ slots_of f (lower f v) (higher f v)
   unfolding width
-  width-on v t z e = rw z (rw e)
+  width_on v t z e = rw z (rw e)
 
-  pub width-off : (v t : ℕ) → turning f v ≡ straight_on → leads_on (lower f v) (higher f v) t ≡ false → width v t ≡ 0
+  pub width_off : (v t : ℕ) → turning f v ≡ straight_on → leads_on (lower f v) (higher f v) t ≡ false → width v t ≡ 0
   unfolding width
-  width-off v t z e = rw z (rw e)
+  width_off v t z e = rw z (rw e)
 
   pub width-turning : (v t : ℕ) → turning f v < straight_on → width v t ≡ word_count f * limits.words
   unfolding width

@@ -29,14 +29,14 @@ abbrev pub above_room : ℕ
 above_room = 2 ^ (64 - mark_bits - (place_bits + place_bits))
 
 -- 02, request 11: 384 places and 73,920 pairs have room; in a mark a height has it, which is at most the number of cells, above 96 slots.
-places-room : 384 < place_room
-places-room = omega arith
+places_room : 384 < place_room
+places_room = omega arith
 
-pairs-room : 384 * (384 + 1) / 2 + 1 < above_room
-pairs-room = omega arith
+pairs_room : 384 * (384 + 1) / 2 + 1 < above_room
+pairs_room = omega arith
 
-marks-room : 384 * 384 + 96 + 2 < mark_room
-marks-room = omega arith
+marks_room : 384 * 384 + 96 + 2 < mark_room
+marks_room = omega arith
 
 -- A link: an entry of a queue or a stack.
 abbrev pub link_of : ℕ → ℕ → ℕ → ℕ
@@ -53,17 +53,17 @@ above_in k = k / pair_room
 
 -- Each field is what was stored in it.
 module _ (above low high : ℕ) (l : low < place_room) (h : high < place_room) where
-  pub above-link : above_in (link_of above low high) ≡ above
+  pub above_link : above_in (link_of above low high) ≡ above
   unfolding above_in
-  above-link = omega arith
+  above_link = omega arith
 
-  pub low-link : low_in (link_of above low high) ≡ low
+  pub low_link : low_in (link_of above low high) ≡ low
   unfolding low_in
-  low-link = omega arith
+  low_link = omega arith
 
-  pub high-link : high_in (link_of above low high) ≡ high
+  pub high_link : high_in (link_of above low high) ≡ high
   unfolding high_in
-  high-link = omega arith
+  high_link = omega arith
 
 pub low_fits : (k : ℕ) → low_in k < place_room
 unfolding low_in
@@ -80,17 +80,17 @@ unfoldable pub link_in : ℕ → ℕ
 link_in e = e / mark_room
 
 module _ (mark link : ℕ) (l : mark < mark_room) where
-  pub mark-both : mark_in (both_of mark link) ≡ mark
+  pub mark_both : mark_in (both_of mark link) ≡ mark
   unfolding mark_in
-  mark-both = omega arith
+  mark_both = omega arith
 
-  pub link-both : link_in (both_of mark link) ≡ link
+  pub link_both : link_in (both_of mark link) ≡ link
   unfolding link_in
-  link-both = omega arith
+  link_both = omega arith
 
-pub mark-fits : (e : ℕ) → mark_in e < mark_room
+pub mark_fits : (e : ℕ) → mark_in e < mark_room
 unfolding mark_in
-mark-fits e = omega arith
+mark_fits e = omega arith
 
 -- The pair r has the two places that the link in e carries.
 pub record Carries (e : ℕ) (r : Pair) : Type 0 where

@@ -19,29 +19,29 @@ map-set g [] i k = refl
 map-set g (x ∷ l) zero k = refl
 map-set g (x ∷ l) (suc i) k = ap (λ (m : List ℕ). g x ∷ m) (map-set g l i k)
 
-map-zeros : (g : ℕ → ℕ) → g 0 ≡ 0 → (n : ℕ) → map g (replicate n 0) ≡ replicate n 0
-map-zeros g z zero = refl
-map-zeros g z (suc n) = rw (z, map-zeros g z n)
+map_zeros : (g : ℕ → ℕ) → g 0 ≡ 0 → (n : ℕ) → map g (replicate n 0) ≡ replicate n 0
+map_zeros g z zero = refl
+map_zeros g z (suc n) = rw (z, map_zeros g z n)
 
 module _ (f w : List ℕ) where
   -- There is a mark for each cell only in a list that is long enough.
-  pub marks-within : length (marks f w) ≡ cell_count f → cell_count f ≤ length w
+  pub marks_within : length (marks f w) ≡ cell_count f → cell_count f ≤ length w
   unfolding marks
-  marks-within h = omega (arith, h, length-map (take (cell_count f) w) mark_in, length-take (cell_count f) w)
+  marks_within h = omega (arith, h, length-map (take (cell_count f) w) mark_in, length-take (cell_count f) w)
 
-  pub mark-at : (v : ℕ) → v < cell_count f → get_or (marks f w) v 0 ≡ mark_in (get_or w v 0)
+  pub mark_at_lem : (v : ℕ) → v < cell_count f → get_or (marks f w) v 0 ≡ mark_in (get_or w v 0)
   unfolding marks mark_in
-  mark-at v h = get_or-map mark_in (take (cell_count f) w) v 0 ∙ ap mark_in (get_or-take (cell_count f) w v 0 h)
+  mark_at_lem v h = get_or-map mark_in (take (cell_count f) w) v 0 ∙ ap mark_in (get_or-take (cell_count f) w v 0 h)
 
   -- A mark that is stored is seen in its cell.
-  pub marks-set : (v k : ℕ) → v < cell_count f → marks f (set w v k) ≡ set (marks f w) v (mark_in k)
+  pub marks_set : (v k : ℕ) → v < cell_count f → marks f (set w v k) ≡ set (marks f w) v (mark_in k)
   unfolding marks
-  marks-set v k h = ap (map mark_in) (take-set-lt (cell_count f) w v k h) ∙ map-set mark_in (take (cell_count f) w) v k
+  marks_set v k h = ap (map mark_in) (take-set-lt (cell_count f) w v k h) ∙ map-set mark_in (take (cell_count f) w) v k
 
   -- A link that is stored beside a mark is not seen.
-  pub marks-same : (i k : ℕ) → mark_in k ≡ mark_in (get_or w i 0) → marks f (set w i k) ≡ marks f w
+  pub marks_same : (i k : ℕ) → mark_in k ≡ mark_in (get_or w i 0) → marks f (set w i k) ≡ marks f w
   unfolding marks
-  marks-same i k e = go (dec_lt i (cell_count f))
+  marks_same i k e = go (dec_lt i (cell_count f))
     where
       go : Dec (i < cell_count f) → map mark_in (take (cell_count f) (set w i k)) ≡ map mark_in (take (cell_count f) w)
       go (yes h) =
@@ -50,6 +50,6 @@ module _ (f w : List ℕ) where
       go (no h) = ap (map mark_in) (take-set-le (cell_count f) w i k (omega arith))
 
   -- Where the first numbers of a list are 0, one for each cell, no pair is marked.
-  pub marks-clear : take (cell_count f) w ≡ replicate (cell_count f) 0 → marks f w ≡ replicate (cell_count f) 0
+  pub marks_clear : take (cell_count f) w ≡ replicate (cell_count f) 0 → marks f w ≡ replicate (cell_count f) 0
   unfolding marks mark_in
-  marks-clear e = ap (map mark_in) e ∙ map-zeros mark_in refl (cell_count f)
+  marks_clear e = ap (map mark_in) e ∙ map_zeros mark_in refl (cell_count f)

@@ -5,22 +5,22 @@ use Rattle.std.proofs.Math.Decide.{dec_le}
 use Rattle.std.proofs.Common.{mul-le-mul, arith}
 use Rattle.code.specs.Definitions.Sheets.{limits}
 use Rattle.pair_places.specs.Flat.{Laid, place_count, cell_count, pair_count}
-use Rattle.pair_places.specs.Nodes.{cells-most}
+use Rattle.pair_places.specs.Nodes.{cells_most}
 
 -- 5 for the source, the three pairs of two places, and one to spare
 unfoldable pub room_of : List ℕ → ℕ
 room_of f = max (cell_count f) 5
 
-pub room-cells : (f : List ℕ) → cell_count f ≤ room_of f
+pub room_cells : (f : List ℕ) → cell_count f ≤ room_of f
 unfolding room_of
-room-cells f = omega arith
+room_cells f = omega arith
 
 pub room_most : {f : List ℕ} → Laid f → room_of f ≤ limits.total * limits.total
 unfolding room_of
-room_most laid = let h = cells-most laid in omega arith
+room_most laid = let h = cells_most laid in omega arith
 
-pairs-fit : (s : ℕ) → s * (s + 1) / 2 + 2 ≤ max (s * s) 5
-pairs-fit s = go s (dec_le 3 s)
+pairs_fit : (s : ℕ) → s * (s + 1) / 2 + 2 ≤ max (s * s) 5
+pairs_fit s = go s (dec_le 3 s)
   where
     go : (n : ℕ) → Dec (3 ≤ n) → n * (n + 1) / 2 + 2 ≤ max (n * n) 5
     go n (yes h) = let m : 3 * n ≤ n * n = mul-le-mul h (omega arith) in let e : n * (n + 1) ≡ n * n + n = omega arith in omega arith
@@ -29,6 +29,6 @@ pairs-fit s = go s (dec_le 3 s)
     go (suc (suc zero)) (no h) = omega arith
     go (suc (suc (suc n))) (no h) = absurd (omega arith)
 
-pub room-pairs : (f : List ℕ) → pair_count f + 2 ≤ room_of f
+pub room_pairs : (f : List ℕ) → pair_count f + 2 ≤ room_of f
 unfolding room_of cell_count pair_count
-room-pairs f = pairs-fit (place_count f)
+room_pairs f = pairs_fit (place_count f)

@@ -3,11 +3,11 @@ use Rattle.std.specs.Prelude.{◌≡◌, List, ℕ, ◌≤◌, ◌<◌, length, 
 use Rattle.std.proofs.Common.{sym, ap, ◌∙◌, arith, get_or-set_other}
 use Rattle.pair_places.specs.declared.Pair.{Pair}
 use Rattle.pair_places.specs.Flat.{Laid, place_count, cell_count}
-use Rattle.pair_places.specs.Nodes.{cell-inside}
+use Rattle.pair_places.specs.Nodes.{cell_inside}
 use Rattle.pair_places.specs.Steps.{pair_cell}
-use Rattle.pair_storage.specs.Entries.{entry_of, entries_in, entries-in-set, entries-in-same}
-use Rattle.pair_storage.specs.Fields.{mark_room, link_of, both_of, link_in, mark_in, mark-both, link-both, mark-fits}
-use Rattle.pair_storage.specs.Marks.{marks, marks-within, mark-at, marks-set, marks-same}
+use Rattle.pair_storage.specs.Entries.{entry_of, entries_in, entries_in_set, entries_in_same}
+use Rattle.pair_storage.specs.Fields.{mark_room, link_of, both_of, link_in, mark_in, mark_both, link_both, mark_fits}
+use Rattle.pair_storage.specs.Marks.{marks, marks_within, mark_at_lem, marks_set, marks_same}
 
 -- The two places of p have a mark.
 pub record Marked (f ms : List ℕ) (p : Pair) : Type 0 where
@@ -21,12 +21,12 @@ mark_of f ms p = get_or ms (pair_cell f p) 0
 
 module _ {f : List ℕ} (w : List ℕ) (p : Pair) (h : Marked f (marks f w) p) where
   -- The cell of such a pair stands in the list,
-  pub cell-within : {v : ℕ} → v < cell_count f → v < length w
-  cell-within l = omega (arith, marks-within f w h.size)
+  pub cell_within : {v : ℕ} → v < cell_count f → v < length w
+  cell_within l = omega (arith, marks_within f w h.size)
 
   -- and has its mark.
-  pub mark-read : {v m : ℕ} → v ≡ pair_cell f p → m ≡ mark_in (get_or w v 0) → m ≡ mark_of f (marks f w) p
-  mark-read a b = b ∙ ap (λ (i : ℕ). mark_in (get_or w i 0)) a ∙ sym (mark-at f w (pair_cell f p) (cell-inside f p.low p.high h.high h.low))
+  pub mark_read : {v m : ℕ} → v ≡ pair_cell f p → m ≡ mark_in (get_or w v 0) → m ≡ mark_of f (marks f w) p
+  mark_read a b = b ∙ ap (λ (i : ℕ). mark_in (get_or w i 0)) a ∙ sym (mark_at_lem f w (pair_cell f p) (cell_inside f p.low p.high h.high h.low))
 
 -- The list w with the mark m in cell v, and with a link in entry i.
 abbrev pub with_mark : List ℕ → ℕ → ℕ → List ℕ
@@ -37,11 +37,11 @@ with_link w i above p = set w i (both_of (mark_in (get_or w i 0)) (link_of above
 
 -- What is stored, from its two parts.
 module _ (w : List ℕ) (i : ℕ) {k e : ℕ} where
-  pub mark-written : (n v : ℕ) → i ≡ v → e ≡ both_of n k → k ≡ link_in (get_or w i 0) → set w i e ≡ with_mark w v n
-  mark-written n v a b c = rw (b, c, a)
+  pub mark_written : (n v : ℕ) → i ≡ v → e ≡ both_of n k → k ≡ link_in (get_or w i 0) → set w i e ≡ with_mark w v n
+  mark_written n v a b c = rw (b, c, a)
 
-  pub link-written : {m : ℕ} (above : ℕ) (p : Pair) → e ≡ both_of m k → m ≡ mark_in (get_or w i 0) → k ≡ link_of above p.low p.high → set w i e ≡ with_link w i above p
-  link-written above p a b c = rw (a, b, c)
+  pub link_written : {m : ℕ} (above : ℕ) (p : Pair) → e ≡ both_of m k → m ≡ mark_in (get_or w i 0) → k ≡ link_of above p.low p.high → set w i e ≡ with_link w i above p
+  link_written above p a b c = rw (a, b, c)
 
 -- The mark of p is m. No other mark changes, and no entry.
 pub record MarkStored (f w : List ℕ) (p : Pair) (m : ℕ) (w' : List ℕ) : Type 0 where
@@ -59,24 +59,24 @@ pub record Stored (f w : List ℕ) (i above : ℕ) (p : Pair) (m : ℕ) (w' : Li
   pub entries : entries_in f w' ≡ set (entries_in f w) i (entry_of above (pair_cell f p))
 
 module _ {f w w' : List ℕ} (p : Pair) where
-  pub mark-stored : {m : ℕ} → Marked f (marks f w) p → m < mark_room → w' ≡ with_mark w (pair_cell f p) m → MarkStored f w p m w'
-  mark-stored {m} h l e =
+  pub mark_stored : {m : ℕ} → Marked f (marks f w) p → m < mark_room → w' ≡ with_mark w (pair_cell f p) m → MarkStored f w p m w'
+  mark_stored {m} h l e =
       let v : ℕ = pair_cell f p in
       let k : ℕ = link_in (get_or w v 0) in
       rw e
       record {
-        marks = marks-set f w v (both_of m k) (cell-inside f p.low p.high h.high h.low) ∙ ap (set (marks f w) v) (mark-both m k l);
-        entries = entries-in-same f w h.laid v (both_of m k) (link-both m k l);
+        marks = marks_set f w v (both_of m k) (cell_inside f p.low p.high h.high h.low) ∙ ap (set (marks f w) v) (mark_both m k l);
+        entries = entries_in_same f w h.laid v (both_of m k) (link_both m k l);
       }
 
-  pub entry-stored : {i above : ℕ} → Laid f → p.low ≤ place_count f → p.high < place_count f → w' ≡ with_link w i above p → EntryStored f w i above p w'
-  entry-stored {i} {above} laid l h e =
+  pub entry_stored : {i above : ℕ} → Laid f → p.low ≤ place_count f → p.high < place_count f → w' ≡ with_link w i above p → EntryStored f w i above p w'
+  entry_stored {i} {above} laid l h e =
       let m : ℕ = mark_in (get_or w i 0) in
       let k : ℕ = link_of above p.low p.high in
       rw e
       record {
-        marks = marks-same f w i (both_of m k) (mark-both m k (mark-fits (get_or w i 0)));
-        entries = entries-in-set f w laid i m above p.low p.high (mark-fits (get_or w i 0)) l h;
+        marks = marks_same f w i (both_of m k) (mark_both m k (mark_fits (get_or w i 0)));
+        entries = entries_in_set f w laid i m above p.low p.high (mark_fits (get_or w i 0)) l h;
       }
 
 -- What `store` does, by its two stores.
@@ -86,8 +86,8 @@ stored {f} {i = i} {above = above} p a b =
 
 -- Storing one keeps the other: the marks after it come from the marks alone, the entries from the entries alone, and all but one of each are as they were.
 module _ {f w : List ℕ} {i above : ℕ} {p : Pair} {m : ℕ} {w' : List ℕ} (s : Stored f w i above p m w') where
-  pub marks-kept : (v : ℕ) → (v ≡ pair_cell f p → ⊥) → get_or (marks f w') v 0 ≡ get_or (marks f w) v 0
-  marks-kept v other = rw s.marks (get_or-set_other (marks f w) (pair_cell f p) v m 0 other)
+  pub marks_kept : (v : ℕ) → (v ≡ pair_cell f p → ⊥) → get_or (marks f w') v 0 ≡ get_or (marks f w) v 0
+  marks_kept v other = rw s.marks (get_or-set_other (marks f w) (pair_cell f p) v m 0 other)
 
-  pub entries-kept : (j : ℕ) → (j ≡ i → ⊥) → get_or (entries_in f w') j 0 ≡ get_or (entries_in f w) j 0
-  entries-kept j other = rw s.entries (get_or-set_other (entries_in f w) i j (entry_of above (pair_cell f p)) 0 other)
+  pub entries_kept : (j : ℕ) → (j ≡ i → ⊥) → get_or (entries_in f w') j 0 ≡ get_or (entries_in f w) j 0
+  entries_kept j other = rw s.entries (get_or-set_other (entries_in f w) i j (entry_of above (pair_cell f p)) 0 other)

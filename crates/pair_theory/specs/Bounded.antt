@@ -14,10 +14,10 @@ use Rattle.code.specs.Definitions.Tables.{Table, size, word}
 use Rattle.code.specs.Definitions.Readings.{Decipherable}
 use Rattle.code.specs.Definitions.Delays.{SharePrefix, Delay}
 use Rattle.pair_theory.specs.Places.{Place, first_place, next_place, Plain, symbol, Ends, Step, inside, across, Parting, FirstPair, CommonStep, PairAfter}
-use Rattle.pair_theory.specs.Pairs.{compatible-long}
-use Rattle.pair_theory.specs.Partings.{PartingEnds, parting-decipherable}
+use Rattle.pair_theory.specs.Pairs.{compatible_long}
+use Rattle.pair_theory.specs.Partings.{PartingEnds, parting_decipherable}
 use Rattle.pair_theory.specs.Sharing.{share→pair}
-use Rattle.pair_theory.specs.Walks.{Walk, stay, step, compatible-from, pair-iff}
+use Rattle.pair_theory.specs.Walks.{Walk, stay, step, compatible_from, pair_iff}
 
 -- Every number below n passes the test.
 unfoldable pub every_below : (ℕ → Bool) → ℕ → Bool
@@ -68,87 +68,87 @@ both_right : (a b : Bool) → (a && b) ≡ true → b ≡ true
 both_right true b e = e
 both_right false b e = absurd (false≢true e)
 
-where-true : (a b : Bool) → (if a then b else true) ≡ true → a ≡ true → b ≡ true
-where-true true b e h = e
-where-true false b e h = absurd (false≢true h)
+where_true : (a b : Bool) → (if a then b else true) ≡ true → a ≡ true → b ≡ true
+where_true true b e h = e
+where_true false b e h = absurd (false≢true h)
 
-where-false : (a b : Bool) → (if a then false else b) ≡ true → b ≡ true
-where-false true b e = absurd (false≢true e)
-where-false false b e = e
+where_false : (a b : Bool) → (if a then false else b) ≡ true → b ≡ true
+where_false true b e = absurd (false≢true e)
+where_false false b e = e
 
-not-both : (a b : Bool) (c : Bool) → (if a && b then false else c) ≡ true → a ≡ true → b ≡ true → ⊥
-not-both true true c e h k = false≢true e
-not-both true false c e h k = false≢true k
-not-both false b c e h k = false≢true h
+not_both : (a b : Bool) (c : Bool) → (if a && b then false else c) ≡ true → a ≡ true → b ≡ true → ⊥
+not_both true true c e h k = false≢true e
+not_both true false c e h k = false≢true k
+not_both false b c e h k = false≢true h
 
-last-below : (f : ℕ → Bool) (n x : ℕ) → f n ≡ true → (x < n → f x ≡ true) → x < suc n → Dec (x ≡ n) → f x ≡ true
-last-below f n x e ih h (yes g) = rw g e
-last-below f n x e ih h (no g) = ih (omega arith)
+last_below : (f : ℕ → Bool) (n x : ℕ) → f n ≡ true → (x < n → f x ≡ true) → x < suc n → Dec (x ≡ n) → f x ≡ true
+last_below f n x e ih h (yes g) = rw g e
+last_below f n x e ih h (no g) = ih (omega arith)
 
-pub every-below : (f : ℕ → Bool) (n : ℕ) → every_below f n ≡ true → (x : ℕ) → x < n → f x ≡ true
+pub every_below_lem : (f : ℕ → Bool) (n : ℕ) → every_below f n ≡ true → (x : ℕ) → x < n → f x ≡ true
 unfolding every_below
-every-below f zero e x h = absurd (omega arith)
-every-below f (suc n) e x h =
-    last-below f n x (both_left (f n) (every_below f n) e) (every-below f n (both_right (f n) (every_below f n) e) x) h (ℕ_discrete x n)
+every_below_lem f zero e x h = absurd (omega arith)
+every_below_lem f (suc n) e x h =
+    last_below f n x (both_left (f n) (every_below f n) e) (every_below_lem f n (both_right (f n) (every_below f n) e) x) h (ℕ_discrete x n)
 
 module _ (t : Table) where
-  every-step : (f : Place → Bool) {p q : Place} → every_step t p f ≡ true → Step t p q → f q ≡ true
+  every_step_lem : (f : Place → Bool) {p q : Place} → every_step t p f ≡ true → Step t p q → f q ≡ true
   unfolding every_step_of
-  every-step f {p} {q} e (inside h g) =
+  every_step_lem f {p} {q} e (inside h g) =
       let b = lt-ltb (suc p.k) (length (word t p.w)) h in
       rw g (rw b at e)
-  every-step f {p} {q} e (across {x} d h r g) =
+  every_step_lem f {p} {q} e (across {x} d h r g) =
       let b = le-ltb (suc p.k) (length (word t p.w)) (omega arith) in
-      rw g (where-true (t.follow x p.w) (f (first_place x)) (every-below _ (size t) (rw b at e) x h) r)
+      rw g (where_true (t.follow x p.w) (f (first_place x)) (every_below_lem _ (size t) (rw b at e) x h) r)
 
   module _ (n : ℕ) (p q : Place) (e : bounded_pair t (suc n) p q ≡ true) where
-    bounded-ends : Ends t p → Ends t q → ⊥
+    bounded_ends : Ends t p → Ends t q → ⊥
     unfolding bounded_pair
-    bounded-ends h k = not-both (is_end t p) (is_end t q) _ e (eq-eqb _ _ h) (eq-eqb _ _ k)
+    bounded_ends h k = not_both (is_end t p) (is_end t q) _ e (eq-eqb _ _ h) (eq-eqb _ _ k)
 
-    bounded-next : {a b : Place} → CommonStep t p q a b → bounded_pair t n a b ≡ true
+    bounded_next : {a b : Place} → CommonStep t p q a b → bounded_pair t n a b ≡ true
     unfolding bounded_pair
-    bounded-next {a} {b} s =
-        let f = where-false (is_end t p && is_end t q) _ e in
-        where-true (eqb (symbol t a) (symbol t b)) (bounded_pair t n a b) (every-step _ (every-step _ f s.left) s.right) (eq-eqb _ _ s.same)
+    bounded_next {a} {b} s =
+        let f = where_false (is_end t p && is_end t q) _ e in
+        where_true (eqb (symbol t a) (symbol t b)) (bounded_pair t n a b) (every_step_lem _ (every_step_lem _ f s.left) s.right) (eq-eqb _ _ s.same)
 
-  bounded-walk : (n : ℕ) {p q p' q' : Place} {k : ℕ} → bounded_pair t n p q ≡ true → Walk t k p q p' q' → (k < n) × (Ends t p' → Ends t q' → ⊥)
+  bounded_walk : (n : ℕ) {p q p' q' : Place} {k : ℕ} → bounded_pair t n p q ≡ true → Walk t k p q p' q' → (k < n) × (Ends t p' → Ends t q' → ⊥)
   unfolding bounded_pair
-  bounded-walk zero e w = absurd (false≢true e)
-  bounded-walk (suc n) {p} {q} e stay = (omega arith, bounded-ends n p q e)
-  bounded-walk (suc n) {p} {q} e (step s w) = let z = bounded-walk n (bounded-next n p q e s) w in (omega (arith, z.0), z.1)
+  bounded_walk zero e w = absurd (false≢true e)
+  bounded_walk (suc n) {p} {q} e stay = (omega arith, bounded_ends n p q e)
+  bounded_walk (suc n) {p} {q} e (step s w) = let z = bounded_walk n (bounded_next n p q e s) w in (omega (arith, z.0), z.1)
 
   module _ (n : ℕ) (e : bounded t n ≡ true) where
-    bounded-first : {p q : Place} → FirstPair t (Parting t) p q → bounded_pair t n p q ≡ true
+    bounded_first : {p q : Place} → FirstPair t (Parting t) p q → bounded_pair t n p q ≡ true
     unfolding bounded
-    bounded-first {p} {q} f =
+    bounded_first {p} {q} f =
         let x = f.x in
         let y = f.y in
         rw (f.left, f.right)
-        (where-true (not (eqb x y) && eqb (symbol t (first_place x)) (symbol t (first_place y))) (bounded_pair t n (first_place x) (first_place y))
-        (every-below _ (size t) (every-below _ (size t) e x f.left-known) y f.right-known)
+        (where_true (not (eqb x y) && eqb (symbol t (first_place x)) (symbol t (first_place y))) (bounded_pair t n (first_place x) (first_place y))
+        (every_below_lem _ (size t) (every_below_lem _ (size t) e x f.left_known) y f.right_known)
         (rw (ne_eqb x y f.starts.differ) (eq-eqb _ _ (ap (symbol t) (sym f.left) ∙ f.same ∙ ap (symbol t) f.right))))
 
     -- Where the test is true there is no compatible pair of two ends, so the code is decipherable.
-    pub bounded-decipherable : Plain t → Decipherable t
-    bounded-decipherable plain = parting-decipherable plain no-ends
+    pub bounded_decipherable : Plain t → Decipherable t
+    bounded_decipherable plain = parting_decipherable plain no_ends
       where
-        no-ends : PartingEnds t → ⊥
-        no-ends h =
-            let a = compatible-from {n = length h.m - 1} h.pair (omega (arith, compatible-long h.pair)) in
-            (bounded-walk n (bounded-first a.first) a.walk).1 h.left-ends h.right-ends
+        no_ends : PartingEnds t → ⊥
+        no_ends h =
+            let a = compatible_from {n = length h.m - 1} h.pair (omega (arith, compatible_long h.pair)) in
+            (bounded_walk n (bounded_first a.first) a.walk).1 h.left_ends h.right_ends
 
     -- Nor do more than n symbols reach a compatible pair.
-    pub bounded-most : (k : ℕ) → PairAfter t k → k ≤ n
-    bounded-most zero a = omega arith
-    bounded-most (suc k) a = let z = pair-iff.0 a in omega (arith, (bounded-walk n (bounded-first z.first) z.further.walk).0)
+    pub bounded_most : (k : ℕ) → PairAfter t k → k ≤ n
+    bounded_most zero a = omega arith
+    bounded_most (suc k) a = let z = pair_iff.0 a in omega (arith, (bounded_walk n (bounded_first z.first) z.further.walk).0)
 
     -- With two sequences that share n symbols this shows the delay.
-    pub bounded-delay : Plain t → SharePrefix t n → Decipherable t × Delay t (suc n)
-    bounded-delay plain s = (
-      bounded-decipherable plain,
+    pub bounded_delay : Plain t → SharePrefix t n → Decipherable t × Delay t (suc n)
+    bounded_delay plain s = (
+      bounded_decipherable plain,
       record {
-        enough = λ h. omega (arith, bounded-most (suc n) (share→pair plain (bounded-decipherable plain) (omega arith) h));
+        enough = λ h. omega (arith, bounded_most (suc n) (share→pair plain (bounded_decipherable plain) (omega arith) h));
         needed = λ M g. subst (SharePrefix t) (omega arith) s;
       },
     )

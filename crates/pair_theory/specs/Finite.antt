@@ -5,8 +5,8 @@ use Rattle.std.proofs.Math.ListN.{length}
 use Rattle.code.specs.Definitions.Lists.{sum}
 use Rattle.code.specs.Definitions.Tables.{Table, size, word}
 use Rattle.pair_theory.specs.Places.{Place, Is}
-use Rattle.pair_theory.specs.Ends.{place-eq}
-use Rattle.pair_theory.specs.Numbering.{up_to, pairs-mono, slot-below, slot-unique, up_to-words, unordered, unordered-below, unordered-unique}
+use Rattle.pair_theory.specs.Ends.{place_eq}
+use Rattle.pair_theory.specs.Numbering.{up_to, pairs_mono, slot_below, slot_unique, up_to_words, unordered, unordered_below, unordered_unique}
 
 module _ (t : Table) where
   -- the number of places: of symbols of all words together
@@ -29,33 +29,33 @@ module _ (t : Table) where
 
 module _ {t : Table} where
   -- Each place has a number below the number of places,
-  pub place-below : {p : Place} → Is t p → place_number t p < place_count t
+  pub place_below : {p : Place} → Is t p → place_number t p < place_count t
   unfolding place_number place_count
-  place-below {p} i = rw (← up_to-words t.words) (slot-below (λ x. length (word t x)) p.w p.k (size t) i.within i.known)
+  place_below {p} i = rw (← up_to_words t.words) (slot_below (λ x. length (word t x)) p.w p.k (size t) i.within i.known)
 
   -- of its own;
-  pub place-unique : {p q : Place} → Is t p → Is t q → place_number t p ≡ place_number t q → p ≡ q
+  pub place_unique : {p q : Place} → Is t p → Is t q → place_number t p ≡ place_number t q → p ≡ q
   unfolding place_number
-  place-unique {p} {q} i j e =
-      let r = slot-unique (λ x. length (word t x)) p.w p.k q.w q.k i.within j.within e in
-      place-eq r.0 r.1
+  place_unique {p} {q} i j e =
+      let r = slot_unique (λ x. length (word t x)) p.w p.k q.w q.k i.within j.within e in
+      place_eq r.0 r.1
 
   -- and each unordered pair one below the number of unordered pairs.
-  pub pair-below : {p q : Place} → Is t p → Is t q → pair_number t p q < pair_count t
+  pub pair_below : {p q : Place} → Is t p → Is t q → pair_number t p q < pair_count t
   unfolding pair_number pair_count
-  pair-below {p} {q} i j = unordered-below (place_number t p) (place_number t q) (place_count t) (place-below i) (place-below j)
+  pair_below {p} {q} i j = unordered_below (place_number t p) (place_number t q) (place_count t) (place_below i) (place_below j)
 
   -- Pairs with the same number are the same, in the same order or in the other.
-  pub pair-unique : {p q a b : Place} → Is t p → Is t q → Is t a → Is t b → pair_number t p q ≡ pair_number t a b → ((p ≡ a) × (q ≡ b)) ⊎ ((p ≡ b) × (q ≡ a))
+  pub pair_unique : {p q a b : Place} → Is t p → Is t q → Is t a → Is t b → pair_number t p q ≡ pair_number t a b → ((p ≡ a) × (q ≡ b)) ⊎ ((p ≡ b) × (q ≡ a))
   unfolding pair_number
-  pair-unique {p} {q} {a} {b} i j k l e = go (unordered-unique (place_number t p) (place_number t q) (place_number t a) (place_number t b) e)
+  pair_unique {p} {q} {a} {b} i j k l e = go (unordered_unique (place_number t p) (place_number t q) (place_number t a) (place_number t b) e)
     where
       go : ((place_number t p ≡ place_number t a) × (place_number t q ≡ place_number t b)) ⊎ ((place_number t p ≡ place_number t b) × (place_number t q ≡ place_number t a))
           → ((p ≡ a) × (q ≡ b)) ⊎ ((p ≡ b) × (q ≡ a))
-      go (inl h) = inl (place-unique i k h.0, place-unique j l h.1)
-      go (inr h) = inr (place-unique i l h.0, place-unique j k h.1)
+      go (inl h) = inl (place_unique i k h.0, place_unique j l h.1)
+      go (inr h) = inr (place_unique i l h.0, place_unique j k h.1)
 
 -- A limit on the places is a limit on their unordered pairs.
-pub pairs-within : (t : Table) (P : ℕ) → place_count t ≤ P → pair_count t ≤ P * (P + 1) / 2
+pub pairs_within : (t : Table) (P : ℕ) → place_count t ≤ P → pair_count t ≤ P * (P + 1) / 2
 unfolding pair_count
-pairs-within t P h = pairs-mono (place_count t) P h
+pairs_within t P h = pairs_mono (place_count t) P h

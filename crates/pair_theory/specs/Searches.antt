@@ -10,8 +10,8 @@ use Rattle.graph.specs.Goals.{GoalBy, GoalBefore, NoGoal, LeastGoal}
 use Rattle.graph.specs.Graph.{Graph, Reach, WalkOf, Longest, Endless}
 pub use Rattle.pair_theory.specs.Places.{BothEnd, ApartEnds}
 use Rattle.pair_theory.specs.Places.{Place, Plain, Parting, Beginning, Compatible, TwoEnds, NoTwoEnds, PairAfter, LongestPath}
-use Rattle.pair_theory.specs.Ambiguity.{LeastTwoEnds, at_most, least-message, decipherable, parting-ends}
-use Rattle.pair_theory.specs.Sharing.{SomeParting, delay, without-bound}
+use Rattle.pair_theory.specs.Ambiguity.{LeastTwoEnds, at_most, least_message, decipherable, parting_ends}
+use Rattle.pair_theory.specs.Sharing.{SomeParting, delay, without_bound_lem}
 
 -- The first pairs of the graph are those of S, its goals those of E.
 module _ (t : Table) (S : ℕ → ℕ → Type 0) (E : Place → Place → Type 0) (g : Graph) where
@@ -50,7 +50,7 @@ module _ {t : Table} {g : Graph} (shows : Shows t (Beginning t) (ApartEnds t) g)
   goal→ends h =
       let a = shows.pairs h.walk in
       let e = a.ends h.met in
-      record { p = a.p; q = a.q; pair = a.pair; left-ends = e.left; right-ends = e.right; apart = e.apart }
+      record { p = a.p; q = a.q; pair = a.pair; left_ends = e.left; right_ends = e.right; apart = e.apart }
 
   ends→goal : {m : List ℕ} → TwoEnds t m → GoalWithin g m
   ends→goal {m} h = by (shows.walks h.pair)
@@ -58,22 +58,22 @@ module _ {t : Table} {g : Graph} (shows : Shows t (Beginning t) (ApartEnds t) g)
       by : WalkTo t (Beginning t) (ApartEnds t) g m h.p h.q ⊎ GoalBefore g m → GoalWithin g m
       by (inl w) = record {
         n = m;
-        goal = record { v = w.v; walk = w.walk; met = w.goal (record { left = h.left-ends; right = h.right-ends; apart = h.apart }) };
+        goal = record { v = w.v; walk = w.walk; met = w.goal (record { left = h.left_ends; right = h.right_ends; apart = h.apart }) };
         order = inl refl;
       }
       by (inr b) = record { n = b.n; goal = b.goal; order = inr b.before }
 
-  pub shows-finds : Finds t g
-  shows-finds = record { ends = goal→ends; goal = ends→goal }
+  pub shows_finds : Finds t g
+  shows_finds = record { ends = goal→ends; goal = ends→goal }
 
 module _ {t : Table} {g : Graph} (finds : Finds t g) where
   -- Where no walk leads to a goal no two ends are reached.
-  no-goal : NoGoal g → NoTwoEnds t
-  no-goal none m h = let w = finds.goal h in none w.n w.goal
+  no_goal : NoGoal g → NoTwoEnds t
+  no_goal none m h = let w = finds.goal h in none w.n w.goal
 
   -- The least symbols of a walk to a goal are the least that reach two ends.
-  pub least-goal : {m : List ℕ} → LeastGoal g m → LeastTwoEnds t m
-  least-goal {m} l = record { ends = finds.ends l.goal; least = λ n h. by n (finds.goal h) }
+  pub least_goal : {m : List ℕ} → LeastGoal g m → LeastTwoEnds t m
+  least_goal {m} l = record { ends = finds.ends l.goal; least = λ n h. by n (finds.goal h) }
     where
       by : (n : List ℕ) → GoalWithin g n → (m ≡ n) ⊎ Shortlex m n
       by n w = go (l.least w.n w.goal) w.order
@@ -84,12 +84,12 @@ module _ {t : Table} {g : Graph} (finds : Finds t g) where
 
   module _ (plain : Plain t) where
     -- The least symbols of a walk to a goal come before every other message with two readings.
-    pub search-least : {m : List ℕ} → LeastGoal g m → (n : List ℕ) → TwoReadings t n → (n ≡ m → ⊥) → Shortlex m n
-    search-least l = least-message plain (least-goal l)
+    pub search_least : {m : List ℕ} → LeastGoal g m → (n : List ℕ) → TwoReadings t n → (n ≡ m → ⊥) → Shortlex m n
+    search_least l = least_message plain (least_goal l)
 
     -- Where no walk leads to a goal the code is decipherable.
-    pub search-decipherable : NoGoal g → Decipherable t
-    search-decipherable none = decipherable plain (no-goal none)
+    pub search_decipherable : NoGoal g → Decipherable t
+    search_decipherable none = decipherable plain (no_goal none)
 
 -- The graph of the pairs from rivals on: the delay of a decipherable code.
 module _ {t : Table} {g : Graph} (shows : Shows t (Parting t) (BothEnd t) g) (plain : Plain t) where
@@ -97,27 +97,27 @@ module _ {t : Table} {g : Graph} (shows : Shows t (Parting t) (BothEnd t) g) (pl
   walk→pair h = let a = shows.pairs h.walk in record { m = h.symbols; p = a.p; q = a.q; pair = a.pair; long = h.long }
 
   -- And a code with walks of every length is without bound.
-  pub search-without-bound : Endless g → WithoutBound t
-  search-without-bound e = without-bound plain (λ k. walk→pair (e k))
+  pub search_without_bound : Endless g → WithoutBound t
+  search_without_bound e = without_bound_lem plain (λ k. walk→pair (e k))
 
   module _ (d : Decipherable t) where
-    no-ends : (m : List ℕ) → GoalBy g m → ⊥
-    no-ends m h =
+    no_ends : (m : List ℕ) → GoalBy g m → ⊥
+    no_ends m h =
         let a = shows.pairs h.walk in
         let e = a.ends h.met in
-        parting-ends plain d a.pair e.left e.right
+        parting_ends plain d a.pair e.left e.right
 
     pair→walk : {k : ℕ} → PairAfter t k → WalkOf g k
     pair→walk {k} h = by (shows.walks h.pair)
       where
         by : WalkTo t (Parting t) (BothEnd t) g h.m h.p h.q ⊎ GoalBefore g h.m → WalkOf g k
         by (inl w) = record { symbols = h.m; end = w.v; walk = w.walk; long = h.long }
-        by (inr b) = absurd (no-ends b.n b.goal)
+        by (inr b) = absurd (no_ends b.n b.goal)
 
     -- The longest walk of the graph is the longest path of pairs.
-    pub longest-walk : {r : ℕ} → Longest g r → LongestPath t r
-    longest-walk l = record { some = λ k e. walk→pair (l.some k e); most = λ k h. l.most k (pair→walk h) }
+    pub longest_walk : {r : ℕ} → Longest g r → LongestPath t r
+    longest_walk l = record { some = λ k e. walk→pair (l.some k e); most = λ k h. l.most k (pair→walk h) }
 
     -- The delay of a code in which two words part is one more than the longest walk.
-    pub search-delay : SomeParting t → {r : ℕ} → Longest g r → Delay t (suc r)
-    search-delay h l = delay plain d h (longest-walk l)
+    pub search_delay : SomeParting t → {r : ℕ} → Longest g r → Delay t (suc r)
+    search_delay h l = delay plain d h (longest_walk l)

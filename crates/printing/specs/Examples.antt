@@ -16,13 +16,13 @@ abbrev words : ℕ → WordCount
 words n = record { 0 = n }
 
 -- 01, code T: `ambiguous,010`, `0,1` and `2,0`, each with its CR LF
-code-t : printed (Judged (Two-ways (symbols 3) (words 2) (words 2))) (0 ∷ 1 ∷ 0 ∷ []) (0 ∷ 1 ∷ []) (2 ∷ 0 ∷ [])
+code_t_lem : printed (Judged (Two-ways (symbols 3) (words 2) (words 2))) (0 ∷ 1 ∷ 0 ∷ []) (0 ∷ 1 ∷ []) (2 ∷ 0 ∷ [])
     ≡ 97 ∷ 109 ∷ 98 ∷ 105 ∷ 103 ∷ 117 ∷ 111 ∷ 117 ∷ 115 ∷ 44 ∷ 48 ∷ 49 ∷ 48 ∷ 13 ∷ 10
     ∷ 48 ∷ 44 ∷ 49 ∷ 13 ∷ 10
     ∷ 50 ∷ 44 ∷ 48 ∷ 13 ∷ 10
     ∷ []
 unfolding join digit_of places
-code-t = refl
+code_t_lem = refl
 
 -- `ambiguous,A`, `9` and `10,31`: the digit of a symbol is a capital, a word number stands in decimal
 capitals : printed (Judged (Two-ways (symbols 1) (words 1) (words 2))) (10 ∷ []) (9 ∷ []) (10 ∷ 31 ∷ [])
@@ -34,29 +34,29 @@ unfolding join digit_of places
 capitals = refl
 
 -- `decipherable,4`
-delay-4 : printed (Judged (Finite (symbols 4))) [] [] []
+delay_4 : printed (Judged (Finite (symbols 4))) [] [] []
     ≡ 100 ∷ 101 ∷ 99 ∷ 105 ∷ 112 ∷ 104 ∷ 101 ∷ 114 ∷ 97 ∷ 98 ∷ 108 ∷ 101 ∷ 44 ∷ 52 ∷ 13 ∷ 10 ∷ []
 unfolding join places
-delay-4 = refl
+delay_4 = refl
 
 -- `decipherable,8257`, the greatest delay of 01
-delay-8257 : printed (Judged (Finite (symbols 8257))) [] [] []
+delay_8257 : printed (Judged (Finite (symbols 8257))) [] [] []
     ≡ 100 ∷ 101 ∷ 99 ∷ 105 ∷ 112 ∷ 104 ∷ 101 ∷ 114 ∷ 97 ∷ 98 ∷ 108 ∷ 101 ∷ 44 ∷ 56 ∷ 50 ∷ 53 ∷ 55 ∷ 13 ∷ 10 ∷ []
 unfolding join places
-delay-8257 = refl
+delay_8257 = refl
 
 -- `decipherable,unbounded`
-without-bound : printed (Judged Unbounded) [] [] []
+without_bound_lem : printed (Judged Unbounded) [] [] []
     ≡ 100 ∷ 101 ∷ 99 ∷ 105 ∷ 112 ∷ 104 ∷ 101 ∷ 114 ∷ 97 ∷ 98 ∷ 108 ∷ 101 ∷ 44
     ∷ 117 ∷ 110 ∷ 98 ∷ 111 ∷ 117 ∷ 110 ∷ 100 ∷ 101 ∷ 100 ∷ 13 ∷ 10 ∷ []
 unfolding join
-without-bound = refl
+without_bound_lem = refl
 
 -- `refused,3` and `refused,14`
-refused-3 : printed (Not-judged RecordCount) [] [] [] ≡ 114 ∷ 101 ∷ 102 ∷ 117 ∷ 115 ∷ 101 ∷ 100 ∷ 44 ∷ 51 ∷ 13 ∷ 10 ∷ []
+refused_3 : printed (Not-judged RecordCount) [] [] [] ≡ 114 ∷ 101 ∷ 102 ∷ 117 ∷ 115 ∷ 101 ∷ 100 ∷ 44 ∷ 51 ∷ 13 ∷ 10 ∷ []
 unfolding join places
-refused-3 = refl
+refused_3 = refl
 
-refused-14 : printed (Not-judged NoReading) [] [] [] ≡ 114 ∷ 101 ∷ 102 ∷ 117 ∷ 115 ∷ 101 ∷ 100 ∷ 44 ∷ 49 ∷ 52 ∷ 13 ∷ 10 ∷ []
+refused_14 : printed (Not-judged NoReading) [] [] [] ≡ 114 ∷ 101 ∷ 102 ∷ 117 ∷ 115 ∷ 101 ∷ 100 ∷ 44 ∷ 49 ∷ 52 ∷ 13 ∷ 10 ∷ []
 unfolding join places
-refused-14 = refl
+refused_14 = refl

@@ -25,8 +25,8 @@ needed n = 35 + n.message + 4 * (n.first + n.second)
 abbrev pub Symbols : List ℕ → Type 0
 Symbols m = (k : ℕ) → get_or m k 0 < 16
 
-pub all-symbols : (m : List ℕ) (n : ℕ) → length m ≤ n → ((k : ℕ) → k < n → get_or m k 0 < 16) → Symbols m
-all-symbols m n h below k = by_size (dec_lt k n)
+pub all_symbols_lem : (m : List ℕ) (n : ℕ) → length m ≤ n → ((k : ℕ) → k < n → get_or m k 0 < 16) → Symbols m
+all_symbols_lem m n h below k = by_size (dec_lt k n)
   where
     by_size : Dec (k < n) → get_or m k 0 < 16
     by_size (yes i) = below k i

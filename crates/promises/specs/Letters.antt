@@ -9,13 +9,13 @@ use Rattle.code.specs.Definitions.Lists.{every}
 use Rattle.code.specs.Definitions.Operations.{Encodes}
 use Rattle.code.specs.Definitions.Readings.{Reads, OnlyReading}
 use Rattle.code.specs.Definitions.Texts.{is_letter, symbols_in}
-use Rattle.text_theory.specs.Messages.{Between, reading-splits}
-use Rattle.promises.specs.RoundTrip.{encoded-reads}
+use Rattle.text_theory.specs.Messages.{Between, reading_splits}
+use Rattle.promises.specs.RoundTrip.{encoded_reads}
 
-pub encoded-splits : {l : Limits} {e : Enlarged} (classes : List ℕ) {s b b' r : List ℕ} {n : SymbolCount} (w : List ℕ) → Encodes l e s b b' (Encoded n) → 1 ≤ length w
+pub encoded_splits : {l : Limits} {e : Enlarged} (classes : List ℕ) {s b b' r : List ℕ} {n : SymbolCount} (w : List ℕ) → Encodes l e s b b' (Encoded n) → 1 ≤ length w
     → every (is_letter classes) w ≡ true → symbols_in classes w ≡ take n.0 b' → OnlyReading (original_table e) (take n.0 b') r
     → Between (original_table e) classes w s
-encoded-splits {e = e} classes {s} {r = r} w x h l m o =
-    let reads : Reads (original_table e) (symbols_in classes w) s = rw m (encoded-reads x) in
+encoded_splits {e = e} classes {s} {r = r} w x h l m o =
+    let reads : Reads (original_table e) (symbols_in classes w) s = rw m (encoded_reads x) in
     let only : OnlyReading (original_table e) (symbols_in classes w) r = rw m o in
-    reading-splits classes w h l reads only
+    reading_splits classes w h l reads only

@@ -6,7 +6,7 @@ use mathlib.Core.List.{List, [], ◌∷◌, ◌++◌, head-eq_of_cons-eq, tail-e
 use Rattle.std.proofs.Math.Decide.{dec_lt}
 use Rattle.std.proofs.Math.ListN.{get_or-append}
 use Rattle.code.specs.Definitions.Tables.{Table, word, Linked, none, one, more, Permitted, empty, message}
-use Rattle.code.specs.Laws.Sequences.{first_word, second-follows, rest-linked, permitted-linked, first-begins, free-permitted}
+use Rattle.code.specs.Laws.Sequences.{first_word, second_follows, rest_linked, permitted_linked, first_begins, free_permitted}
 use Rattle.read_sets.specs.Sets.{length_at, may_after, Lays}
 use Rattle.read_marks.specs.Text.{From, done, word as first}
 use Rattle.read_marks.specs.Message.{Places, symbols_at, Fits, Stands, text}
@@ -20,11 +20,11 @@ pub record Spells (t : Table) (M : Places) (p : ℕ) (s : List ℕ) : Type 0 whe
 
 module _ {t : Table} {having ends rows lengths : List ℕ} {n longest : ℕ} (l : Lays t having ends rows lengths n longest) (M : Places) where
   -- A word stands where its symbols may lie.
-  fits-lies : (p x j : ℕ) → x < n → j < length_at lengths x → Fits having M p j x → M.lies p (get_or (word t x) j 0)
-  fits-lies p x j h k f = subst (M.lies p) (eqb-true f.symbol (get_or (word t x) j 0) (sym (l.spells x j f.symbol h k) ∙ f.here)) f.lies
+  fits_lies : (p x j : ℕ) → x < n → j < length_at lengths x → Fits having M p j x → M.lies p (get_or (word t x) j 0)
+  fits_lies p x j h k f = subst (M.lies p) (eqb-true f.symbol (get_or (word t x) j 0) (sym (l.spells x j f.symbol h k) ∙ f.here)) f.lies
 
-  lies-fits : (p x j : ℕ) → x < n → j < length_at lengths x → p < M.end → M.lies p (get_or (word t x) j 0) → Fits having M p j x
-  lies-fits p x j h k i a = record {
+  lies_fits : (p x j : ℕ) → x < n → j < length_at lengths x → p < M.end → M.lies p (get_or (word t x) j 0) → Fits having M p j x
+  lies_fits p x j h k i a = record {
     inside = i;
     symbol = get_or (word t x) j 0;
     lies = a;
@@ -42,25 +42,25 @@ module _ {t : Table} {having ends rows lengths : List ℕ} {n longest : ℕ} (l 
     after : After y s
     spells : Spells t M p s
 
-  head-known : {x : ℕ} {s : List ℕ} → Linked t (x ∷ s) → x < n
-  head-known r = rw (← l.count) (first_word r)
+  head_known : {x : ℕ} {s : List ℕ} → Linked t (x ∷ s) → x < n
+  head_known r = rw (← l.count) (first_word r)
 
-  after-start : (s : List ℕ) → Permitted t s → After n s
-  after-start [] r = tt
-  after-start (x ∷ s) r = l.starts x (head-known (permitted-linked r)) ∙ first-begins r
+  after_start : (s : List ℕ) → Permitted t s → After n s
+  after_start [] r = tt
+  after_start (x ∷ s) r = l.starts x (head_known (permitted_linked r)) ∙ first_begins r
 
   -- What may come after the start may begin.
-  start-permitted : (s : List ℕ) → Linked t s → After n s → Permitted t s
-  start-permitted [] r a = empty
-  start-permitted (x ∷ s) r a = free-permitted l.free (sym (l.starts x (head-known r)) ∙ a) r
+  start_permitted : (s : List ℕ) → Linked t s → After n s → Permitted t s
+  start_permitted [] r a = empty
+  start_permitted (x ∷ s) r a = free_permitted l.free (sym (l.starts x (head_known r)) ∙ a) r
 
-  after-word : {x : ℕ} (s : List ℕ) → Linked t (x ∷ s) → After x s
-  after-word [] r = tt
-  after-word {x} (z ∷ s) r = l.entries z x (head-known (rest-linked r)) (head-known r) ∙ second-follows r
+  after_word : {x : ℕ} (s : List ℕ) → Linked t (x ∷ s) → After x s
+  after_word [] r = tt
+  after_word {x} (z ∷ s) r = l.entries z x (head_known (rest_linked r)) (head_known r) ∙ second_follows r
 
   cons : {x : ℕ} (s : List ℕ) → x < n → Linked t s → After x s → Linked t (x ∷ s)
   cons {x} [] h r a = one {x = x} (rw l.count h)
-  cons {x} (z ∷ s) h r a = more {y = x} (rw l.count h) (rw (l.entries z x (head-known r) h) at a) r
+  cons {x} (z ∷ s) h r a = more {y = x} (rw l.count h) (rw (l.entries z x (head_known r) h) at a) r
 
   -- A word in front.
   module _ (p x : ℕ) (s : List ℕ) (known : x < n) where
@@ -68,11 +68,11 @@ module _ {t : Table} {having ends rows lengths : List ℕ} {n longest : ℕ} (l 
     long = length-append (word t x) (message t s) ∙ ap (λ (k : ℕ). k + length (message t s)) (l.sizes x known)
 
     module _ (h : Stands having M lengths p x) (r : Spells t M (p + length_at lengths x) s) where
-      symbol-more : (j : ℕ) → j < length (message t (x ∷ s)) → p + j < M.end → Dec (j < length (word t x)) → M.lies (p + j) (get_or (word t x ++ message t s) j 0)
-      symbol-more j k i (yes d) =
+      symbol_more : (j : ℕ) → j < length (message t (x ∷ s)) → p + j < M.end → Dec (j < length (word t x)) → M.lies (p + j) (get_or (word t x ++ message t s) j 0)
+      symbol_more j k i (yes d) =
           subst (M.lies (p + j)) (sym (get_or-append (word t x) (message t s) 0 j d))
-          (fits-lies (p + j) x j known (omega (arith, l.sizes x known)) (h.each j (omega (arith, l.sizes x known)) i))
-      symbol-more j k i (no d) =
+          (fits_lies (p + j) x j known (omega (arith, l.sizes x known)) (h.each j (omega (arith, l.sizes x known)) i))
+      symbol_more j k i (no d) =
           let q = j - length (word t x) in
           let e : length (word t x) + q ≡ j = omega arith in
           let a : p + length_at lengths x + q ≡ p + j = omega (arith, l.sizes x known) in
@@ -80,48 +80,48 @@ module _ {t : Table} {having ends rows lengths : List ℕ} {n longest : ℕ} (l 
           (subst (M.lies (p + j)) (sym (get_or-append-add (word t x) (message t s) q 0))
           (subst (λ (v : ℕ). M.lies v (get_or (message t s) q 0)) a (r.symbols q (omega (arith, long, l.sizes x known)) (omega arith))))
 
-      begins-more : (o : List ℕ) (y : ℕ) (u : List ℕ) → x ∷ s ≡ o ++ (y ∷ u) → p + length (message t o) < M.end
-      begins-more [] y u e = omega (arith, h.inside)
-      begins-more (a ∷ o) y u e =
+      begins_more : (o : List ℕ) (y : ℕ) (u : List ℕ) → x ∷ s ≡ o ++ (y ∷ u) → p + length (message t o) < M.end
+      begins_more [] y u e = omega (arith, h.inside)
+      begins_more (a ∷ o) y u e =
           let b = r.begins o y u (tail-eq_of_cons-eq e) in
           subst (λ (v : ℕ). p + length (word t v ++ message t o) < M.end) (head-eq_of_cons-eq e)
           (omega (arith, length-append (word t x) (message t o), l.sizes x known))
 
-      spells-more : Spells t M p (x ∷ s)
-      spells-more = record {
+      spells_more : Spells t M p (x ∷ s)
+      spells_more = record {
         reaches = omega (arith, r.reaches, long);
         exact = λ e. omega (arith, r.exact e, long);
-        symbols = λ j k i. symbol-more j k i (dec_lt j (length (word t x)));
-        begins = begins-more;
+        symbols = λ j k i. symbol_more j k i (dec_lt j (length (word t x)));
+        begins = begins_more;
       }
 
     module _ (r : Spells t M p (x ∷ s)) where
-      stands-first : Stands having M lengths p x
-      stands-first = record {
+      stands_first : Stands having M lengths p x
+      stands_first = record {
         inside = let b = r.begins [] x s refl in omega arith;
         each = λ j k i.
-            lies-fits (p + j) x j known k i
+            lies_fits (p + j) x j known k i
             (subst (M.lies (p + j)) (get_or-append (word t x) (message t s) 0 j (omega (arith, l.sizes x known))) (r.symbols j (omega (arith, long)) i));
         exact = λ e. omega (arith, r.exact e, long);
       }
 
-      symbol-rest : (j : ℕ) → j < length (message t s) → p + length_at lengths x + j < M.end → M.lies (p + length_at lengths x + j) (get_or (message t s) j 0)
-      symbol-rest j k i =
+      symbol_rest : (j : ℕ) → j < length (message t s) → p + length_at lengths x + j < M.end → M.lies (p + length_at lengths x + j) (get_or (message t s) j 0)
+      symbol_rest j k i =
           let a : p + (length (word t x) + j) ≡ p + length_at lengths x + j = omega (arith, l.sizes x known) in
           subst (λ (v : ℕ). M.lies v (get_or (message t s) j 0)) a
           (subst (M.lies (p + (length (word t x) + j))) (get_or-append-add (word t x) (message t s) j 0)
           (r.symbols (length (word t x) + j) (omega (arith, long, l.sizes x known)) (omega (arith, l.sizes x known))))
 
-      spells-rest : Spells t M (p + length_at lengths x) s
-      spells-rest = record {
+      spells_rest : Spells t M (p + length_at lengths x) s
+      spells_rest = record {
         reaches = omega (arith, r.reaches, long);
         exact = λ e. omega (arith, r.exact e, long);
-        symbols = symbol-rest;
+        symbols = symbol_rest;
         begins = λ o y u e. omega (arith, r.begins (x ∷ o) y u (ap (◌∷◌ x) e), length-append (word t x) (message t o), l.sizes x known);
       }
 
-  spells-none : (p : ℕ) → M.end ≤ p → (M.cut ≡ false → p ≤ M.end) → Spells t M p []
-  spells-none p h k = record {
+  spells_none : (p : ℕ) → M.end ≤ p → (M.cut ≡ false → p ≤ M.end) → Spells t M p []
+  spells_none p h k = record {
     reaches = omega arith;
     exact = λ e. let q = k e in omega arith;
     symbols = λ j i. absurd (omega arith);
@@ -129,25 +129,25 @@ module _ {t : Table} {having ends rows lengths : List ℕ} {n longest : ℕ} (l 
   }
 
   rest_of : {p y : ℕ} {s : List ℕ} → (M.cut ≡ false → p ≤ M.end) → From (text having rows lengths n M) p y s → Rest p y s
-  rest_of {p} k (done e) = record { linked = none; after = tt; spells = spells-none p e k }
+  rest_of {p} k (done e) = record { linked = none; after = tt; spells = spells_none p e k }
   rest_of {p} k (first {x = x} {s = s} h a f) =
       let r = rest_of h.1.exact f in
-      record { linked = cons s h.0 r.linked r.after; after = a; spells = spells-more p x s h.0 h.1 r.spells }
+      record { linked = cons s h.0 r.linked r.after; after = a; spells = spells_more p x s h.0 h.1 r.spells }
 
-  from-rest : (s : List ℕ) (p y : ℕ) → Rest p y s → From (text having rows lengths n M) p y s
-  from-rest [] p y r = done {p = p} (let q = r.spells.reaches in omega arith)
-  from-rest (x ∷ s) p y r =
-      let known = head-known r.linked in
-      first (known, stands-first p x s known r.spells) r.after
-      (from-rest s (p + length_at lengths x) x
-      (record { linked = rest-linked r.linked; after = after-word s r.linked; spells = spells-rest p x s known r.spells }))
+  from_rest : (s : List ℕ) (p y : ℕ) → Rest p y s → From (text having rows lengths n M) p y s
+  from_rest [] p y r = done {p = p} (let q = r.spells.reaches in omega arith)
+  from_rest (x ∷ s) p y r =
+      let known = head_known r.linked in
+      first (known, stands_first p x s known r.spells) r.after
+      (from_rest s (p + length_at lengths x) x
+      (record { linked = rest_linked r.linked; after = after_word s r.linked; spells = spells_rest p x s known r.spells }))
 
   -- What reads the places from the first on, after the start.
-  pub from-spells : (s : List ℕ) → From (text having rows lengths n M) 0 n s → Permitted t s × Spells t M 0 s
-  from-spells s f = let r = rest_of (λ e. omega arith) f in (start-permitted s r.linked r.after, r.spells)
+  pub from_spells : (s : List ℕ) → From (text having rows lengths n M) 0 n s → Permitted t s × Spells t M 0 s
+  from_spells s f = let r = rest_of (λ e. omega arith) f in (start_permitted s r.linked r.after, r.spells)
 
-  pub spells-from : (s : List ℕ) → Permitted t s → Spells t M 0 s → From (text having rows lengths n M) 0 n s
-  spells-from s q r = from-rest s 0 n (record { linked = permitted-linked q; after = after-start s q; spells = r })
+  pub spells_from : (s : List ℕ) → Permitted t s → Spells t M 0 s → From (text having rows lengths n M) 0 n s
+  spells_from s q r = from_rest s 0 n (record { linked = permitted_linked q; after = after_start s q; spells = r })
 
 -- Where the places are symbols, they are the first of the sequence's.
 pub spelled : {t : Table} {cut : Bool} {m s : List ℕ} → Spells t (symbols_at cut m) 0 s → take (length m) (message t s) ≡ m

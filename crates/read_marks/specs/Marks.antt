@@ -5,16 +5,16 @@ use Rattle.std.proofs.Common.{sym, ◌∙◌, arith, length-set, pow_pos, get_or
 use Rattle.std.proofs.Math.Decide.{dec_lt, ℕ_discrete}
 use Rattle.std.specs.Int.Bits.{bit_and, bit_or}
 use Rattle.std.proofs.Math.ListN.{get_or-eq_default}
-use Rattle.code.specs.Laws.Cells.{on-set}
-use Rattle.code.specs.Laws.Exactly.{Exactly, exactly-true, exactly-false, exactly-iff, exactly-on, exactly-itself}
-use Rattle.bits.specs.Bits.{bit_of, width, bit-none, bit-all, bit_below}
-use Rattle.bits.specs.Sets.{exactly-meet, exactly-join}
+use Rattle.code.specs.Laws.Cells.{on_set}
+use Rattle.code.specs.Laws.Exactly.{Exactly, exactly_true, exactly_false, exactly_iff, exactly_on, exactly_itself}
+use Rattle.bits.specs.Bits.{bit_of, width, bit_none, bit_all, bit_below}
+use Rattle.bits.specs.Sets.{exactly_meet, exactly_join}
 use Rattle.bits.specs.Unions.{Within, UnionOf}
 use Rattle.read_sets.specs.Sets.{block_of, having_at, length_at, SetsOf}
-use Rattle.read_marks.specs.Text.{Text, Can, done, Begins, Opened, opens-can, can-opened}
-use Rattle.read_marks.specs.Tails.{Tail, last, more, begun, split-tail, tail-split, tail-begins, begins-tail}
-use Rattle.read_marks.specs.Message.{Places, symbols_at, Fits, text, sets-spelled, sets-bounded, tail-short}
-use Rattle.read_marks.specs.Steps.{Stepped, tail_at, stepped-bound}
+use Rattle.read_marks.specs.Text.{Text, Can, done, Begins, Opened, opens_can, can_opened}
+use Rattle.read_marks.specs.Tails.{Tail, last, more, begun, split_tail, tail_split, tail_begins, begins_tail}
+use Rattle.read_marks.specs.Message.{Places, symbols_at, Fits, text, sets_spelled, sets_bounded, tail_short}
+use Rattle.read_marks.specs.Steps.{Stepped, tail_at, stepped_bound}
 use Rattle.read_marks.specs.Begun.{EndsFrom, FirstTails}
 
 -- The mark of word x at position p.
@@ -53,36 +53,36 @@ module _ {having ends rows lengths : List ℕ} {n longest : ℕ} (M : Places) (s
 
   module _ {tails : List ℕ} {p : ℕ} (inside : p < M.end) where
     -- A step of the tails.
-    step-tailed : {list new : List ℕ} {block onward : ℕ} → BlockOf having M n longest p list block → Tailed K (Fits having M) M.cut n longest tails (p + 1)
+    step_tailed : {list new : List ℕ} {block onward : ℕ} → BlockOf having M n longest p list block → Tailed K (Fits having M) M.cut n longest tails (p + 1)
         → Goes K onward (p + 1) → Stepped list ends block onward longest tails new → Tailed K (Fits having M) M.cut n longest new p
-    step-tailed {list} {new} {block} {onward} b t g s = record {
+    step_tailed {list} {new} {block} {onward} b t g s = record {
       is = λ j x k. by j x k (dec_lt j longest);
       rest = λ j k. s.rest j k ∙ t.rest j k;
-      bound = stepped-bound n s sets.sized.least b.bound;
+      bound = stepped_bound n s sets.sized.least b.bound;
     }
       where
         tail : (j x : ℕ) → j < longest → x < width → Exactly (bit_of (tail_at list ends block onward tails j) x) (Tail K (Fits having M) M.cut p j x)
-        tail j x h k = exactly-iff (split-tail, tail-split inside)
-            (exactly-meet (bit_or (get_or tails (j + 1) 0) (bit_and onward (get_or ends j 0))) (get_or list (block + j) 0) x
-            (exactly-join (get_or tails (j + 1) 0) (bit_and onward (get_or ends j 0)) x (t.is (j + 1) x k)
-            (exactly-meet onward (get_or ends j 0) x (g.is x k) (sets.ending j x k)))
+        tail j x h k = exactly_iff (split_tail, tail_split inside)
+            (exactly_meet (bit_or (get_or tails (j + 1) 0) (bit_and onward (get_or ends j 0))) (get_or list (block + j) 0) x
+            (exactly_join (get_or tails (j + 1) 0) (bit_and onward (get_or ends j 0)) x (t.is (j + 1) x k)
+            (exactly_meet onward (get_or ends j 0) x (g.is x k) (sets.ending j x k)))
             (b.is j x h))
 
         by : (j x : ℕ) → x < width → Dec (j < longest) → Exactly (bit_of (get_or new j 0) x) (Tail K (Fits having M) M.cut p j x)
         by j x k (yes l) = rw (s.tails j l) (tail j x l k)
-        by j x k (no l) = rw (s.rest j (omega arith), t.rest j (omega arith), bit-none x) (exactly-false (λ q. omega (arith, tail-short M sets q)))
+        by j x k (no l) = rw (s.rest j (omega arith), t.rest j (omega arith), bit_none x) (exactly_false (λ q. omega (arith, tail_short M sets q)))
 
-    begins-of : Tailed K (Fits having M) M.cut n longest tails p → (x : ℕ) → x < width → Exactly (bit_of (get_or tails 0 0) x) (Begins K p x)
-    begins-of t x k = exactly-iff (tail-begins (sets-spelled M sets) inside, begins-tail (sets-spelled M sets) inside) (t.is 0 x k)
+    begins_of_lem : Tailed K (Fits having M) M.cut n longest tails p → (x : ℕ) → x < width → Exactly (bit_of (get_or tails 0 0) x) (Begins K p x)
+    begins_of_lem t x k = exactly_iff (tail_begins (sets_spelled M sets) inside, begins_tail (sets_spelled M sets) inside) (t.is 0 x k)
 
     -- The union of the rows of the words that begin at p: the words after which reading can go on there.
-    union-goes : {onward : ℕ} → Tailed K (Fits having M) M.cut n longest tails p → UnionOf rows (get_or tails 0 0) (length rows) onward → Goes K onward p
-    union-goes t u = record { is = λ y k. exactly-iff ((λ w. there y w), (λ c. back y (can-opened inside c))) (u.is y) }
+    union_goes : {onward : ℕ} → Tailed K (Fits having M) M.cut n longest tails p → UnionOf rows (get_or tails 0 0) (length rows) onward → Goes K onward p
+    union_goes t u = record { is = λ y k. exactly_iff ((λ w. there y w), (λ c. back y (can_opened inside c))) (u.is y) }
       where
         there : (y : ℕ) → Within rows (get_or tails 0 0) (length rows) y → Can K p y
         there y w =
             let known = bit_below (get_or tails 0 0) w.from t.bound w.member in
-            opens-can (record { begins = (begins-of t w.from (omega (arith, sets.shaped.small))).yes w.member; after = w.has })
+            opens_can (record { begins = (begins_of_lem t w.from (omega (arith, sets.shaped.small))).yes w.member; after = w.has })
 
         back : (y : ℕ) → Opened K p y → Within rows (get_or tails 0 0) (length rows) y
         back y o =
@@ -90,56 +90,56 @@ module _ {having ends rows lengths : List ℕ} {n longest : ℕ} (M : Places) (s
             record {
               from = o.next;
               below = omega (arith, sets.shaped.rowed);
-              member = exactly-on (begins-of t o.next (omega (arith, sets.shaped.small))) o.opens.begins;
+              member = exactly_on (begins_of_lem t o.next (omega (arith, sets.shaped.small))) o.opens.begins;
               has = o.opens.after;
             }
 
     -- The entry of position p.
-    entry-marked : {work : List ℕ} → Tailed K (Fits having M) M.cut n longest tails p → Marked K n work (p + 1) → p < length work
+    entry_marked : {work : List ℕ} → Tailed K (Fits having M) M.cut n longest tails p → Marked K n work (p + 1) → p < length work
         → Marked K n (set work p (get_or tails 0 0)) p
-    entry-marked {work} t d room = record {
-      is = λ q x. on-set work p (get_or tails 0 0) room (λ q v. p ≤ q → x < width → Exactly (bit_of v x) (Begins K q x))
-          (λ h k. begins-of t x k) (λ q ne h k. d.is q x (omega arith) k) q;
-      bound = on-set work p (get_or tails 0 0) room (λ q v. p ≤ q → v < 2 ^ n) (λ h. t.bound) (λ q ne h. d.bound q (omega arith));
+    entry_marked {work} t d room = record {
+      is = λ q x. on_set work p (get_or tails 0 0) room (λ q v. p ≤ q → x < width → Exactly (bit_of v x) (Begins K q x))
+          (λ h k. begins_of_lem t x k) (λ q ne h k. d.is q x (omega arith) k) q;
+      bound = on_set work p (get_or tails 0 0) room (λ q v. p ≤ q → v < 2 ^ n) (λ h. t.bound) (λ q ne h. d.bound q (omega arith));
     }
 
   -- At the end a tail is what is not shown of a word that is begun,
-  end-tail : {cut : Bool} (j x : ℕ) → x < width → (cut ≡ true) × (1 ≤ j) × EndsFrom ends longest j x → cut ≡ M.cut → Tail K (Fits having M) M.cut M.end j x
-  end-tail j x k (c, some, e) q =
+  end_tail : {cut : Bool} (j x : ℕ) → x < width → (cut ≡ true) × (1 ≤ j) × EndsFrom ends longest j x → cut ≡ M.cut → Tail K (Fits having M) M.cut M.end j x
+  end_tail j x k (c, some, e) q =
       let size = (sets.ending e.index x k).yes e.here in
       begun {p = M.end} {j = j} {x = x} (sym q ∙ c) (omega arith) some (omega (arith, e.low))
 
-  tail-end : (j x : ℕ) → x < width → Tail K (Fits having M) M.cut M.end j x → (M.cut ≡ true) × (1 ≤ j) × EndsFrom ends longest j x
-  tail-end j x k (last f e c) = absurd (omega (arith, f.inside))
-  tail-end j x k (more f t) = absurd (omega (arith, f.inside))
-  tail-end j x k (begun c e some h) =
+  tail_end : (j x : ℕ) → x < width → Tail K (Fits having M) M.cut M.end j x → (M.cut ≡ true) × (1 ≤ j) × EndsFrom ends longest j x
+  tail_end j x k (last f e c) = absurd (omega (arith, f.inside))
+  tail_end j x k (more f t) = absurd (omega (arith, f.inside))
+  tail_end j x k (begun c e some h) =
       let size = sets.most x in
       let is : length_at lengths x ≡ length_at lengths x - 1 + 1 = omega arith in
-      (c, some, record { index = length_at lengths x - 1; low = omega arith; high = omega arith; here = exactly-on (sets.ending (length_at lengths x - 1) x k) is })
+      (c, some, record { index = length_at lengths x - 1; low = omega arith; high = omega arith; here = exactly_on (sets.ending (length_at lengths x - 1) x k) is })
 
   -- reading is done after any word, and nothing begins.
   right_end : {tails work : List ℕ} → FirstTails ends longest M.cut tails → ((q : ℕ) → M.end ≤ q → get_or work q 0 ≡ 0)
       → Right K (Fits having M) M.cut n longest tails work (2 ^ width - 1) M.end
   right_end {tails} {work} f empty = record {
     tailed = record {
-      is = λ j x k. exactly-iff ((λ e. end-tail j x k e refl), tail-end j x k) (f.is j x);
+      is = λ j x k. exactly_iff ((λ e. end_tail j x k e refl), tail_end j x k) (f.is j x);
       rest = f.rest;
       bound = rw f.none (pow_pos n);
     };
-    goes = record { is = λ y k. rw (bit-all width y k) (exactly-true (record { rest = []; reads = done (omega arith) })) };
+    goes = record { is = λ y k. rw (bit_all width y k) (exactly_true (record { rest = []; reads = done (omega arith) })) };
     marked = record {
-      is = λ q x h k. rw (empty q h, bit-none x) (exactly-false (λ b. omega (arith, (sets-bounded M sets).inside q x b.here)));
+      is = λ q x h k. rw (empty q h, bit_none x) (exactly_false (λ b. omega (arith, (sets_bounded M sets).inside q x b.here)));
       bound = λ q h. rw (empty q h) (pow_pos n);
     };
   }
 
-  right-step : {list tails work new : List ℕ} {block onward more p : ℕ} → p < M.end → BlockOf having M n longest p list block
+  right_step : {list tails work new : List ℕ} {block onward more p : ℕ} → p < M.end → BlockOf having M n longest p list block
       → Right K (Fits having M) M.cut n longest tails work onward (p + 1)
       → Stepped list ends block onward longest tails new → p < length work → UnionOf rows (get_or new 0 0) (length rows) more
       → Right K (Fits having M) M.cut n longest new (set work p (get_or new 0 0)) more p
-  right-step inside b r s room u =
-      let t = step-tailed inside b r.tailed r.goes s in
-      record { tailed = t; goes = union-goes inside t u; marked = entry-marked inside t r.marked room }
+  right_step inside b r s room u =
+      let t = step_tailed inside b r.tailed r.goes s in
+      record { tailed = t; goes = union_goes inside t u; marked = entry_marked inside t r.marked room }
 
 -- The lists do not say the lengths of the words; for all lengths and numbers of words whose sets they are, the three are right.
 pub record RightFor (having ends rows : List ℕ) (longest : ℕ) (M : Places) (tails work : List ℕ) (onward p : ℕ) : Type 0 where
@@ -155,29 +155,29 @@ pub record MarksAll (having ends rows : List ℕ) (longest : ℕ) (M : Places) (
   pub each : (lengths : List ℕ) (n : ℕ) → SetsOf having ends rows lengths n longest → Marked (text having rows lengths n M) n work 0
 
 -- A message has the sets of its symbols.
-pub symbol-block : (having : List ℕ) (cut : Bool) (m : List ℕ) (longest p : ℕ) → p < length m → BlockFor having (symbols_at cut m) longest p having (block_of (get_or m p 0))
-symbol-block having cut m longest p inside = record { each = λ n b. record { is = λ j x h. by j x; bound = b (block_of (get_or m p 0) + 0) } }
+pub symbol_block : (having : List ℕ) (cut : Bool) (m : List ℕ) (longest p : ℕ) → p < length m → BlockFor having (symbols_at cut m) longest p having (block_of (get_or m p 0))
+symbol_block having cut m longest p inside = record { each = λ n b. record { is = λ j x h. by j x; bound = b (block_of (get_or m p 0) + 0) } }
   where
     by : (j x : ℕ) → Exactly (bit_of (having_at having (get_or m p 0) j) x) (Fits having (symbols_at cut m) p j x)
-    by j x = exactly-iff ((λ e. record { inside = inside; symbol = get_or m p 0; lies = refl; here = e }), (λ f. rw f.lies at f.here))
-        (exactly-itself (bit_of (having_at having (get_or m p 0) j) x))
+    by j x = exactly_iff ((λ e. record { inside = inside; symbol = get_or m p 0; lies = refl; here = e }), (λ f. rw f.lies at f.here))
+        (exactly_itself (bit_of (having_at having (get_or m p 0) j) x))
 
 module _ {having ends rows : List ℕ} {longest : ℕ} {M : Places} where
-  pub marks-none : {tails : List ℕ} (work : List ℕ) → FirstTails ends longest M.cut tails → length work ≡ M.end + 1
+  pub marks_none : {tails : List ℕ} (work : List ℕ) → FirstTails ends longest M.cut tails → length work ≡ M.end + 1
       → RightFor having ends rows longest M tails (set work M.end 0) (2 ^ width - 1) M.end
-  marks-none work first long = record { each = λ lengths n sets. right_end M sets first (λ q h. empty q h (ℕ_discrete q M.end)) }
+  marks_none work first long = record { each = λ lengths n sets. right_end M sets first (λ q h. empty q h (ℕ_discrete q M.end)) }
     where
       empty : (q : ℕ) → M.end ≤ q → Dec (q ≡ M.end) → get_or (set work M.end 0) q 0 ≡ 0
       empty q h (yes e) = rw (e, get_or-set_same work M.end 0 0 (omega arith))
       empty q h (no e) = get_or-eq_default (set work M.end 0) 0 (rw length-set (omega arith))
 
-  pub marks-more : {list tails work new : List ℕ} {block onward more p : ℕ} → 0 < p → p ≤ M.end → length work ≡ M.end + 1
+  pub marks_more : {list tails work new : List ℕ} {block onward more p : ℕ} → 0 < p → p ≤ M.end → length work ≡ M.end + 1
       → RightFor having ends rows longest M tails work onward p → BlockFor having M longest (p - 1) list block
       → Stepped list ends block onward longest tails new
       → UnionOf rows (get_or new 0 0) (length rows) more → RightFor having ends rows longest M new (set work (p - 1) (get_or new 0 0)) more (p - 1)
-  marks-more {p = p} some within long r b s u =
+  marks_more {p = p} some within long r b s u =
       let e : p ≡ p - 1 + 1 = omega arith in
-      record { each = λ lengths n sets. right-step M sets (omega arith) (b.each n sets.bound) (rw e at (r.each lengths n sets)) s (omega arith) u }
+      record { each = λ lengths n sets. right_step M sets (omega arith) (b.each n sets.bound) (rw e at (r.each lengths n sets)) s (omega arith) u }
 
-  pub marks-all : {tails work : List ℕ} {onward : ℕ} → RightFor having ends rows longest M tails work onward 0 → MarksAll having ends rows longest M work
-  marks-all r = record { each = λ lengths n sets. (r.each lengths n sets).marked }
+  pub marks_all : {tails work : List ℕ} {onward : ℕ} → RightFor having ends rows longest M tails work onward 0 → MarksAll having ends rows longest M work
+  marks_all r = record { each = λ lengths n sets. (r.each lengths n sets).marked }

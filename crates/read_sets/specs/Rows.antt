@@ -7,10 +7,10 @@ use Rattle.code.specs.declared.Code.{Code}
 use Rattle.code.specs.declared.Row.{Row}
 use Rattle.code.specs.Definitions.Tables.{no_row}
 use Rattle.code.specs.Definitions.Sheets.{limits}
-use Rattle.code.specs.Laws.Cells.{on-push}
-use Rattle.code.specs.Laws.Exactly.{Exactly, exactly-iff, exactly-same, exactly-eq}
-use Rattle.bits.specs.Bits.{bit_of, width, bit-digit}
-use Rattle.bits.specs.Sets.{exactly-join}
+use Rattle.code.specs.Laws.Cells.{on_push}
+use Rattle.code.specs.Laws.Exactly.{Exactly, exactly_iff, exactly_same, exactly_eq}
+use Rattle.bits.specs.Bits.{bit_of, width, bit_digit}
+use Rattle.bits.specs.Sets.{exactly_join}
 
 -- k is the start, which is n, if its mark is 1, or one of the first y words and in the row.
 abbrev pub InRow : (row : Row) (start n y k : ℕ) → Type 0
@@ -20,8 +20,8 @@ InRow row start n y k = ((k ≡ n) × (start ≡ 1)) ⊎ ((k < y) × (get_or row
 pub record RowSet (row : Row) (start n y r : ℕ) : Type 0 where
   pub is : (k : ℕ) → Exactly (bit_of r k) (InRow row start n y k)
 
-pub row-none : (row : Row) (start n : ℕ) → start < 2 → n < width → RowSet row start n 0 (start * 2 ^ n % 2 ^ width)
-row-none row start n d h = record { is = λ k. exactly-iff (inl, back k) (bit-digit start n k d h) }
+pub row_none : (row : Row) (start n : ℕ) → start < 2 → n < width → RowSet row start n 0 (start * 2 ^ n % 2 ^ width)
+row_none row start n d h = record { is = λ k. exactly_iff (inl, back k) (bit_digit start n k d h) }
   where
     back : (k : ℕ) → InRow row start n 0 k → (k ≡ n) × (start ≡ 1)
     back k (inl e) = e
@@ -29,7 +29,7 @@ row-none row start n d h = record { is = λ k. exactly-iff (inl, back k) (bit-di
 
 pub row_more : {row : Row} {start n y r : ℕ} (e : ℕ) → e ≡ get_or row.entries y 0 → e < 2 → y < width → RowSet row start n y r
     → RowSet row start n (y + 1) (bit_or r (e * 2 ^ y % 2 ^ width))
-row_more {row} {start} {n} {y} {r} e q h l s = record { is = λ k. exactly-iff (up k, down k) (exactly-join r (e * 2 ^ y % 2 ^ width) k (s.is k) (bit-digit e y k h l)) }
+row_more {row} {start} {n} {y} {r} e q h l s = record { is = λ k. exactly_iff (up k, down k) (exactly_join r (e * 2 ^ y % 2 ^ width) k (s.is k) (bit_digit e y k h l)) }
   where
     up : (k : ℕ) → InRow row start n y k ⊎ ((k ≡ y) × (e ≡ 1)) → InRow row start n (y + 1) k
     up k (inl (inl a)) = inl a
@@ -45,15 +45,15 @@ row_more {row} {start} {n} {y} {r} e q h l s = record { is = λ k. exactly-iff (
         by (no b) = inl (inr (omega (arith, a.0), a.1))
 
 module _ {row : Row} {start n r : ℕ} (s : RowSet row start n n r) where
-  pub row-entry : (k : ℕ) → k < n → bit_of r k ≡ eqb (get_or row.entries k 0) 1
-  row-entry k h = exactly-same (exactly-iff (up, (λ e. inr (h, e))) (s.is k)) (exactly-eq (get_or row.entries k 0) 1)
+  pub row_entry : (k : ℕ) → k < n → bit_of r k ≡ eqb (get_or row.entries k 0) 1
+  row_entry k h = exactly_same (exactly_iff (up, (λ e. inr (h, e))) (s.is k)) (exactly_eq (get_or row.entries k 0) 1)
     where
       up : InRow row start n n k → get_or row.entries k 0 ≡ 1
       up (inl e) = absurd (omega (arith, e.0))
       up (inr p) = p.1
 
-  pub row-start : bit_of r n ≡ eqb start 1
-  row-start = exactly-same (exactly-iff (up, (λ e. inl (refl, e))) (s.is n)) (exactly-eq start 1)
+  pub row_start_lem : bit_of r n ≡ eqb start 1
+  row_start_lem = exactly_same (exactly_iff (up, (λ e. inl (refl, e))) (s.is n)) (exactly_eq start 1)
     where
       up : InRow row start n n n → start ≡ 1
       up (inl e) = e.1
@@ -71,5 +71,5 @@ pub rows_more : {c : Code} {x v : ℕ} {rows : List ℕ} → LaidRows c x rows �
     → LaidRows c (x + 1) (set rows x v)
 rows_more {c} {x} {v} {rows} l h s = record {
   long = simp length-set l.long;
-  sets = on-push rows x v (omega (arith, l.long)) (λ k r. RowSet (get_or c.rows k no_row) (get_or c.begins k 0) c.count c.count r) s l.sets;
+  sets = on_push rows x v (omega (arith, l.long)) (λ k r. RowSet (get_or c.rows k no_row) (get_or c.begins k 0) c.count c.count r) s l.sets;
 }

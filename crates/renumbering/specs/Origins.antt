@@ -4,7 +4,7 @@ use Rattle.std.proofs.Common.{sym, ap, ◌∙◌, suc-mul, mul-le-mul, add-one, 
 use Rattle.std.proofs.Math.Decide.{dec_lt}
 use Rattle.code.specs.declared.Limits.{Limits}
 use Rattle.ban_theory.specs.Renumbered.{Order}
-use Rattle.renumbering.specs.Listing.{Named, Listed, listed-skip, listed-room, listed-push, listed-all}
+use Rattle.renumbering.specs.Listing.{Named, Listed, listed_skip, listed_room, listed_push, listed_all}
 
 -- The first `originals` of `count` numbers are words, each its own origin; the others are copies, whose origins are words.
 pub record Origins (l : Limits) (origins : List ℕ) (originals count : ℕ) : Type 0 where
@@ -26,12 +26,12 @@ next_multiple : (w a c : ℕ) → c < a → c * w + w ≤ a * w
 next_multiple w a c h = let m : suc c * w ≤ a * w = mul-le-mul h (omega arith) in omega (arith, suc-mul c w)
 
 -- Of two keys in ascending order the first has no greater origin.
-lower-origin : (w a b c d : ℕ) → d ≤ w → a * w + b < c * w + d → Dec (c < a) → a ≤ c
-lower-origin w a b c d h l (yes g) = absurd (omega (arith, next_multiple w a c g))
-lower-origin w a b c d h l (no g) = omega arith
+lower_origin : (w a b c d : ℕ) → d ≤ w → a * w + b < c * w + d → Dec (c < a) → a ≤ c
+lower_origin w a b c d h l (yes g) = absurd (omega (arith, next_multiple w a c g))
+lower_origin w a b c d h l (no g) = omega arith
 
-origin-le : (w a b c d : ℕ) → d ≤ w → a * w + b < c * w + d → a ≤ c
-origin-le w a b c d h l = lower-origin w a b c d h l (dec_lt c a)
+origin_le : (w a b c d : ℕ) → d ≤ w → a * w + b < c * w + d → a ≤ c
+origin_le w a b c d h l = lower_origin w a b c d h l (dec_lt c a)
 
 module _ (l : Limits) (origins : List ℕ) where
   abbrev pub key_of : ℕ → ℕ
@@ -42,66 +42,66 @@ module _ (l : Limits) (origins : List ℕ) where
   ListedTo count z x list at = Listed key_of count (z * l.words + x) list at
 
 module _ {l : Limits} {origins : List ℕ} {originals count : ℕ} (given : Origins l origins originals count) where
-  origin-at : (z r y : ℕ) → y < count → r ≤ l.words → z * l.words ≤ key_of l origins y → key_of l origins y < z * l.words + r → get_or origins y 0 ≡ z
-  origin-at z r y h most above below =
-      let up : get_or origins y 0 ≤ z = origin-le l.words (get_or origins y 0) y z r most below in
-      let down : z ≤ get_or origins y 0 = origin-le l.words z 0 (get_or origins y 0) (y + 1) (omega (arith, given.most)) (omega arith) in
+  origin_at : (z r y : ℕ) → y < count → r ≤ l.words → z * l.words ≤ key_of l origins y → key_of l origins y < z * l.words + r → get_or origins y 0 ≡ z
+  origin_at z r y h most above below =
+      let up : get_or origins y 0 ≤ z = origin_le l.words (get_or origins y 0) y z r most below in
+      let down : z ≤ get_or origins y 0 = origin_le l.words z 0 (get_or origins y 0) (y + 1) (omega (arith, given.most)) (omega arith) in
       omega arith
 
-  known-origin : (y : ℕ) → y < count → Dec (y < originals) → get_or origins y 0 < originals
-  known-origin y h (yes d) = omega (arith, given.word y d)
-  known-origin y h (no d) = given.copy y (omega arith) h
+  known_origin : (y : ℕ) → y < count → Dec (y < originals) → get_or origins y 0 < originals
+  known_origin y h (yes d) = omega (arith, given.word y d)
+  known_origin y h (no d) = given.copy y (omega arith) h
 
   -- Only x has x's key.
   alone : (z x : ℕ) → x < count → (y : ℕ) → y < count → key_of l origins y ≡ z * l.words + x → y ≡ x
   alone z x h y k e =
-      let same : get_or origins y 0 ≡ z = origin-at z (x + 1) y k (omega (arith, given.most)) (omega arith) (omega arith) in
+      let same : get_or origins y 0 ≡ z = origin_at z (x + 1) y k (omega (arith, given.most)) (omega arith) (omega arith) in
       omega (arith, ap (λ (n : ℕ). n * l.words) same)
 
-  key-is : (z x : ℕ) → get_or origins x 0 ≡ z → key_of l origins x ≡ z * l.words + x
-  key-is z x e = ap (λ (n : ℕ). n * l.words + x) e
+  key_is : (z x : ℕ) → get_or origins x 0 ≡ z → key_of l origins x ≡ z * l.words + x
+  key_is z x e = ap (λ (n : ℕ). n * l.words + x) e
 
   module _ (z x : ℕ) {at : ℕ} {list : List ℕ} (listed : ListedTo l origins count z x list at) where
-    pub number-room : x < count → get_or origins x 0 ≡ z → at < count
-    number-room h e = listed-room (key_of l origins) count listed x h (key-is z x e) (alone z x h)
+    pub number_room : x < count → get_or origins x 0 ≡ z → at < count
+    number_room h e = listed_room (key_of l origins) count listed x h (key_is z x e) (alone z x h)
 
-    pub number-listed : x < count → get_or origins x 0 ≡ z → ListedTo l origins count z (x + 1) (set list at x) (at + 1)
-    number-listed h e =
+    pub number_listed : x < count → get_or origins x 0 ≡ z → ListedTo l origins count z (x + 1) (set list at x) (at + 1)
+    number_listed h e =
         let m : z * l.words + x + 1 ≡ z * l.words + (x + 1) = omega arith in
-        rw m at (listed-push (key_of l origins) count listed x h (key-is z x e) (alone z x h))
+        rw m at (listed_push (key_of l origins) count listed x h (key_is z x e) (alone z x h))
 
     -- None of the numbers from x up to m has the origin z.
-    numbers-passed : (m : ℕ) → x ≤ m → m ≤ l.words → ((y : ℕ) → y < count → x ≤ y → y < m → get_or origins y 0 ≡ z → ⊥) → ListedTo l origins count z m list at
-    numbers-passed m h most other =
-        listed-skip (key_of l origins) count listed (z * l.words + m) (omega arith)
+    numbers_passed : (m : ℕ) → x ≤ m → m ≤ l.words → ((y : ℕ) → y < count → x ≤ y → y < m → get_or origins y 0 ≡ z → ⊥) → ListedTo l origins count z m list at
+    numbers_passed m h most other =
+        listed_skip (key_of l origins) count listed (z * l.words + m) (omega arith)
         (λ y k above below.
-        let same : get_or origins y 0 ≡ z = origin-at z m y k most (omega arith) below in
-        let key = key-is z y same in
+        let same : get_or origins y 0 ≡ z = origin_at z m y k most (omega arith) below in
+        let key = key_is z y same in
         other y k (omega arith) (omega arith) same)
 
   pub copy_passed : (z x : ℕ) {at : ℕ} {list : List ℕ} → ListedTo l origins count z x list at → x < count → (get_or origins x 0 ≡ z → ⊥)
       → ListedTo l origins count z (x + 1) list at
   copy_passed z x listed h other =
-      numbers-passed z x listed (x + 1) (omega arith) (omega (arith, given.most))
+      numbers_passed z x listed (x + 1) (omega arith) (omega (arith, given.most))
       (λ y k a b e. let same : y ≡ x = omega arith in other (ap (λ (n : ℕ). get_or origins n 0) (sym same) ∙ e))
 
   -- The word z is listed before its copies.
   module _ (z : ℕ) (h : z < originals) {at : ℕ} {list : List ℕ} (listed : ListedTo l origins count z 0 list at) where
     word_next : ListedTo l origins count z z list at
-    word_next = numbers-passed z 0 listed z (omega arith) (omega (arith, given.most, given.some)) (λ y k a b e. omega (arith, given.word y (omega arith)))
+    word_next = numbers_passed z 0 listed z (omega arith) (omega (arith, given.most, given.some)) (λ y k a b e. omega (arith, given.word y (omega arith)))
 
     pub word_room : at < count
-    word_room = number-room z z word_next (omega (arith, given.some)) (given.word z h)
+    word_room = number_room z z word_next (omega (arith, given.some)) (given.word z h)
 
-    pub word-listed : ListedTo l origins count z originals (set list at z) (at + 1)
-    word-listed =
-        numbers-passed z (z + 1) (number-listed z z word_next (omega (arith, given.some)) (given.word z h)) originals (omega arith)
+    pub word_listed : ListedTo l origins count z originals (set list at z) (at + 1)
+    word_listed =
+        numbers_passed z (z + 1) (number_listed z z word_next (omega (arith, given.some)) (given.word z h)) originals (omega arith)
         (omega (arith, given.most, given.some)) (λ y k a b e. omega (arith, given.word y b))
 
   -- With all its copies listed the next word comes.
-  pub word-done : (z : ℕ) {at : ℕ} {list : List ℕ} → ListedTo l origins count z count list at → ListedTo l origins count (z + 1) 0 list at
-  word-done z listed =
-      let full = numbers-passed z count listed l.words given.most (omega arith) (λ y k a b e. omega arith) in
+  pub word_done : (z : ℕ) {at : ℕ} {list : List ℕ} → ListedTo l origins count z count list at → ListedTo l origins count (z + 1) 0 list at
+  word_done z listed =
+      let full = numbers_passed z count listed l.words given.most (omega arith) (λ y k a b e. omega arith) in
       let m : z * l.words + l.words ≡ (z + 1) * l.words + 0 = omega (arith, suc-mul z l.words, ap (λ (n : ℕ). n * l.words) (add-one z)) in
       rw m at full
 
@@ -109,11 +109,11 @@ module _ {l : Limits} {origins : List ℕ} {originals count : ℕ} (given : Orig
   module _ {z at : ℕ} {list : List ℕ} (listed : ListedTo l origins count z 0 list at) (end : originals ≤ z) where
     all_listed : (y : ℕ) → y < count → key_of l origins y < z * l.words + 0
     all_listed y h =
-        let low : get_or origins y 0 < z = omega (arith, known-origin y h (dec_lt y originals)) in
+        let low : get_or origins y 0 < z = omega (arith, known_origin y h (dec_lt y originals)) in
         omega (arith, next_multiple l.words z (get_or origins y 0) low, given.most)
 
     as_many : at ≡ count
-    as_many = listed-all (key_of l origins) count listed all_listed
+    as_many = listed_all (key_of l origins) count listed all_listed
 
     name : (y : ℕ) → y < count → Named list at y
     name y h = listed.named y h (all_listed y h)
@@ -122,10 +122,10 @@ module _ {l : Limits} {origins : List ℕ} {originals count : ℕ} (given : Orig
     place y (yes h) = (name y h).i
     place y (no h) = 0
 
-    place-known : (y : ℕ) → y < count → (d : Dec (y < count)) → place y d < count
+    place_known : (y : ℕ) → y < count → (d : Dec (y < count)) → place y d < count
     unfolding place
-    place-known y h (yes d) = omega (arith, (name y d).below, as_many)
-    place-known y h (no d) = absurd (d h)
+    place_known y h (yes d) = omega (arith, (name y d).below, as_many)
+    place_known y h (no d) = absurd (d h)
 
     place_is : (y : ℕ) → y < count → (d : Dec (y < count)) → get_or list (place y d) 0 ≡ y
     unfolding place
@@ -135,30 +135,30 @@ module _ {l : Limits} {origins : List ℕ} {originals count : ℕ} (given : Orig
     entry_known : (i : ℕ) → i < count → get_or list i 0 < count
     entry_known i h = listed.known i (omega (arith, as_many))
 
-    key-rises : (i j : ℕ) → i < j → j < count → key_of l origins (get_or list i 0) < key_of l origins (get_or list j 0)
-    key-rises i j h k = listed.rises i j h (omega (arith, as_many))
+    key_rises : (i j : ℕ) → i < j → j < count → key_of l origins (get_or list i 0) < key_of l origins (get_or list j 0)
+    key_rises i j h k = listed.rises i j h (omega (arith, as_many))
 
     once : (i j : ℕ) → i < count → j < count → get_or list i 0 ≡ get_or list j 0 → Dec (i < j) → Dec (j < i) → i ≡ j
-    once i j h k e (yes d) b = absurd (omega (arith, key-rises i j d k, ap (key_of l origins) e))
-    once i j h k e (no d) (yes b) = absurd (omega (arith, key-rises j i b h, ap (key_of l origins) e))
+    once i j h k e (yes d) b = absurd (omega (arith, key_rises i j d k, ap (key_of l origins) e))
+    once i j h k e (no d) (yes b) = absurd (omega (arith, key_rises j i b h, ap (key_of l origins) e))
     once i j h k e (no d) (no b) = omega arith
 
-    pub by-origin : ByOrigin origins count list
-    by-origin = record {
+    pub by_origin_lem : ByOrigin origins count list
+    by_origin_lem = record {
       new = λ y. place y (dec_lt y count);
       order = record {
-        old-known = entry_known;
-        new-known = λ y h. place-known y h (dec_lt y count);
+        old_known = entry_known;
+        new_known = λ y h. place_known y h (dec_lt y count);
         new-old = λ i h.
             let y = get_or list i 0 in
             let known = entry_known i h in
             let p = place y (dec_lt y count) in
-            once p i (place-known y known (dec_lt y count)) h (place_is y known (dec_lt y count)) (dec_lt p i) (dec_lt i p);
+            once p i (place_known y known (dec_lt y count)) h (place_is y known (dec_lt y count)) (dec_lt p i) (dec_lt i p);
         old-new = λ y h. place_is y h (dec_lt y count);
       };
       rises = λ i j h k.
-          origin-le l.words (get_or origins (get_or list i 0) 0) (get_or list i 0) (get_or origins (get_or list j 0) 0) (get_or list j 0)
-          (omega (arith, entry_known j k, given.most)) (key-rises i j h k);
-      ascends = λ i j h k e. omega (arith, key-rises i j h k, ap (λ (n : ℕ). n * l.words) e);
+          origin_le l.words (get_or origins (get_or list i 0) 0) (get_or list i 0) (get_or origins (get_or list j 0) 0) (get_or list j 0)
+          (omega (arith, entry_known j k, given.most)) (key_rises i j h k);
+      ascends = λ i j h k e. omega (arith, key_rises i j h k, ap (λ (n : ℕ). n * l.words) e);
       past = λ i h. listed.past i (omega (arith, as_many));
     }

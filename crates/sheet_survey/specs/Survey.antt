@@ -128,11 +128,11 @@ surveyed n w y a b c d g =
 parts_same : (w : ℕ) {m n y z : ℕ} {a b c d e f h i : Bool} → m ≡ n → y ≡ z → a ≡ b → c ≡ d → e ≡ f → h ≡ i → parts m 0 w y a c e h ≡ parts n 0 w z b d f i
 parts_same w p q r s t u = rw (p, q, r, s, t, u)
 
-later-on : (n w y : ℕ) (a b c d : Bool) (f : List ℕ) (r : List (List ℕ)) (g : List (List (List ℕ)))
+later_on : (n w y : ℕ) (a b c d : Bool) (f : List ℕ) (r : List (List ℕ)) (g : List (List (List ℕ)))
     → ((n y : ℕ) (a b c d : Bool) → survey_records (parts (n + 1) 0 w y a b c d) g ≡ surveyed (n + 1) w y a b c d g)
     → survey_records (parts (n + 1) 0 w y a b c d) ((f ∷ r) ∷ g) ≡ surveyed (n + 1) w y a b c d ((f ∷ r) ∷ g)
 unfolding survey_records end_record any sum
-later-on n w y a b c d f r g ih =
+later_on n w y a b c d f r g ih =
     rw (one (n + 1) w y a b c d f r, ne_eqb (n + 1) 0 (λ e. omega arith))
     (ih (n + 1) (y + length f) (a || bad_word limits (f ∷ r)) (b || other_width w (f ∷ r)) (c || bad_second (f ∷ r)) (d || bad_row 2 (f ∷ r))
     ∙ parts_same w (omega arith) (omega arith) (or_assoc a (bad_word limits (f ∷ r)) (any (bad_word limits) g))
@@ -143,7 +143,7 @@ later : (w : ℕ) {g : List (List (List ℕ))} → Rows g → (n y : ℕ) (a b c
     → survey_records (parts (n + 1) 0 w y a b c d) g ≡ surveyed (n + 1) w y a b c d g
 unfolding survey_records any sum
 later w no_row n y a b c d = rw (add-zero (n + 1), add-zero y, or-false, or-false, or-false, or-false)
-later w (row {f} {r} {g} rs) n y a b c d = later-on n w y a b c d f r g (later w rs)
+later w (row {f} {r} {g} rs) n y a b c d = later_on n w y a b c d f r g (later w rs)
 
 -- The first record gives the width.
 pub first : (f : List ℕ) (r : List (List ℕ)) {g : List (List (List ℕ))} → Rows g → survey_records start ((f ∷ r) ∷ g)

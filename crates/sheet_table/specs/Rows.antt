@@ -4,10 +4,10 @@ use Rattle.std.proofs.Common.{sym, ap, ◌∙◌, true≢false, arith, length-dr
 use mathlib.Core.List.{List, [], ◌∷◌, nil≢cons, head-eq_of_cons-eq, tail-eq_of_cons-eq}
 use Rattle.code.specs.Definitions.Lists.{any}
 use Rattle.code.specs.Definitions.Sheets.{is_digit, bad_entry, records, fields}
-use Rattle.code.specs.Laws.Lists.{or-neither}
-use Rattle.code.specs.Laws.Clean.{Clean, record_fields, records-some, fields-some, record_fields-some}
+use Rattle.code.specs.Laws.Lists.{or_neither}
+use Rattle.code.specs.Laws.Clean.{Clean, record_fields, records_some, fields_some, record_fields_some}
 use Rattle.csv_records.specs.Fields.{leading, leading_at}
-use Rattle.csv_records.specs.Front.{Front, at-end, at-comma, at-line, front}
+use Rattle.csv_records.specs.Front.{Front, at_end, at_comma, at_line, front}
 
 -- after a record: the end of the sheet, or a CR LF and the records g
 pub data After (g : List (List (List ℕ))) : List ℕ → Type 0 where
@@ -27,10 +27,10 @@ single [] e = absurd (true≢false e)
 single (b ∷ []) e = (b, refl)
 single (b ∷ c ∷ f) e = absurd (true≢false (rw (ne_eqb (length (b ∷ c ∷ f)) 1 (λ q. omega arith)) at e))
 
-entries-last : (b : ℕ) (u : List ℕ) (g : List (List (List ℕ))) → is_digit b ≡ true → After g u → Entries (b ∷ u) ((b ∷ []) ∷ []) g
-entries-last b u g d a = record {
+entries_last : (b : ℕ) (u : List ℕ) (g : List (List (List ℕ))) → is_digit b ≡ true → After g u → Entries (b ∷ u) ((b ∷ []) ∷ []) g
+entries_last b u g d a = record {
   bytes = λ y h. first y (omega arith);
-  digits = λ y h. first-digit y (omega arith);
+  digits = λ y h. first_digit y (omega arith);
   long = omega arith;
   after = a;
 }
@@ -38,23 +38,23 @@ entries-last b u g d a = record {
     first : (y : ℕ) → y ≡ 0 → get_or (b ∷ u) (2 * y) 48 ≡ get_or (get_or ((b ∷ []) ∷ []) y []) 0 48
     first y e = rw e
 
-    first-digit : (y : ℕ) → y ≡ 0 → is_digit (get_or (b ∷ u) (2 * y) 48) ≡ true
-    first-digit y e = rw e d
+    first_digit : (y : ℕ) → y ≡ 0 → is_digit (get_or (b ∷ u) (2 * y) 48) ≡ true
+    first_digit y e = rw e d
 
 twice : (y : ℕ) → 2 * suc y ≡ suc (suc (2 * y))
 twice y = omega arith
 
-entries-more : (b : ℕ) (t : List ℕ) (r : List (List ℕ)) (g : List (List (List ℕ))) → is_digit b ≡ true → 1 ≤ length r → Entries t r g
+entries_more : (b : ℕ) (t : List ℕ) (r : List (List ℕ)) (g : List (List (List ℕ))) → is_digit b ≡ true → 1 ≤ length r → Entries t r g
     → Entries (b ∷ 44 ∷ t) ((b ∷ []) ∷ r) g
-entries-more b t r g d h e = record { bytes = bytes_on; digits = digits-on; long = omega (arith, e.long); after = rw gone e.after }
+entries_more b t r g d h e = record { bytes = bytes_on; digits = digits_on; long = omega (arith, e.long); after = rw gone e.after }
   where
     bytes_on : (y : ℕ) → y < suc (length r) → get_or (b ∷ 44 ∷ t) (2 * y) 48 ≡ get_or (get_or ((b ∷ []) ∷ r) y []) 0 48
     bytes_on zero l = refl
     bytes_on (suc y) l = rw (twice y) (e.bytes y (omega arith))
 
-    digits-on : (y : ℕ) → y < suc (length r) → is_digit (get_or (b ∷ 44 ∷ t) (2 * y) 48) ≡ true
-    digits-on zero l = d
-    digits-on (suc y) l = rw (twice y) (e.digits y (omega arith))
+    digits_on : (y : ℕ) → y < suc (length r) → is_digit (get_or (b ∷ 44 ∷ t) (2 * y) 48) ≡ true
+    digits_on zero l = d
+    digits_on (suc y) l = rw (twice y) (e.digits y (omega arith))
 
     gone : 2 * suc (length r) - 1 ≡ suc (suc (2 * length r - 1))
     gone = omega arith
@@ -86,7 +86,7 @@ heads e = let row = head-eq_of_cons-eq e in (head-eq_of_cons-eq row, tail-eq_of_
 first_some : (t : List ℕ) → get_or (record_fields t) 0 [] ≡ [] → ⊥
 first_some t e =
     let l : List ℕ = get_or (records t) 0 [] in
-    let q : get_or (record_fields t) 0 [] ≡ get_or (fields l) 0 [] ∷ drop 1 (fields l) = rw (records-some t) (fields-some l) in
+    let q : get_or (record_fields t) 0 [] ≡ get_or (fields l) 0 [] ∷ drop 1 (fields l) = rw (records_some t) (fields_some l) in
     nil≢cons (sym e ∙ q)
 
 recast : {t u f h : List ℕ} {r : List (List ℕ)} {g : List (List (List ℕ))} → t ≡ u → f ≡ h → Entries u (h ∷ r) g → Entries t (f ∷ r) g
@@ -94,42 +94,42 @@ recast p q e = rw (p, q) e
 
 module _ (f t : List ℕ) (g : List (List (List ℕ))) (good : bad_entry f ≡ false) where
   -- the last entry of a row
-  last_entry-law : {u : List ℕ} → Front (record_fields t) (leading t) u → drop (length (leading t)) t ≡ u → record_fields t ≡ (f ∷ []) ∷ g → Entries t (f ∷ []) g
-  last_entry-law (at-end p) q e =
+  last_entry_lem : {u : List ℕ} → Front (record_fields t) (leading t) u → drop (length (leading t)) t ≡ u → record_fields t ≡ (f ∷ []) ∷ g → Entries t (f ∷ []) g
+  last_entry_lem (at_end p) q e =
       let h = heads (sym e ∙ p) in let b = first_entry f t [] h.0 q good in
-      recast b.same b.is (entries-last b.byte [] g b.digit (over h.2))
-  last_entry-law (at-comma {t = u} c p) q e = absurd (first_some u (sym (heads (sym e ∙ p)).1))
-  last_entry-law (at-line {t = u} c p) q e =
+      recast b.same b.is (entries_last b.byte [] g b.digit (over h.2))
+  last_entry_lem (at_comma {t = u} c p) q e = absurd (first_some u (sym (heads (sym e ∙ p)).1))
+  last_entry_lem (at_line {t = u} c p) q e =
       let h = heads (sym e ∙ p) in let b = first_entry f t (13 ∷ 10 ∷ u) h.0 q good in
-      recast b.same b.is (entries-last b.byte (13 ∷ 10 ∷ u) g b.digit (down c (sym h.2)))
+      recast b.same b.is (entries_last b.byte (13 ∷ 10 ∷ u) g b.digit (down c (sym h.2)))
 
   -- an entry with another after it
-  next-entry : (h : List ℕ) (r : List (List ℕ)) → ((u : List ℕ) → Clean u → record_fields u ≡ (h ∷ r) ∷ g → Entries u (h ∷ r) g)
+  next_entry : (h : List ℕ) (r : List (List ℕ)) → ((u : List ℕ) → Clean u → record_fields u ≡ (h ∷ r) ∷ g → Entries u (h ∷ r) g)
       → {u : List ℕ} → Front (record_fields t) (leading t) u → drop (length (leading t)) t ≡ u → record_fields t ≡ (f ∷ h ∷ r) ∷ g → Entries t (f ∷ h ∷ r) g
-  next-entry h r rest (at-end p) q e = absurd (nil≢cons (sym (heads (sym e ∙ p)).1))
-  next-entry h r rest (at-comma {t = u} c p) q e =
+  next_entry h r rest (at_end p) q e = absurd (nil≢cons (sym (heads (sym e ∙ p)).1))
+  next_entry h r rest (at_comma {t = u} c p) q e =
       let k = heads (sym e ∙ p) in let b = first_entry f t (44 ∷ u) k.0 q good in
-      let s : record_fields u ≡ (h ∷ r) ∷ g = record_fields-some u ∙ rw (← k.1, ← k.2) in
-      recast b.same b.is (entries-more b.byte u (h ∷ r) g b.digit (omega arith) (rest u c s))
-  next-entry h r rest (at-line c p) q e = absurd (nil≢cons (sym (heads (sym e ∙ p)).1))
+      let s : record_fields u ≡ (h ∷ r) ∷ g = record_fields_some u ∙ rw (← k.1, ← k.2) in
+      recast b.same b.is (entries_more b.byte u (h ∷ r) g b.digit (omega arith) (rest u c s))
+  next_entry h r rest (at_line c p) q e = absurd (nil≢cons (sym (heads (sym e ∙ p)).1))
 
-entries-on : (r : List (List ℕ)) (f t : List ℕ) (g : List (List (List ℕ))) → Clean t → record_fields t ≡ (f ∷ r) ∷ g → any bad_entry (f ∷ r) ≡ false
+entries_on : (r : List (List ℕ)) (f t : List ℕ) (g : List (List (List ℕ))) → Clean t → record_fields t ≡ (f ∷ r) ∷ g → any bad_entry (f ∷ r) ≡ false
     → Entries t (f ∷ r) g
 unfolding any
-entries-on [] f t g c e o = last_entry-law f t g (or-neither (bad_entry f) false o).0 (front c) refl e
-entries-on (h ∷ r) f t g c e o =
-    let n = or-neither (bad_entry f) (bad_entry h || any bad_entry r) o in
-    next-entry f t g n.0 h r (λ u k q. entries-on r h u g k q n.1) (front c) refl e
+entries_on [] f t g c e o = last_entry_lem f t g (or_neither (bad_entry f) false o).0 (front c) refl e
+entries_on (h ∷ r) f t g c e o =
+    let n = or_neither (bad_entry f) (bad_entry h || any bad_entry r) o in
+    next_entry f t g n.0 h r (λ u k q. entries_on r h u g k q n.1) (front c) refl e
 
 -- The entries of a good row stand where they should.
-pub row-entries : (r : List (List ℕ)) (t : List ℕ) (g : List (List (List ℕ))) → Clean t → record_fields t ≡ r ∷ g → 1 ≤ length r → any bad_entry r ≡ false
+pub row_entries : (r : List (List ℕ)) (t : List ℕ) (g : List (List (List ℕ))) → Clean t → record_fields t ≡ r ∷ g → 1 ≤ length r → any bad_entry r ≡ false
     → Entries t r g
-row-entries [] t g c e h o = absurd (omega arith)
-row-entries (f ∷ r) t g c e h o = entries-on r f t g c e o
+row_entries [] t g c e h o = absurd (omega arith)
+row_entries (f ∷ r) t g c e h o = entries_on r f t g c e o
 
 -- The entries after the first stand two bytes further.
-pub entries-rest : (t : List ℕ) (f : List ℕ) (r : List (List ℕ)) (g : List (List (List ℕ))) → Entries t (f ∷ r) g → 1 ≤ length r → Entries (drop 2 t) r g
-entries-rest t f r g e h = record {
+pub entries_rest : (t : List ℕ) (f : List ℕ) (r : List (List ℕ)) (g : List (List (List ℕ))) → Entries t (f ∷ r) g → 1 ≤ length r → Entries (drop 2 t) r g
+entries_rest t f r g e h = record {
   bytes = λ y l. rw (at y) (e.bytes (suc y) (omega arith));
   digits = λ y l. rw (at y) (e.digits (suc y) (omega arith));
   long = omega (arith, e.long, length-drop 2 t);

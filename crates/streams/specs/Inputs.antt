@@ -23,11 +23,11 @@ Within most (Broken e) = Unit
 abbrev pub most_interruptions : ℕ
 most_interruptions = 1000000
 
-pub got-within : {most n : ℕ} {s : Step} → s ≡ Got n → Within most s → (1 ≤ n) × (n ≤ most)
-got-within e w = rw e at w
+pub got_within : {most n : ℕ} {s : Step} → s ≡ Got n → Within most s → (1 ≤ n) × (n ≤ most)
+got_within e w = rw e at w
 
 pub counts : (n : ℕ) (b : List ℕ) → n ≤ length b → IsPrefixLen n b
 counts n b h = (h, sym (length-take-le n b h))
 
-pub holds-bytes : (b : List ℕ) {n : ℕ} {i : Input} → i ≡ Bytes n → Holds b i → IsPrefixLen n b
-holds-bytes b e h = rw e at h
+pub holds_bytes : (b : List ℕ) {n : ℕ} {i : Input} → i ≡ Bytes n → Holds b i → IsPrefixLen n b
+holds_bytes b e h = rw e at h

@@ -27,9 +27,9 @@ classes_given named sheet = if named then taken_classes limits sheet else record
 
 -- What is printed for a text by what the two sheets give. The refusal of the code sheet comes first, then that of the class sheet, then that of the text.
 pub data Answer (t : Taken) (k : TakenClasses) (text : List ℕ) : List ℕ → Type 0 where
-  sheet-refused : {r : Refusal} → t.answer ≡ Refused r → Answer t k text (refused_record r)
-  classes-refused : {r : Refusal} → t.answer ≡ Accepted → k.answer ≡ Refused r → Answer t k text (refused_record r)
-  text-refused : t.answer ≡ Accepted → k.answer ≡ Accepted → limits.text < length text → Answer t k text (refused_record MessageLength)
+  sheet_refused : {r : Refusal} → t.answer ≡ Refused r → Answer t k text (refused_record r)
+  classes_refused : {r : Refusal} → t.answer ≡ Accepted → k.answer ≡ Refused r → Answer t k text (refused_record r)
+  text_refused : t.answer ≡ Accepted → k.answer ≡ Accepted → limits.text < length text → Answer t k text (refused_record MessageLength)
   output : {o : List ℕ} → t.answer ≡ Accepted → k.answer ≡ Accepted → length text ≤ limits.text → Splits (table_of t.code) k.classes.entries text o
       → Answer t k text o
 
@@ -61,7 +61,7 @@ Answers named sheet lettered class_sheet text o o' r = Shown (code_given named s
 -- refused, however long it is.
 pub record AnswersInput (named : Bool) (file : List ℕ) (k : ℕ) (lettered : Bool) (class_file : List ℕ) (j : ℕ) (input : List ℕ) (n : ℕ) (o o' : List ℕ) (r : ℕ) : Type 0 where
   pub answers : Answers named (take k file) lettered (take j class_file) (take n input) o o' r
-  pub sheet-full : named ≡ true → k ≡ length file → answers.bytes ≡ refused_record SheetLength
-  pub classes-full : (code_given named (take k file)).answer ≡ Accepted → lettered ≡ true → j ≡ length class_file → answers.bytes ≡ refused_record SheetLength
+  pub sheet_full : named ≡ true → k ≡ length file → answers.bytes ≡ refused_record SheetLength
+  pub classes_full : (code_given named (take k file)).answer ≡ Accepted → lettered ≡ true → j ≡ length class_file → answers.bytes ≡ refused_record SheetLength
   pub full : (code_given named (take k file)).answer ≡ Accepted → (classes_given lettered (take j class_file)).answer ≡ Accepted → n ≡ length input
       → answers.bytes ≡ refused_record MessageLength

@@ -4,7 +4,7 @@ use Rattle.std.proofs.Common.{sym, ap, ◌∙◌, arith, add-one, take-append-dr
 use Rattle.std.proofs.lemmas.List.{length-map}
 use Rattle.code.specs.Definitions.Lists.{sum}
 use Rattle.code.specs.Definitions.Texts.{syllables}
-use Rattle.code.specs.Laws.Lists.{map_at, sum-append}
+use Rattle.code.specs.Laws.Lists.{map_at, sum_append}
 
 -- The lengths of the words of a reading, by a list that has the length of each word.
 abbrev pub lengths_in : List ℕ → List ℕ → List ℕ
@@ -14,31 +14,31 @@ lengths_in lengths r = map (λ x. get_or lengths x 0) r
 abbrev pub begins : List ℕ → ℕ → ℕ
 begins l i = sum (take i l)
 
-pub begins-first : (l : List ℕ) → 0 ≡ begins l 0
+pub begins_first : (l : List ℕ) → 0 ≡ begins l 0
 unfolding sum
-begins-first l = refl
+begins_first l = refl
 
-pub begins-next : (l : List ℕ) (i : ℕ) → i < length l → begins l (i + 1) ≡ begins l i + get_or l i 0
+pub begins_next : (l : List ℕ) (i : ℕ) → i < length l → begins l (i + 1) ≡ begins l i + get_or l i 0
 unfolding sum
-begins-next l i h = rw (add-one, take-suc l i 0 h) (sum-append (take i l) (get_or l i 0 ∷ []) ∙ omega arith)
+begins_next l i h = rw (add-one, take-suc l i 0 h) (sum_append (take i l) (get_or l i 0 ∷ []) ∙ omega arith)
 
-pub begins-most : (l : List ℕ) (i : ℕ) → begins l i ≤ sum l
-begins-most l i = omega (arith, sym (ap sum (take-append-drop i l)) ∙ sum-append (take i l) (drop i l))
+pub begins_most : (l : List ℕ) (i : ℕ) → begins l i ≤ sum l
+begins_most l i = omega (arith, sym (ap sum (take-append-drop i l)) ∙ sum_append (take i l) (drop i l))
 
-pub syllables-count : (l w : List ℕ) → length (syllables l w) ≡ length l
+pub syllables_count : (l w : List ℕ) → length (syllables l w) ≡ length l
 unfolding syllables
-syllables-count [] w = refl
-syllables-count (n ∷ l) w = ap suc (syllables-count l (drop n w))
+syllables_count [] w = refl
+syllables_count (n ∷ l) w = ap suc (syllables_count l (drop n w))
 
-pub syllable-at : (l w : List ℕ) (i : ℕ) → i < length l → get_or (syllables l w) i [] ≡ take (get_or l i 0) (drop (begins l i) w)
+pub syllable_at : (l w : List ℕ) (i : ℕ) → i < length l → get_or (syllables l w) i [] ≡ take (get_or l i 0) (drop (begins l i) w)
 unfolding syllables sum
-syllable-at [] w i h = absurd (omega arith)
-syllable-at (n ∷ l) w zero h = refl
-syllable-at (n ∷ l) w (suc i) h = syllable-at l (drop n w) i (omega arith) ∙ ap (take (get_or l i 0)) (drop-drop (begins l i) n w)
+syllable_at [] w i h = absurd (omega arith)
+syllable_at (n ∷ l) w zero h = refl
+syllable_at (n ∷ l) w (suc i) h = syllable_at l (drop n w) i (omega arith) ∙ ap (take (get_or l i 0)) (drop-drop (begins l i) n w)
 
 module _ (lengths r : List ℕ) where
-  pub lengths-count : length (lengths_in lengths r) ≡ length r
-  lengths-count = length-map r (λ x. get_or lengths x 0)
+  pub lengths_count : length (lengths_in lengths r) ≡ length r
+  lengths_count = length-map r (λ x. get_or lengths x 0)
 
   pub length_at : (i : ℕ) → i < length r → get_or (lengths_in lengths r) i 0 ≡ get_or lengths (get_or r i 0) 0
   length_at i h = map_at (λ x. get_or lengths x 0) r i 0 0 h

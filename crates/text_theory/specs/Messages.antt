@@ -7,8 +7,8 @@ use Rattle.code.specs.Definitions.Lists.{every, join}
 use Rattle.code.specs.Definitions.Readings.{Reads, OnlyReading}
 use Rattle.code.specs.Definitions.Tables.{Table, word}
 use Rattle.code.specs.Definitions.Texts.{is_letter, run, rest, symbols_in, syllable_break, syllables, lengths_of, Shows, split, Splits, end, shown}
-use Rattle.text_theory.specs.Runs.{none, run-until}
-use Rattle.text_theory.specs.Syllables.{syllables-spell}
+use Rattle.text_theory.specs.Runs.{none, run_until}
+use Rattle.text_theory.specs.Syllables.{syllables_spell}
 
 -- The output is the syllables with breaks between them, and each syllable spells the word of the sequence that stands there.
 pub record Between (t : Table) (classes w s : List ℕ) : Type 0 where
@@ -17,10 +17,10 @@ pub record Between (t : Table) (classes w s : List ℕ) : Type 0 where
 
 module _ {t : Table} (classes : List ℕ) where
   -- A text of letters alone is one word.
-  pub word-splits : (a : ℕ) (w p : List ℕ) → every (is_letter classes) (a ∷ w) ≡ true → Shows t classes (a ∷ w) p → Splits t classes (a ∷ w) p
+  pub word_splits : (a : ℕ) (w p : List ℕ) → every (is_letter classes) (a ∷ w) ≡ true → Shows t classes (a ∷ w) p → Splits t classes (a ∷ w) p
   unfolding every
-  word-splits a w p l h =
-      let u = run-until classes (a ∷ w) [] l none in
+  word_splits a w p l h =
+      let u = run_until classes (a ∷ w) [] l none in
       let alone : (a ∷ w) ++ [] ≡ a ∷ w = append-nil (a ∷ w) in
       let runs : run classes (a ∷ w) ≡ a ∷ w = rw alone at u.0 in
       let rests : rest classes (a ∷ w) ≡ [] = rw alone at u.1 in
@@ -29,10 +29,10 @@ module _ {t : Table} (classes : List ℕ) where
       let letter = ((and-eq-true_iff (is_letter classes a) (every (is_letter classes) w)).0 l).0 in
       rw append-nil at (shown letter here behind)
 
-  pub reading-splits : (w : List ℕ) {s r : List ℕ} → 1 ≤ length w → every (is_letter classes) w ≡ true → Reads t (symbols_in classes w) s
+  pub reading_splits : (w : List ℕ) {s r : List ℕ} → 1 ≤ length w → every (is_letter classes) w ≡ true → Reads t (symbols_in classes w) s
       → OnlyReading t (symbols_in classes w) r → Between t classes w s
-  reading-splits [] h l d o = absurd (omega arith)
-  reading-splits (a ∷ w) {s} h l d o =
+  reading_splits [] h l d o = absurd (omega arith)
+  reading_splits (a ∷ w) {s} h l d o =
       let same = o.only s d in
       let only : OnlyReading t (symbols_in classes (a ∷ w)) s = rw same o in
-      record { splits = word-splits a w _ l (split only); spell = syllables-spell t classes s (a ∷ w) (sym d.joined) }
+      record { splits = word_splits a w _ l (split only); spell = syllables_spell t classes s (a ∷ w) (sym d.joined) }

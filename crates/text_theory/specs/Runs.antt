@@ -14,8 +14,8 @@ module _ (classes : List ℕ) where
     none : Apart []
     other : {a : ℕ} {s : List ℕ} → is_letter classes a ≡ false → Apart (a ∷ s)
 
-  pub letter-apart : {a : ℕ} {s : List ℕ} → is_letter classes a ≡ true → Apart (a ∷ s) → ⊥
-  letter-apart h (other k) = false≢true (sym k ∙ h)
+  pub letter_apart : {a : ℕ} {s : List ℕ} → is_letter classes a ≡ true → Apart (a ∷ s) → ⊥
+  letter_apart h (other k) = false≢true (sym k ∙ h)
 
   pub run-rest : (s : List ℕ) → run classes s ++ rest classes s ≡ s
   unfolding run rest
@@ -26,32 +26,32 @@ module _ (classes : List ℕ) where
       by true e = ap (◌∷◌ a) e
       by false e = refl
 
-  pub rest-apart : (s : List ℕ) → Apart (rest classes s)
+  pub rest_apart : (s : List ℕ) → Apart (rest classes s)
   unfolding rest
-  rest-apart [] = none
-  rest-apart (a ∷ s) = by (is_letter classes a) refl (rest-apart s)
+  rest_apart [] = none
+  rest_apart (a ∷ s) = by (is_letter classes a) refl (rest_apart s)
     where
       by : (t : Bool) → is_letter classes a ≡ t → Apart (rest classes s) → Apart (if t then rest classes s else a ∷ s)
       by true e r = r
       by false e r = other e
 
   -- A run that begins with a letter is not empty.
-  pub run-some : (a : ℕ) (s : List ℕ) → is_letter classes a ≡ true → 1 ≤ length (run classes (a ∷ s))
+  pub run_some : (a : ℕ) (s : List ℕ) → is_letter classes a ≡ true → 1 ≤ length (run classes (a ∷ s))
   unfolding run
-  run-some a s h = rw h (omega arith)
+  run_some a s h = rw h (omega arith)
 
   -- Behind the run that a letter begins, less is left.
-  pub rest-shorter : (a : ℕ) (s : List ℕ) → is_letter classes a ≡ true → length (rest classes (a ∷ s)) ≤ length s
-  rest-shorter a s h =
+  pub rest_shorter : (a : ℕ) (s : List ℕ) → is_letter classes a ≡ true → length (rest classes (a ∷ s)) ≤ length s
+  rest_shorter a s h =
       omega
-      (arith, run-some a s h, length-append (run classes (a ∷ s)) (rest classes (a ∷ s)), ap length (run-rest (a ∷ s)))
+      (arith, run_some a s h, length-append (run classes (a ∷ s)) (rest classes (a ∷ s)), ap length (run-rest (a ∷ s)))
 
   -- Letters, and then the end or another byte: these letters are the run.
-  pub run-until : (w s : List ℕ) → every (is_letter classes) w ≡ true → Apart s → (run classes (w ++ s) ≡ w) × (rest classes (w ++ s) ≡ s)
+  pub run_until : (w s : List ℕ) → every (is_letter classes) w ≡ true → Apart s → (run classes (w ++ s) ≡ w) × (rest classes (w ++ s) ≡ s)
   unfolding run rest every
-  run-until [] [] e a = (refl, refl)
-  run-until [] (b ∷ s) e (other h) = (rw h, rw h)
-  run-until (b ∷ w) s e a = by (is_letter classes b) refl e (run-until w s)
+  run_until [] [] e a = (refl, refl)
+  run_until [] (b ∷ s) e (other h) = (rw h, rw h)
+  run_until (b ∷ w) s e a = by (is_letter classes b) refl e (run_until w s)
     where
       by : (t : Bool) → is_letter classes b ≡ t → every (is_letter classes) (b ∷ w) ≡ true
           → (every (is_letter classes) w ≡ true → Apart s → (run classes (w ++ s) ≡ w) × (rest classes (w ++ s) ≡ s))

@@ -21,8 +21,8 @@ those f [] = []
 those f (a ∷ s) = if f a then a ∷ those f s else those f s
 
 -- A test that no sign passes finds the same bytes in text and output.
-pub signs-those : (f : ℕ → Bool) → ((b : ℕ) → is_sign b ≡ true → f b ≡ false) → {s o : List ℕ} → WithSigns s o → those f o ≡ those f s
+pub signs_those : (f : ℕ → Bool) → ((b : ℕ) → is_sign b ≡ true → f b ≡ false) → {s o : List ℕ} → WithSigns s o → those f o ≡ those f s
 unfolding those
-signs-those f m nothing = refl
-signs-those f m (kept d) = rw (signs-those f m d)
-signs-those f m (put {b} h d) = rw (m b h) (signs-those f m d)
+signs_those f m nothing = refl
+signs_those f m (kept d) = rw (signs_those f m d)
+signs_those f m (put {b} h d) = rw (m b h) (signs_those f m d)

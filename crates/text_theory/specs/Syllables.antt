@@ -10,7 +10,7 @@ use Rattle.code.specs.Definitions.Lists.{sum, join}
 use Rattle.code.specs.Definitions.Readings.{Reads}
 use Rattle.code.specs.Definitions.Tables.{Table, word, message}
 use Rattle.code.specs.Definitions.Texts.{class_of, symbols_in, syllables, lengths_of}
-use Rattle.code.specs.Laws.Sequences.{NonEmpty, linked-within, permitted-linked, words-most}
+use Rattle.code.specs.Laws.Sequences.{NonEmpty, linked_within, permitted_linked, words_most}
 
 pub map-take : (f : ℕ → ℕ) (n : ℕ) (l : List ℕ) → map f (take n l) ≡ take n (map f l)
 map-take f zero l = refl
@@ -23,23 +23,23 @@ map-drop f (suc n) [] = refl
 map-drop f (suc n) (a ∷ l) = map-drop f n l
 
 -- what the syllables behind the first have
-pub behind-first : (n : ℕ) (l w : List ℕ) → length w ≡ sum (n ∷ l) → length (drop n w) ≡ sum l
+pub behind_first : (n : ℕ) (l w : List ℕ) → length w ≡ sum (n ∷ l) → length (drop n w) ≡ sum l
 unfolding sum
-behind-first n l w e = rw length-drop (omega (arith, e))
+behind_first n l w e = rw length-drop (omega (arith, e))
 
-first-long : (n : ℕ) (l w : List ℕ) → length w ≡ sum (n ∷ l) → length (take n w) ≡ n
+first_long : (n : ℕ) (l w : List ℕ) → length w ≡ sum (n ∷ l) → length (take n w) ≡ n
 unfolding sum
-first-long n l w e = length-take-le n w (omega (arith, e))
+first_long n l w e = length-take-le n w (omega (arith, e))
 
 -- Joined with a byte between them, they take that many bytes more.
 pub joined_length : (b : ℕ) (l w : List ℕ) → length w ≡ sum l → 1 ≤ length l → length (join (b ∷ []) (syllables l w)) + 1 ≡ length w + length l
 unfolding join syllables sum
 joined_length b [] w e h = absurd (omega arith)
-joined_length b (n ∷ []) w e h = omega (arith, first-long n [] w e)
+joined_length b (n ∷ []) w e h = omega (arith, first_long n [] w e)
 joined_length b (n ∷ k ∷ l) w e h =
     let rest = join (b ∷ []) (syllables (k ∷ l) (drop n w)) in
-    let behind = behind-first n (k ∷ l) w e in
-    omega (arith, first-long n (k ∷ l) w e, behind, length-append (take n w) (b ∷ rest), joined_length b (k ∷ l) (drop n w) behind (omega arith))
+    let behind = behind_first n (k ∷ l) w e in
+    omega (arith, first_long n (k ∷ l) w e, behind, length-append (take n w) (b ∷ rest), joined_length b (k ∷ l) (drop n w) behind (omega arith))
 
 module _ (t : Table) where
   pub message-sum : (r : List ℕ) → length (message t r) ≡ sum (lengths_of t r)
@@ -49,20 +49,20 @@ module _ (t : Table) where
 
   module _ (classes w : List ℕ) {r : List ℕ} (d : Reads t (symbols_in classes w) r) where
     -- The words of a reading are as long as what is read,
-    pub reads-length : length w ≡ sum (lengths_of t r)
-    reads-length = sym (ap length d.joined ∙ length-map w (class_of classes)) ∙ message-sum r
+    pub reads_length : length w ≡ sum (lengths_of t r)
+    reads_length = sym (ap length d.joined ∙ length-map w (class_of classes)) ∙ message-sum r
 
     -- and there are no more of them than it has letters.
-    pub reads-count : NonEmpty t → length r ≤ length w
-    reads-count some =
-        omega (arith, words-most t some r (linked-within (permitted-linked d.permitted)), ap length d.joined, length-map w (class_of classes))
+    pub reads_count : NonEmpty t → length r ≤ length w
+    reads_count some =
+        omega (arith, words_most t some r (linked_within (permitted_linked d.permitted)), ap length d.joined, length-map w (class_of classes))
 
   -- Each syllable spells its word.
-  pub syllables-spell : (classes r w : List ℕ) → symbols_in classes w ≡ message t r → map (symbols_in classes) (syllables (lengths_of t r) w) ≡ map (word t) r
+  pub syllables_spell : (classes r w : List ℕ) → symbols_in classes w ≡ message t r → map (symbols_in classes) (syllables (lengths_of t r) w) ≡ map (word t) r
   unfolding syllables
-  syllables-spell classes [] w e = refl
-  syllables-spell classes (x ∷ r) w e =
+  syllables_spell classes [] w e = refl
+  syllables_spell classes (x ∷ r) w e =
       let n = length (word t x) in
       let front : symbols_in classes (take n w) ≡ word t x = map-take (class_of classes) n w ∙ rw (e, take-append_seam (word t x) (message t r)) in
       let behind : symbols_in classes (drop n w) ≡ message t r = map-drop (class_of classes) n w ∙ rw (e, drop-append_seam (word t x) (message t r)) in
-      rw (front, syllables-spell classes r (drop n w) behind)
+      rw (front, syllables_spell classes r (drop n w) behind)

@@ -5,7 +5,7 @@ use Rattle.code.specs.declared.WordCount.{WordCount}
 use Rattle.code.specs.Definitions.Readings.{NoReading, OnlyReading, TwoReadings}
 use Rattle.code.specs.Definitions.Tables.{Table}
 use Rattle.code.specs.Laws.Buffers.{take-written}
-use Rattle.code.specs.Laws.Readings.{first-two-readings}
+use Rattle.code.specs.Laws.Readings.{first_two_readings}
 use Rattle.read_walks.specs.declared.Found.{Found}
 use Rattle.read_core.specs.Core.{Finds, unreadable, one, two}
 use Rattle.text_syllables.specs.declared.Kind.{Kind}
@@ -23,9 +23,9 @@ pub data IsOfKind (t : Table) (m f : List ℕ) : Kind → Type 0 where
   several : TwoReadings t m → IsOfKind t m f Several
 
 -- What reading finds says the kind.
-pub found-kind : {t : Table} {m f g f' g' : List ℕ} {r : Found} → Finds t m f g f' g' r → IsOfKind t m f' (kind_of r)
-found-kind (unreadable n p q) = none n
-found-kind {t} {m} {f} {f' = f'} (one {c} {s} o e p q) =
+pub found_kind : {t : Table} {m f g f' g' : List ℕ} {r : Found} → Finds t m f g f' g' r → IsOfKind t m f' (kind_of r)
+found_kind (unreadable n p q) = none n
+found_kind {t} {m} {f} {f' = f'} (one {c} {s} o e p q) =
     let only : OnlyReading t m (take c.0 f') = rw (take-written c.0 s f f' e p) o in
     split {c = c} (omega (arith, e, ap length p, length-append s (drop (length s) f))) only
-found-kind (two o c d p q) = several (first-two-readings o)
+found_kind (two o c d p q) = several (first_two_readings o)

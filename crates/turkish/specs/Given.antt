@@ -22,9 +22,9 @@ twelve_sheet =
     ++ (49 ∷ 49 ∷ 48 ∷ 49 ∷ 49 ∷ 44 ∷ 48 ∷ 44 ∷ 48 ∷ 44 ∷ 49 ∷ 44 ∷ 49 ∷ 44 ∷ 49 ∷ 44 ∷ 49 ∷ 44 ∷ 48 ∷ 44 ∷ 49 ∷ 44 ∷ 48 ∷ 44 ∷ 49 ∷ 44 ∷ 49 ∷ 44 ∷ 49 ∷ 13 ∷ 10 ∷ [])
     ++ (49 ∷ 48 ∷ 49 ∷ 49 ∷ 49 ∷ 44 ∷ 49 ∷ 44 ∷ 49 ∷ 44 ∷ 49 ∷ 44 ∷ 49 ∷ 44 ∷ 49 ∷ 44 ∷ 49 ∷ 44 ∷ 49 ∷ 44 ∷ 49 ∷ 44 ∷ 49 ∷ 44 ∷ 49 ∷ 44 ∷ 49 ∷ 44 ∷ 49 ∷ 13 ∷ 10 ∷ [])
 
-pub twelve-given : taken limits twelve_sheet ≡ record { answer = Accepted; code = code_of_types limits types }
+pub twelve_given : taken limits twelve_sheet ≡ record { answer = Accepted; code = code_of_types limits types }
 unfolding taken taken_grid grid body records fields bad_bytes any every sum tabulate code_of padded code_of_types
-twelve-given = refl
+twelve_given = refl
 
 -- sheets/turkish-six.csv, the code of 01's case 11
 abbrev pub six_sheet : List ℕ
@@ -37,6 +37,6 @@ six_sheet =
     ++ (49 ∷ 48 ∷ 49 ∷ 49 ∷ 44 ∷ 49 ∷ 44 ∷ 49 ∷ 44 ∷ 49 ∷ 44 ∷ 49 ∷ 44 ∷ 49 ∷ 44 ∷ 49 ∷ 13 ∷ 10 ∷ [])
 
 -- Source 000: "The first six syllable types (types A-F) are syllable types of proper Turkish language." The same rules give their matrix.
-pub six-given : taken limits six_sheet ≡ record { answer = Accepted; code = code_of_types limits (take 6 types) }
+pub six_given : taken limits six_sheet ≡ record { answer = Accepted; code = code_of_types limits (take 6 types) }
 unfolding taken taken_grid grid body records fields bad_bytes any every sum tabulate code_of padded code_of_types
-six-given = refl
+six_given = refl

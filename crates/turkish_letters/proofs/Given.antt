@@ -2,7 +2,7 @@
 use Rattle.code.specs.Definitions.ClassSheets.{FromClassSheet}
 use Rattle.code.specs.Definitions.Sheets.{limits}
 use Rattle.turkish_letters.specs.Letters.{turkish_classes}
-use Rattle.turkish_letters.specs.Given.{turkish_class_sheet, turkish-given}
+use Rattle.turkish_letters.specs.Given.{turkish_class_sheet, turkish_given}
 
-pub turkish-from-sheet : FromClassSheet limits (record { entries = turkish_classes })
-turkish-from-sheet = record { sheet = turkish_class_sheet; gives = turkish-given }
+pub turkish_from_sheet : FromClassSheet limits (record { entries = turkish_classes })
+turkish_from_sheet = record { sheet = turkish_class_sheet; gives = turkish_given }

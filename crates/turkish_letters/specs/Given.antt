@@ -45,6 +45,6 @@ turkish_class_sheet =
     ++ (70 ∷ 69 ∷ 44 ∷ 70 ∷ 69 ∷ 44 ∷ 49 ∷ 13 ∷ 10 ∷ [])
 
 -- 02, request 5: "The Turkish sheet must give CR 4's results": it gives the same table.
-pub turkish-given : taken_classes limits turkish_class_sheet ≡ record { answer = Accepted; classes = record { entries = turkish_classes } }
+pub turkish_given : taken_classes limits turkish_class_sheet ≡ record { answer = Accepted; classes = record { entries = turkish_classes } }
 unfolding taken_classes ranges_of malformed takes_sign refused18 refused19 all_bytes takers refused20 class_by classes_of any every tabulate body records fields grid bad_bytes turkish_classes
-turkish-given = refl
+turkish_given = refl

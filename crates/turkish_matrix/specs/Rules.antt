@@ -13,36 +13,36 @@ pub record Spelt (w : Word) : Type 0 where
   pub array : length w.symbols ≡ limits.symbols
 
 module _ {w : Word} (s : Spelt w) where
-  pub symbols-long : length (symbols_of w) ≡ w.len
-  symbols-long = length-take-le w.len w.symbols (omega (arith, s.fits, s.array))
+  pub symbols_long : length (symbols_of w) ≡ w.len
+  symbols_long = length-take-le w.len w.symbols (omega (arith, s.fits, s.array))
 
   -- the place of the last symbol
-  last-at : (a : ℕ) → stands_at (symbols_of w) (w.len - 1) a ≡ stands_at (symbols_of w) (length (symbols_of w) - 1) a
-  last-at a = ap (λ (n : ℕ). stands_at (symbols_of w) (n - 1) a) (sym symbols-long)
+  last_at : (a : ℕ) → stands_at (symbols_of w) (w.len - 1) a ≡ stands_at (symbols_of w) (length (symbols_of w) - 1) a
+  last_at a = ap (λ (n : ℕ). stands_at (symbols_of w) (n - 1) a) (sym symbols_long)
 
   module _ (k a : ℕ) where
-    pub stands-within : k < w.len → eqb (get_or w.symbols k 0) a ≡ stands_at (symbols_of w) k a
-    stands-within h = rw (lt-ltb k (length (symbols_of w)) (omega (arith, symbols-long)), get_or-take w.len w.symbols k 0 h)
+    pub stands_within : k < w.len → eqb (get_or w.symbols k 0) a ≡ stands_at (symbols_of w) k a
+    stands_within h = rw (lt-ltb k (length (symbols_of w)) (omega (arith, symbols_long)), get_or-take w.len w.symbols k 0 h)
 
-    pub stands-past : w.len ≤ k → false ≡ stands_at (symbols_of w) k a
-    stands-past h = rw (le-ltb k (length (symbols_of w)) (omega (arith, symbols-long)))
+    pub stands_past : w.len ≤ k → false ≡ stands_at (symbols_of w) k a
+    stands_past h = rw (le-ltb k (length (symbols_of w)) (omega (arith, symbols_long)))
 
 -- The rules, by what is asked of the two words
 module _ (x y : Word) (s : Spelt y) {a b r : Bool} where
-  pub vowel-rule-is : a ≡ stands_at (symbols_of x) 0 vowel → b ≡ stands_at (symbols_of y) (y.len - 1) consonant → r ≡ (a && b) → r ≡ vowel_rule (symbols_of x) (symbols_of y)
-  vowel-rule-is p q e = let l = q ∙ last-at s consonant in e ∙ rw (p, l)
+  pub vowel_rule_is : a ≡ stands_at (symbols_of x) 0 vowel → b ≡ stands_at (symbols_of y) (y.len - 1) consonant → r ≡ (a && b) → r ≡ vowel_rule (symbols_of x) (symbols_of y)
+  vowel_rule_is p q e = let l = q ∙ last_at s consonant in e ∙ rw (p, l)
 
-  pub consonant-rule-is : {c d : Bool} → a ≡ stands_at (symbols_of x) 0 consonant → b ≡ stands_at (symbols_of x) 1 consonant → c ≡ stands_at (symbols_of y) (y.len - 1) vowel
+  pub consonant_rule_is : {c d : Bool} → a ≡ stands_at (symbols_of x) 0 consonant → b ≡ stands_at (symbols_of x) 1 consonant → c ≡ stands_at (symbols_of y) (y.len - 1) vowel
       → d ≡ (a && b) → r ≡ (d && c) → r ≡ consonant_rule (symbols_of x) (symbols_of y)
-  consonant-rule-is p q l m e = let last = l ∙ last-at s vowel in e ∙ rw (m, p, q, last)
+  consonant_rule_is p q l m e = let last = l ∙ last_at s vowel in e ∙ rw (m, p, q, last)
 
 -- The entry, by what the two rules say
 module _ (x y : List ℕ) {a b r : Bool} (p : a ≡ vowel_rule x y) (q : b ≡ consonant_rule x y) (e : r ≡ (a || b)) where
-  either-forbids : r ≡ forbids x y
-  either-forbids = e ∙ rw (p, q)
+  either_forbids : r ≡ forbids x y
+  either_forbids = e ∙ rw (p, q)
 
   pub entry_zero : r ≡ true → 0 ≡ entry_for x y
-  entry_zero t = let f = sym either-forbids ∙ t in rw f
+  entry_zero t = let f = sym either_forbids ∙ t in rw f
 
-  pub entry-one : r ≡ false → 1 ≡ entry_for x y
-  entry-one t = let f = sym either-forbids ∙ t in rw f
+  pub entry_one : r ≡ false → 1 ≡ entry_for x y
+  entry_one t = let f = sym either_forbids ∙ t in rw f

@@ -31,6 +31,6 @@ expected_twelve = ambiguous message_twelve first_twelve second_twelve
 abbrev pub expected_six : Expected
 expected_six = delay 5
 
-pub both-checked : (check_table (table_of twelve) expected_twelve && check_table (table_of six) expected_six) ≡ true
+pub both_checked : (check_table (table_of twelve) expected_twelve && check_table (table_of six) expected_six) ≡ true
 unfolding check_table tabulate padded code_of_types
-both-checked = refl
+both_checked = refl

@@ -1,5 +1,5 @@
 -- Each contract of an operation leaves one answer only: for the same input and the same buffers at entry, any two answers that meet it are equal, and so is what
--- each buffer then holds. Enlarging by a ban list has its theorem beside its meaning: `enlarges-unique`, ban_meaning/specs/Answered.antt.
+-- each buffer then holds. Enlarging by a ban list has its theorem beside its meaning: `enlarges_unique`, ban_meaning/specs/Answered.antt.
 use Rattle.std.specs.Prelude.{◌≡◌, refl, List, ℕ, length}
 use Rattle.std.proofs.Common.{sym, ap, ap₂, ◌∙◌}
 use Rattle.code.specs.declared.Enlarged.{Enlarged}
@@ -26,51 +26,51 @@ use Rattle.code.specs.Definitions.Enlarged.{original_table}
 use Rattle.code.specs.Definitions.NextWords.{naming_conditions, foretelling_conditions, NamesNext}
 use Rattle.code.specs.Definitions.Operations.{written, Shown, encoding_conditions, reading_conditions, verdict_conditions, Encodes, ReadsMessage, Judges}
 use Rattle.code.specs.Definitions.Splitting.{splitting_conditions, SplitsText}
-use Rattle.code.specs.Laws.Conditions.{lowest-unique, lowest-none}
-use Rattle.code.proofs.Laws.NextWords.{foretells-unique}
-use Rattle.code.specs.Laws.Readings.{decipherable-not-ambiguous, ambiguous-unique, only-reading-unique, first-two-unique, none-not-only, none-not-two, only-not-two}
-use Rattle.code.proofs.Laws.Verdicts.{verdict-unique}
-use Rattle.text_theory.specs.Unique.{splits-unique}
+use Rattle.code.specs.Laws.Conditions.{lowest_unique, lowest_none}
+use Rattle.code.proofs.Laws.NextWords.{foretells_unique}
+use Rattle.code.specs.Laws.Readings.{decipherable_not_ambiguous, ambiguous_unique, only_reading_unique, first_two_unique, none_not_only, none_not_two, only_not_two}
+use Rattle.code.proofs.Laws.Verdicts.{verdict_unique}
+use Rattle.text_theory.specs.Unique.{splits_unique}
 
-symbol-count : (a b : SymbolCount) → a.0 ≡ b.0 → a ≡ b
-symbol-count a b p = λ i. record { 0 = p i }
+symbol_count : (a b : SymbolCount) → a.0 ≡ b.0 → a ≡ b
+symbol_count a b p = λ i. record { 0 = p i }
 
 word_count : (a b : WordCount) → a.0 ≡ b.0 → a ≡ b
 word_count a b p = λ i. record { 0 = p i }
 
-byte-count : (a b : ByteCount) → a.0 ≡ b.0 → a ≡ b
-byte-count a b p = λ i. record { 0 = p i }
+byte_count : (a b : ByteCount) → a.0 ≡ b.0 → a ≡ b
+byte_count a b p = λ i. record { 0 = p i }
 
 module _ (l : Limits) (e : Enlarged) where
   -- Encoding: the message buffer, and the answer
-  pub encodes-unique : {s b c d : List ℕ} {x y : Encoding} → Encodes l e s b c x → Encodes l e s b d y → (c ≡ d) × (x ≡ y)
-  encodes-unique {s} {b} (Encodes.refused {r} h k) (Encodes.refused {r = q} i j) = (k ∙ sym j, ap Not-encoded (lowest-unique (encoding_conditions l e s b) r q h i))
-  encodes-unique {s} {b} (Encodes.refused {r} h k) (Encodes.encoded i j o) = absurd (lowest-none (encoding_conditions l e s b) r h i)
-  encodes-unique {s} {b} (Encodes.encoded h k o) (Encodes.refused {r = q} i j) = absurd (lowest-none (encoding_conditions l e s b) q i h)
-  encodes-unique {s} {b} (Encodes.encoded {n} h k o) (Encodes.encoded {n = m} i j p) = (o ∙ sym p, ap Encoded (symbol-count n m (k ∙ sym j)))
+  pub encodes_unique : {s b c d : List ℕ} {x y : Encoding} → Encodes l e s b c x → Encodes l e s b d y → (c ≡ d) × (x ≡ y)
+  encodes_unique {s} {b} (Encodes.refused {r} h k) (Encodes.refused {r = q} i j) = (k ∙ sym j, ap Not-encoded (lowest_unique (encoding_conditions l e s b) r q h i))
+  encodes_unique {s} {b} (Encodes.refused {r} h k) (Encodes.encoded i j o) = absurd (lowest_none (encoding_conditions l e s b) r h i)
+  encodes_unique {s} {b} (Encodes.encoded h k o) (Encodes.refused {r = q} i j) = absurd (lowest_none (encoding_conditions l e s b) q i h)
+  encodes_unique {s} {b} (Encodes.encoded {n} h k o) (Encodes.encoded {n = m} i j p) = (o ∙ sym p, ap Encoded (symbol_count n m (k ∙ sym j)))
 
   -- Reading: the two buffers for readings, the working buffer, and the answer
-  pub reads-unique : {m f g w f1 g1 w1 f2 g2 w2 : List ℕ} {x y : Reading} → ReadsMessage l e m f g w f1 g1 w1 x → ReadsMessage l e m f g w f2 g2 w2 y
+  pub reads_unique : {m f g w f1 g1 w1 f2 g2 w2 : List ℕ} {x y : Reading} → ReadsMessage l e m f g w f1 g1 w1 x → ReadsMessage l e m f g w f2 g2 w2 y
       → (f1 ≡ f2) × (g1 ≡ g2) × (w1 ≡ w2) × (x ≡ y)
-  reads-unique {m} {f} {g} {w} (ReadsMessage.refused {r} h a b c) (ReadsMessage.refused {r = q} i a' b' c') = (a ∙ sym a', b ∙ sym b', c ∙ sym c', ap Not-read (lowest-unique (reading_conditions l e m f g w) r q h i))
-  reads-unique {m} {f} {g} {w} (ReadsMessage.refused {r} h a b c) (ReadsMessage.unreadable i n a' b' c') = absurd (lowest-none (reading_conditions l e m f g w) r h i)
-  reads-unique {m} {f} {g} {w} (ReadsMessage.refused {r} h a b c) (ReadsMessage.one i o k a' b' c') = absurd (lowest-none (reading_conditions l e m f g w) r h i)
-  reads-unique {m} {f} {g} {w} (ReadsMessage.refused {r} h a b c) (ReadsMessage.two i o k k' a' b' c') = absurd (lowest-none (reading_conditions l e m f g w) r h i)
-  reads-unique {m} {f} {g} {w} (ReadsMessage.unreadable h n a b c) (ReadsMessage.refused {r = q} i a' b' c') = absurd (lowest-none (reading_conditions l e m f g w) q i h)
-  reads-unique {m} {f} {g} {w} (ReadsMessage.unreadable h n a b c) (ReadsMessage.unreadable i n' a' b' c') = (a ∙ sym a', b ∙ sym b', c ∙ sym c', refl)
-  reads-unique {m} {f} {g} {w} (ReadsMessage.unreadable h n a b c) (ReadsMessage.one i o k a' b' c') = absurd (none-not-only n o)
-  reads-unique {m} {f} {g} {w} (ReadsMessage.unreadable h n a b c) (ReadsMessage.two i o k k' a' b' c') = absurd (none-not-two n o)
-  reads-unique {m} {f} {g} {w} (ReadsMessage.one h o k a b c) (ReadsMessage.refused {r = q} i a' b' c') = absurd (lowest-none (reading_conditions l e m f g w) q i h)
-  reads-unique {m} {f} {g} {w} (ReadsMessage.one h o k a b c) (ReadsMessage.unreadable i n a' b' c') = absurd (none-not-only n o)
-  reads-unique {m} {f} {g} {w} (ReadsMessage.one {n} h o k a b c) (ReadsMessage.one {n = n'} i o' k' a' b' c') =
-      let u = only-reading-unique o o' in
+  reads_unique {m} {f} {g} {w} (ReadsMessage.refused {r} h a b c) (ReadsMessage.refused {r = q} i a' b' c') = (a ∙ sym a', b ∙ sym b', c ∙ sym c', ap Not-read (lowest_unique (reading_conditions l e m f g w) r q h i))
+  reads_unique {m} {f} {g} {w} (ReadsMessage.refused {r} h a b c) (ReadsMessage.unreadable i n a' b' c') = absurd (lowest_none (reading_conditions l e m f g w) r h i)
+  reads_unique {m} {f} {g} {w} (ReadsMessage.refused {r} h a b c) (ReadsMessage.one i o k a' b' c') = absurd (lowest_none (reading_conditions l e m f g w) r h i)
+  reads_unique {m} {f} {g} {w} (ReadsMessage.refused {r} h a b c) (ReadsMessage.two i o k k' a' b' c') = absurd (lowest_none (reading_conditions l e m f g w) r h i)
+  reads_unique {m} {f} {g} {w} (ReadsMessage.unreadable h n a b c) (ReadsMessage.refused {r = q} i a' b' c') = absurd (lowest_none (reading_conditions l e m f g w) q i h)
+  reads_unique {m} {f} {g} {w} (ReadsMessage.unreadable h n a b c) (ReadsMessage.unreadable i n' a' b' c') = (a ∙ sym a', b ∙ sym b', c ∙ sym c', refl)
+  reads_unique {m} {f} {g} {w} (ReadsMessage.unreadable h n a b c) (ReadsMessage.one i o k a' b' c') = absurd (none_not_only n o)
+  reads_unique {m} {f} {g} {w} (ReadsMessage.unreadable h n a b c) (ReadsMessage.two i o k k' a' b' c') = absurd (none_not_two n o)
+  reads_unique {m} {f} {g} {w} (ReadsMessage.one h o k a b c) (ReadsMessage.refused {r = q} i a' b' c') = absurd (lowest_none (reading_conditions l e m f g w) q i h)
+  reads_unique {m} {f} {g} {w} (ReadsMessage.one h o k a b c) (ReadsMessage.unreadable i n a' b' c') = absurd (none_not_only n o)
+  reads_unique {m} {f} {g} {w} (ReadsMessage.one {n} h o k a b c) (ReadsMessage.one {n = n'} i o' k' a' b' c') =
+      let u = only_reading_unique o o' in
       (a ∙ ap (λ (z : List ℕ). written z f) u ∙ sym a', b ∙ sym b', c ∙ sym c', ap One (word_count n n' (k ∙ ap length u ∙ sym k')))
-  reads-unique {m} {f} {g} {w} (ReadsMessage.one h o k a b c) (ReadsMessage.two i o' k' k'' a' b' c') = absurd (only-not-two o o')
-  reads-unique {m} {f} {g} {w} (ReadsMessage.two h o k k' a b c) (ReadsMessage.refused {r = q} i a' b' c') = absurd (lowest-none (reading_conditions l e m f g w) q i h)
-  reads-unique {m} {f} {g} {w} (ReadsMessage.two h o k k' a b c) (ReadsMessage.unreadable i n a' b' c') = absurd (none-not-two n o)
-  reads-unique {m} {f} {g} {w} (ReadsMessage.two h o k k' a b c) (ReadsMessage.one i o' j a' b' c') = absurd (only-not-two o' o)
-  reads-unique {m} {f} {g} {w} (ReadsMessage.two {n} {k = p} h o k k' a b c) (ReadsMessage.two {n = n'} {k = p'} i o' j j' a' b' c') =
-      let u = first-two-unique o o' in (
+  reads_unique {m} {f} {g} {w} (ReadsMessage.one h o k a b c) (ReadsMessage.two i o' k' k'' a' b' c') = absurd (only_not_two o o')
+  reads_unique {m} {f} {g} {w} (ReadsMessage.two h o k k' a b c) (ReadsMessage.refused {r = q} i a' b' c') = absurd (lowest_none (reading_conditions l e m f g w) q i h)
+  reads_unique {m} {f} {g} {w} (ReadsMessage.two h o k k' a b c) (ReadsMessage.unreadable i n a' b' c') = absurd (none_not_two n o)
+  reads_unique {m} {f} {g} {w} (ReadsMessage.two h o k k' a b c) (ReadsMessage.one i o' j a' b' c') = absurd (only_not_two o' o)
+  reads_unique {m} {f} {g} {w} (ReadsMessage.two {n} {k = p} h o k k' a b c) (ReadsMessage.two {n = n'} {k = p'} i o' j j' a' b' c') =
+      let u = first_two_unique o o' in (
         a ∙ ap (λ (z : List ℕ). written z f) u.0 ∙ sym a',
         b ∙ ap (λ (z : List ℕ). written z g) u.1 ∙ sym b',
         c ∙ sym c',
@@ -79,55 +79,55 @@ module _ (l : Limits) (e : Enlarged) where
 
   module _ (t : Table) (m f g m1 f1 g1 m2 f2 g2 x s u x' s' u' : List ℕ) where
     -- what the three buffers of a verdict show
-    shown-unique : (v w : Verdict) → VerdictMeans t x s u v → VerdictMeans t x' s' u' w → Shown m f g m1 f1 g1 x s u v → Shown m f g m2 f2 g2 x' s' u' w
+    shown_unique : (v w : Verdict) → VerdictMeans t x s u v → VerdictMeans t x' s' u' w → Shown m f g m1 f1 g1 x s u v → Shown m f g m2 f2 g2 x' s' u' w
         → (m1 ≡ m2) × (f1 ≡ f2) × (g1 ≡ g2)
-    shown-unique (Two-ways a b c) (Two-ways d i j) p q y z =
-        let r = ambiguous-unique p.0 q.0 in (
+    shown_unique (Two-ways a b c) (Two-ways d i j) p q y z =
+        let r = ambiguous_unique p.0 q.0 in (
           y.0 ∙ ap (λ (n : List ℕ). written n m) r.0 ∙ sym z.0,
           y.1 ∙ ap (λ (n : List ℕ). written n f) r.1 ∙ sym z.1,
           y.2 ∙ ap (λ (n : List ℕ). written n g) r.2 ∙ sym z.2,
         )
-    shown-unique (Two-ways a b c) (Finite d) p q y z = absurd (decipherable-not-ambiguous p.0 q.0)
-    shown-unique (Two-ways a b c) Unbounded p q y z = absurd (decipherable-not-ambiguous p.0 q.0)
-    shown-unique (Finite d) (Two-ways a b c) p q y z = absurd (decipherable-not-ambiguous q.0 p.0)
-    shown-unique Unbounded (Two-ways a b c) p q y z = absurd (decipherable-not-ambiguous q.0 p.0)
-    shown-unique (Finite d) (Finite i) p q y z = (y.0 ∙ sym z.0, y.1 ∙ sym z.1, y.2 ∙ sym z.2)
-    shown-unique (Finite d) Unbounded p q y z = (y.0 ∙ sym z.0, y.1 ∙ sym z.1, y.2 ∙ sym z.2)
-    shown-unique Unbounded (Finite i) p q y z = (y.0 ∙ sym z.0, y.1 ∙ sym z.1, y.2 ∙ sym z.2)
-    shown-unique Unbounded Unbounded p q y z = (y.0 ∙ sym z.0, y.1 ∙ sym z.1, y.2 ∙ sym z.2)
+    shown_unique (Two-ways a b c) (Finite d) p q y z = absurd (decipherable_not_ambiguous p.0 q.0)
+    shown_unique (Two-ways a b c) Unbounded p q y z = absurd (decipherable_not_ambiguous p.0 q.0)
+    shown_unique (Finite d) (Two-ways a b c) p q y z = absurd (decipherable_not_ambiguous q.0 p.0)
+    shown_unique Unbounded (Two-ways a b c) p q y z = absurd (decipherable_not_ambiguous q.0 p.0)
+    shown_unique (Finite d) (Finite i) p q y z = (y.0 ∙ sym z.0, y.1 ∙ sym z.1, y.2 ∙ sym z.2)
+    shown_unique (Finite d) Unbounded p q y z = (y.0 ∙ sym z.0, y.1 ∙ sym z.1, y.2 ∙ sym z.2)
+    shown_unique Unbounded (Finite i) p q y z = (y.0 ∙ sym z.0, y.1 ∙ sym z.1, y.2 ∙ sym z.2)
+    shown_unique Unbounded Unbounded p q y z = (y.0 ∙ sym z.0, y.1 ∙ sym z.1, y.2 ∙ sym z.2)
 
   -- The verdict: the message buffer, the two for readings, the working buffer, and the answer
-  pub judges-unique : {m f g w m1 f1 g1 w1 m2 f2 g2 w2 : List ℕ} {x y : Judgement} → Judges l e m f g w m1 f1 g1 w1 x → Judges l e m f g w m2 f2 g2 w2 y
+  pub judges_unique : {m f g w m1 f1 g1 w1 m2 f2 g2 w2 : List ℕ} {x y : Judgement} → Judges l e m f g w m1 f1 g1 w1 x → Judges l e m f g w m2 f2 g2 w2 y
       → ((m1 ≡ m2) × (f1 ≡ f2) × (g1 ≡ g2)) × (w1 ≡ w2) × (x ≡ y)
-  judges-unique {m} {f} {g} {w} (Judges.refused {r} h a b c d) (Judges.refused {r = q} i a' b' c' d') =
-      ((a ∙ sym a', b ∙ sym b', c ∙ sym c'), d ∙ sym d', ap Not-judged (lowest-unique (verdict_conditions l e m f g w) r q h i))
-  judges-unique {m} {f} {g} {w} (Judges.refused {r} h a b c d) (Judges.judged x s u i v k z) = absurd (lowest-none (verdict_conditions l e m f g w) r h i)
-  judges-unique {m} {f} {g} {w} (Judges.judged x s u h v k z) (Judges.refused {r = q} i a' b' c' d') = absurd (lowest-none (verdict_conditions l e m f g w) q i h)
-  judges-unique {m} {f} {g} {w} {m1} {f1} {g1} {w1} {m2} {f2} {g2} {w2} (Judges.judged {v} x s u h means shown z) (Judges.judged {v = v'} x' s' u' i means' shown' z') = (
-    shown-unique (original_table e) m f g m1 f1 g1 m2 f2 g2 x s u x' s' u' v v' means means' shown shown',
+  judges_unique {m} {f} {g} {w} (Judges.refused {r} h a b c d) (Judges.refused {r = q} i a' b' c' d') =
+      ((a ∙ sym a', b ∙ sym b', c ∙ sym c'), d ∙ sym d', ap Not-judged (lowest_unique (verdict_conditions l e m f g w) r q h i))
+  judges_unique {m} {f} {g} {w} (Judges.refused {r} h a b c d) (Judges.judged x s u i v k z) = absurd (lowest_none (verdict_conditions l e m f g w) r h i)
+  judges_unique {m} {f} {g} {w} (Judges.judged x s u h v k z) (Judges.refused {r = q} i a' b' c' d') = absurd (lowest_none (verdict_conditions l e m f g w) q i h)
+  judges_unique {m} {f} {g} {w} {m1} {f1} {g1} {w1} {m2} {f2} {g2} {w2} (Judges.judged {v} x s u h means shown z) (Judges.judged {v = v'} x' s' u' i means' shown' z') = (
+    shown_unique (original_table e) m f g m1 f1 g1 m2 f2 g2 x s u x' s' u' v v' means means' shown shown',
     z ∙ sym z',
-    ap Judged (verdict-unique (original_table e) x s u x' s' u' v v' means means'),
+    ap Judged (verdict_unique (original_table e) x s u x' s' u' v v' means means'),
   )
 
   -- Naming the next word: the working buffer, and the answer
-  pub names-unique : {m w w1 w2 : List ℕ} {x y : Naming} → NamesNext l e m w w1 x → NamesNext l e m w w2 y → (w1 ≡ w2) × (x ≡ y)
-  names-unique {m} {w} (NamesNext.refused {r} h a) (NamesNext.refused {r = q} i b) = (a ∙ sym b, ap Not-named (lowest-unique (naming_conditions l e m w) r q h i))
-  names-unique {m} {w} (NamesNext.refused {r} h a) (NamesNext.unnamed i f b) = absurd (lowest-none (naming_conditions l e m w) r h i)
-  names-unique {m} {w} (NamesNext.refused {r} h a) (NamesNext.named i n f b) = absurd (lowest-none (naming_conditions l e m w) r h i)
-  names-unique {m} {w} (NamesNext.unnamed h f a) (NamesNext.refused {r = q} i b) = absurd (lowest-none (naming_conditions l e m w) q i h)
-  names-unique {m} (NamesNext.unnamed {r} h f a) (NamesNext.unnamed {r = q} i g b) = (a ∙ sym b, ap Not-named (lowest-unique (foretelling_conditions l e m) r q f g))
-  names-unique {m} (NamesNext.unnamed {r} h f a) (NamesNext.named i n g b) = absurd (lowest-none (foretelling_conditions l e m) r f n)
-  names-unique {m} {w} (NamesNext.named h n f a) (NamesNext.refused {r = q} i b) = absurd (lowest-none (naming_conditions l e m w) q i h)
-  names-unique {m} (NamesNext.named h n f a) (NamesNext.unnamed {r = q} i g b) = absurd (lowest-none (foretelling_conditions l e m) q g n)
-  names-unique (NamesNext.named h n f a) (NamesNext.named i k g b) = (a ∙ sym b, ap Named (foretells-unique f g))
+  pub names_unique : {m w w1 w2 : List ℕ} {x y : Naming} → NamesNext l e m w w1 x → NamesNext l e m w w2 y → (w1 ≡ w2) × (x ≡ y)
+  names_unique {m} {w} (NamesNext.refused {r} h a) (NamesNext.refused {r = q} i b) = (a ∙ sym b, ap Not-named (lowest_unique (naming_conditions l e m w) r q h i))
+  names_unique {m} {w} (NamesNext.refused {r} h a) (NamesNext.unnamed i f b) = absurd (lowest_none (naming_conditions l e m w) r h i)
+  names_unique {m} {w} (NamesNext.refused {r} h a) (NamesNext.named i n f b) = absurd (lowest_none (naming_conditions l e m w) r h i)
+  names_unique {m} {w} (NamesNext.unnamed h f a) (NamesNext.refused {r = q} i b) = absurd (lowest_none (naming_conditions l e m w) q i h)
+  names_unique {m} (NamesNext.unnamed {r} h f a) (NamesNext.unnamed {r = q} i g b) = (a ∙ sym b, ap Not-named (lowest_unique (foretelling_conditions l e m) r q f g))
+  names_unique {m} (NamesNext.unnamed {r} h f a) (NamesNext.named i n g b) = absurd (lowest_none (foretelling_conditions l e m) r f n)
+  names_unique {m} {w} (NamesNext.named h n f a) (NamesNext.refused {r = q} i b) = absurd (lowest_none (naming_conditions l e m w) q i h)
+  names_unique {m} (NamesNext.named h n f a) (NamesNext.unnamed {r = q} i g b) = absurd (lowest_none (foretelling_conditions l e m) q g n)
+  names_unique (NamesNext.named h n f a) (NamesNext.named i k g b) = (a ∙ sym b, ap Named (foretells_unique f g))
 
   -- Splitting a text: the output, message and reading buffers, the working buffer, and the answer
-  pub splits-text-unique : {classes : Classes} {s b m f g w b1 m1 f1 g1 w1 b2 m2 f2 g2 w2 : List ℕ} {x y : Splitting} → SplitsText l e classes s b m f g w b1 m1 f1 g1 w1 x
+  pub splits_text_unique : {classes : Classes} {s b m f g w b1 m1 f1 g1 w1 b2 m2 f2 g2 w2 : List ℕ} {x y : Splitting} → SplitsText l e classes s b m f g w b1 m1 f1 g1 w1 x
       → SplitsText l e classes s b m f g w b2 m2 f2 g2 w2 y → (b1 ≡ b2) × (m1 ≡ m2) × (f1 ≡ f2) × (g1 ≡ g2) × (w1 ≡ w2) × (x ≡ y)
-  splits-text-unique {classes} {s} {b} {m} {f} {g} {w} (SplitsText.refused {r} h a mm c d k) (SplitsText.refused {r = q} i a' mm' c' d' k') =
-      (a ∙ sym a', mm ∙ sym mm', c ∙ sym c', d ∙ sym d', k ∙ sym k', ap Not-split (lowest-unique (splitting_conditions l e classes s b m f g w) r q h i))
-  splits-text-unique {classes} {s} {b} {m} {f} {g} {w} (SplitsText.refused {r} h a mm c d k) (SplitsText.split i o j a' b' c' d' k') = absurd (lowest-none (splitting_conditions l e classes s b m f g w) r h i)
-  splits-text-unique {classes} {s} {b} {m} {f} {g} {w} (SplitsText.split h o j a mm c d k) (SplitsText.refused {r = q} i a' b' c' d' k') = absurd (lowest-none (splitting_conditions l e classes s b m f g w) q i h)
-  splits-text-unique {classes} {s} {b} {m} {f} {g} {w} (SplitsText.split {n} h o j a mm c d k) (SplitsText.split {n = n'} i o' j' a' mm' c' d' k') =
-      let u = splits-unique o o' in
-      (a ∙ ap (λ (z : List ℕ). written z b) u ∙ sym a', mm ∙ sym mm', c ∙ sym c', d ∙ sym d', k ∙ sym k', ap Split (byte-count n n' (j ∙ ap length u ∙ sym j')))
+  splits_text_unique {classes} {s} {b} {m} {f} {g} {w} (SplitsText.refused {r} h a mm c d k) (SplitsText.refused {r = q} i a' mm' c' d' k') =
+      (a ∙ sym a', mm ∙ sym mm', c ∙ sym c', d ∙ sym d', k ∙ sym k', ap Not-split (lowest_unique (splitting_conditions l e classes s b m f g w) r q h i))
+  splits_text_unique {classes} {s} {b} {m} {f} {g} {w} (SplitsText.refused {r} h a mm c d k) (SplitsText.split i o j a' b' c' d' k') = absurd (lowest_none (splitting_conditions l e classes s b m f g w) r h i)
+  splits_text_unique {classes} {s} {b} {m} {f} {g} {w} (SplitsText.split h o j a mm c d k) (SplitsText.refused {r = q} i a' b' c' d' k') = absurd (lowest_none (splitting_conditions l e classes s b m f g w) q i h)
+  splits_text_unique {classes} {s} {b} {m} {f} {g} {w} (SplitsText.split {n} h o j a mm c d k) (SplitsText.split {n = n'} i o' j' a' mm' c' d' k') =
+      let u = splits_unique o o' in
+      (a ∙ ap (λ (z : List ℕ). written z b) u ∙ sym a', mm ∙ sym mm', c ∙ sym c', d ∙ sym d', k ∙ sym k', ap Split (byte_count n n' (j ∙ ap length u ∙ sym j')))

@@ -19,8 +19,8 @@ output_room = 35 + verdict_room limits + 4 * (verdict_room limits + verdict_room
 
 -- What a sheet and a ban list give: a refused sheet its refusal, whatever the list is; an accepted one what enlarging its table by the list gives.
 pub data Gives (sheet list : List ℕ) (x : Enlargement) : Type 0 where
-  sheet-refused : {r : Refusal} → (taken limits sheet).answer ≡ Refused r → x ≡ record { answer = Refused r; enlarged = plain_of limits (taken limits sheet).code } → Gives sheet list x
-  sheet-accepted : (taken limits sheet).answer ≡ Accepted → Enlarges limits (plain_of limits (taken limits sheet).code) list x → Gives sheet list x
+  sheet_refused : {r : Refusal} → (taken limits sheet).answer ≡ Refused r → x ≡ record { answer = Refused r; enlarged = plain_of limits (taken limits sheet).code } → Gives sheet list x
+  sheet_accepted : (taken limits sheet).answer ≡ Accepted → Enlarges limits (plain_of limits (taken limits sheet).code) list x → Gives sheet list x
 
 -- A judgement is right for what is given: it is the refusal; or the verdict on the table of original words with its bans, with x the ambiguous message and s, u its
 -- first two readings.

@@ -22,19 +22,19 @@ use Rattle.well_formed.specs.Given.{well}
 use Rattle.csv_records.specs.Digits.{digit_of}
 use Rattle.pair_places.specs.Codes.{code_fits}
 use Rattle.cases.specs.Banned.{check_with}
-use Rattle.cases.proofs.Banned.{sound-with}
+use Rattle.cases.proofs.Banned.{sound_with}
 use Rattle.cases.specs.Cases.{delay}
 use Rattle.cases.specs.Enumeration.{readings}
 use Rattle.cases.specs.Messages.{least_is}
-use Rattle.cases.proofs.Messages.{ambiguous-means}
-use Rattle.cases.specs.Readings.{first_two_of, first-two-means}
-use Rattle.ban_meaning.specs.Alike.{same-verdict}
-use Rattle.ban_meaning.specs.Empty.{empty-list}
-use Rattle.ban_meaning.specs.Given.{plain-original}
-use Rattle.ban_meaning.proofs.Given.{lists-alike}
+use Rattle.cases.proofs.Messages.{ambiguous_means}
+use Rattle.cases.specs.Readings.{first_two_of, first_two_means}
+use Rattle.ban_meaning.specs.Alike.{same_verdict}
+use Rattle.ban_meaning.specs.Empty.{empty_list}
+use Rattle.ban_meaning.specs.Given.{plain_original}
+use Rattle.ban_meaning.proofs.Given.{lists_alike}
 use Rattle.printing.specs.Printed.{places}
-use Rattle.verdict.specs.Answers.{sheet-accepted, RightFor, Answers}
-use Rattle.verdict.specs.Unique.{answer-right}
+use Rattle.verdict.specs.Answers.{sheet_accepted, RightFor, Answers}
+use Rattle.verdict.specs.Unique.{answer_right}
 
 -- the four records `0,1,1,1,1`, `10,1,1,1,1`, `01,1,1,1,1` and `101,1,1,1,1`, each ended by CR LF
 abbrev pub sheet_t : List ℕ
@@ -59,15 +59,15 @@ code_t = record {
   count = 4;
 }
 
-taken-t : taken limits sheet_t ≡ record { answer = Accepted; code = code_t }
+taken_t : taken limits sheet_t ≡ record { answer = Accepted; code = code_t }
 unfolding taken taken_grid grid body records fields bad_bytes code_of any every tabulate sum
-taken-t = refl
+taken_t = refl
 
-from-sheet-t : FromSheet limits code_t
-from-sheet-t = record { sheet = sheet_t; gives = taken-t }
+from_sheet_t : FromSheet limits code_t
+from_sheet_t = record { sheet = sheet_t; gives = taken_t }
 
 plain : Plain (table_of code_t)
-plain = (code_fits code_t (well from-sheet-t)).plain
+plain = (code_fits code_t (well from_sheet_t)).plain
 
 least : least_is (table_of code_t) (0 ∷ 1 ∷ 0 ∷ []) ≡ true
 unfolding least_is
@@ -81,14 +81,14 @@ abbrev pub judgement_t : Judgement
 judgement_t = Judged (Two-ways (record { 0 = 3 }) (record { 0 = 2 }) (record { 0 = 2 }))
 
 -- 01: "Code T of 000 (0, 10, 01, 101; all 1): ambiguous, message 010, readings 0,1 and 2,0". Without a ban list the list has 0 bytes.
-pub right-t : RightFor sheet_t [] (0 ∷ 1 ∷ 0 ∷ []) (0 ∷ 1 ∷ []) (2 ∷ 0 ∷ []) judgement_t
-right-t = record {
+pub right_t : RightFor sheet_t [] (0 ∷ 1 ∷ 0 ∷ []) (0 ∷ 1 ∷ []) (2 ∷ 0 ∷ []) judgement_t
+right_t = record {
   given = record { answer = Accepted; enlarged = plain_of limits code_t };
-  gives = sheet-accepted (ap (λ (t : Taken). t.answer) taken-t) (rw taken-t (empty-list from-sheet-t));
+  gives = sheet_accepted (ap (λ (t : Taken). t.answer) taken_t) (rw taken_t (empty_list from_sheet_t));
   right = (
     refl,
-    rw (plain-original limits code_t)
-        (ambiguous-means (table_of code_t) plain least (first-two-means plain (0 ∷ 1 ∷ 0 ∷ []) (0 ∷ 1 ∷ []) (2 ∷ 0 ∷ []) first_two), refl, refl, refl),
+    rw (plain_original limits code_t)
+        (ambiguous_means (table_of code_t) plain least (first_two_means plain (0 ∷ 1 ∷ 0 ∷ []) (0 ∷ 1 ∷ []) (2 ∷ 0 ∷ []) first_two), refl, refl, refl),
   );
 }
 
@@ -101,9 +101,9 @@ output_t =
     ∷ []
 
 -- Whatever the output buffer held, it starts with these 25 bytes after the answer to code T.
-pub prints-t : {o o' : List ℕ} {r : ℕ} → Answers sheet_t [] o o' r → (r ≡ 25) × (o' ≡ written output_t o)
+pub prints_t : {o o' : List ℕ} {r : ℕ} → Answers sheet_t [] o o' r → (r ≡ 25) × (o' ≡ written output_t o)
 unfolding join digit_of places
-prints-t a = answer-right a (0 ∷ 1 ∷ 0 ∷ []) (0 ∷ 1 ∷ []) (2 ∷ 0 ∷ []) judgement_t right-t
+prints_t a = answer_right a (0 ∷ 1 ∷ 0 ∷ []) (0 ∷ 1 ∷ []) (2 ∷ 0 ∷ []) judgement_t right_t
 
 -- the three records `0,1,1,1`, `1,1,1,1` and `011,1,1,1`, and the list `1,0,1`: word 1 never follows 0 then 1. Each record is ended by CR LF.
 abbrev pub sheet_b : List ℕ
@@ -127,9 +127,9 @@ code_b = record {
   count = 3;
 }
 
-taken-b : taken limits sheet_b ≡ record { answer = Accepted; code = code_b }
+taken_b : taken limits sheet_b ≡ record { answer = Accepted; code = code_b }
 unfolding taken taken_grid grid body records fields bad_bytes code_of any every tabulate sum
-taken-b = refl
+taken_b = refl
 
 abbrev bans_b : List Ban
 bans_b = record { x = 1; y = 0; z = 1 } ∷ []
@@ -138,50 +138,50 @@ listed_b : bans_of list_b ≡ bans_b
 unfolding bans_of ban_records number_of decimal grid body records fields
 listed_b = refl
 
-right-16 : refused16 3 list_b ≡ false
+right_16 : refused16 3 list_b ≡ false
 unfolding refused16 ban_records bad_ban is_number number_of decimal grid body records fields bad_bytes any every
-right-16 = refl
+right_16 = refl
 
-right-17 : refused17 limits code_b bans_b ≡ false
+right_17 : refused17 limits code_b bans_b ≡ false
 unfolding copies_from has_copy any sum
-right-17 = refl
+right_17 = refl
 
 abbrev value_b : Enlarged
 value_b = enlarged_code limits code_b bans_b
 
-enlarges-b : Enlarges limits (plain_of limits code_b) list_b (record { answer = Accepted; enlarged = value_b })
+enlarges_b : Enlarges limits (plain_of limits code_b) list_b (record { answer = Accepted; enlarged = value_b })
 unfolding plain_of
-enlarges-b =
+enlarges_b =
     enlarged (
       (λ h. omega arith),
       (
-        (λ none. none (record { given = record { sheet = sheet_b; gives = taken-b }; plain = refl })),
-        ((λ h. true≢false (sym h ∙ right-16)), ((λ h. true≢false (sym h ∙ rw listed_b right-17)), tt)),
+        (λ none. none (record { given = record { sheet = sheet_b; gives = taken_b }; plain = refl })),
+        ((λ h. true≢false (sym h ∙ right_16)), ((λ h. true≢false (sym h ∙ rw listed_b right_17)), tt)),
       ),
     )
     (rw listed_b)
 
-checked-b : check_with (table_of code_b) bans_b (delay 3) ≡ true
+checked_b : check_with (table_of code_b) bans_b (delay 3) ≡ true
 unfolding check_with
-checked-b = refl
+checked_b = refl
 
 abbrev pub judgement_b : Judgement
 judgement_b = Judged (Finite (record { 0 = 3 }))
 
 -- Without the ban 011 has two readings; with it the code has the delay 3.
-pub right-b : RightFor sheet_b list_b [] [] [] judgement_b
-right-b =
-    let lists : FromLists limits value_b = record { table = code_b; given = record { sheet = sheet_b; gives = taken-b }; list = list_b; gives = enlarges-b } in
+pub right_b : RightFor sheet_b list_b [] [] [] judgement_b
+right_b =
+    let lists : FromLists limits value_b = record { table = code_b; given = record { sheet = sheet_b; gives = taken_b }; list = list_b; gives = enlarges_b } in
     record {
       given = record { answer = Accepted; enlarged = value_b };
-      gives = sheet-accepted (ap (λ (t : Taken). t.answer) taken-b) (rw taken-b enlarges-b);
-      right = (refl, (same-verdict (lists-alike lists) [] [] [] (Finite (record { 0 = 3 }))).1 (rw listed_b (sound-with (table_of code_b) bans_b (delay 3) checked-b)));
+      gives = sheet_accepted (ap (λ (t : Taken). t.answer) taken_b) (rw taken_b enlarges_b);
+      right = (refl, (same_verdict (lists_alike lists) [] [] [] (Finite (record { 0 = 3 }))).1 (rw listed_b (sound_with (table_of code_b) bans_b (delay 3) checked_b)));
     }
 
 -- `decipherable,3`
 abbrev pub output_b : List ℕ
 output_b = 100 ∷ 101 ∷ 99 ∷ 105 ∷ 112 ∷ 104 ∷ 101 ∷ 114 ∷ 97 ∷ 98 ∷ 108 ∷ 101 ∷ 44 ∷ 51 ∷ 13 ∷ 10 ∷ []
 
-pub prints-b : {o o' : List ℕ} {r : ℕ} → Answers sheet_b list_b o o' r → (r ≡ 16) × (o' ≡ written output_b o)
+pub prints_b : {o o' : List ℕ} {r : ℕ} → Answers sheet_b list_b o o' r → (r ≡ 16) × (o' ≡ written output_b o)
 unfolding join digit_of places
-prints-b a = answer-right a [] [] [] judgement_b right-b
+prints_b a = answer_right a [] [] [] judgement_b right_b

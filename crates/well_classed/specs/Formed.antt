@@ -7,14 +7,14 @@ use Rattle.code.specs.Definitions.Lists.{every}
 use Rattle.code.specs.Definitions.Sheets.{is_digit, value_of}
 use Rattle.code.specs.Definitions.ClassSheets.{Range, range_of, digits, malformed, different_bytes}
 use Rattle.code.specs.Definitions.Texts.{other}
-use Rattle.code.specs.Laws.Lists.{every-at}
-use Rattle.csv_records.specs.Digits.{value-symbol}
+use Rattle.code.specs.Laws.Lists.{every_at}
+use Rattle.csv_records.specs.Digits.{value_symbol}
 
 digit_at : (n : ℕ) (f : List ℕ) → digits n f ≡ true → (k : ℕ) → k < n → value_of (get_or f k 48) < 16
 digit_at n f e k h =
     let parts = (and-eq-true_iff (eqb (length f) n) (every is_digit f)).0 e in
     let long = eqb-true (length f) n parts.0 in
-    value-symbol (get_or f k 48) (every-at is_digit f 48 parts.1 k (omega arith))
+    value_symbol (get_or f k 48) (every_at is_digit f 48 parts.1 k (omega arith))
 
 pub record Formed (r : Range) : Type 0 where
   pub lowest : r.lowest < different_bytes

@@ -22,10 +22,10 @@ module _ (c : List ℕ) where
   listed zero = record { list = []; letters = none }
   listed (suc n) = list_on n (is_letter c n) refl (listed n)
 
-  pub letters-few : {n : ℕ} {l : List ℕ} → Letters n l → length l ≤ n
-  letters-few none = omega arith
-  letters-few (letter e d) = omega (arith, letters-few d)
-  letters-few (past e d) = omega (arith, letters-few d)
+  pub letters_few : {n : ℕ} {l : List ℕ} → Letters n l → length l ≤ n
+  letters_few none = omega arith
+  letters_few (letter e d) = omega (arith, letters_few d)
+  letters_few (past e d) = omega (arith, letters_few d)
 
   pub letter_at : {n : ℕ} {l : List ℕ} → Letters n l → (k : ℕ) → k < length l → (get_or l k 0 < n) × (is_letter c (get_or l k 0) ≡ true)
   letter_at none k h = absurd (omega arith)

@@ -6,11 +6,11 @@ use Rattle.code.specs.Definitions.ClassSheets.{FromClassSheet}
 use Rattle.code.specs.Definitions.Tables.{Table}
 use Rattle.code.specs.Definitions.Texts.{is_letter, Splits}
 use Rattle.text_theory.specs.Signs.{those}
-use Rattle.text_theory.proofs.Signs.{splits-letters}
-use Rattle.well_classed.specs.Given.{given-well}
-use Rattle.well_classed.specs.Signs.{signs-no-letters}
+use Rattle.text_theory.proofs.Signs.{splits_letters}
+use Rattle.well_classed.specs.Given.{given_well}
+use Rattle.well_classed.specs.Signs.{signs_no_letters}
 
 -- 02, request 4: "Every input letter stands in the output once, in order."
-pub letters-stay : {l : Limits} {t : Table} {c : Classes} {s o : List ℕ} → FromClassSheet l c → Splits t c.entries s o
+pub letters_stay : {l : Limits} {t : Table} {c : Classes} {s o : List ℕ} → FromClassSheet l c → Splits t c.entries s o
     → those (is_letter c.entries) o ≡ those (is_letter c.entries) s
-letters-stay f = splits-letters (signs-no-letters (given-well f))
+letters_stay f = splits_letters (signs_no_letters (given_well f))

@@ -1,4 +1,4 @@
--- The entries of classes as a class sheet can give them. `well-classed` of Round shows that they are just those that accepted class sheets give.
+-- The entries of classes as a class sheet can give them. `well_classed_lem` of Round shows that they are just those that accepted class sheets give.
 use Rattle.std.specs.Prelude.{◌≡◌, false, List, ℕ, ◌≤◌, ◌<◌, length}
 use Rattle.code.specs.Definitions.Lists.{any}
 use Rattle.code.specs.Definitions.ClassSheets.{different_bytes}

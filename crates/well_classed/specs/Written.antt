@@ -9,9 +9,9 @@ use Rattle.code.specs.Definitions.Lists.{any, every, tabulate, sum, join}
 use Rattle.code.specs.Definitions.Sheets.{is_digit, fields, grid, bad_bytes}
 use Rattle.code.specs.Definitions.ClassSheets.{range_of, ranges_of, malformed, different_bytes}
 use Rattle.code.specs.Definitions.Texts.{other, class_of, is_letter}
-use Rattle.code.specs.Laws.Lists.{length-tabulate, tabulate-same, tabulate-map, map-tabulate, any-tabulate, sum_past, sum_bound}
-use Rattle.csv_records.specs.Digits.{digit_of, value-digit, digit-digit}
-use Rattle.csv_records.specs.Sheets.{record_of, sheet_of, Digital, digital-tabulate, sheet-bytes, sheet-grid, sheet-some, sheet-length}
+use Rattle.code.specs.Laws.Lists.{length-tabulate, tabulate_same, tabulate-map, map-tabulate, any-tabulate, sum_past, sum_bound}
+use Rattle.csv_records.specs.Digits.{digit_of, value_digit, digit_digit}
+use Rattle.csv_records.specs.Sheets.{record_of, sheet_of, Digital, digital_tabulate, sheet_bytes, sheet_grid, sheet_some, sheet_length}
 use Rattle.well_classed.specs.Letters.{Letters, letter_at}
 use Rattle.well_classed.specs.Singles.{single}
 use Rattle.well_classed.specs.Print.{fields_of, fields_at, grid_of, print}
@@ -23,24 +23,24 @@ module _ (c : List ℕ) where
     symbol = ltb-true (class_of c b) other letter
 
     digits : (is_digit (digit_of (b / 16)) ≡ true) × (is_digit (digit_of (b % 16)) ≡ true) × (is_digit (digit_of (class_of c b)) ≡ true)
-    digits = (digit-digit (b / 16) (omega arith), digit-digit (b % 16) (omega arith), digit-digit (class_of c b) symbol)
+    digits = (digit_digit (b / 16) (omega arith), digit_digit (b % 16) (omega arith), digit_digit (class_of c b) symbol)
 
-    fields-digits : every (every is_digit) (fields_of c b) ≡ true
+    fields_digits : every (every is_digit) (fields_of c b) ≡ true
     unfolding every
-    fields-digits = rw (digits.0, digits.1, digits.2)
+    fields_digits = rw (digits.0, digits.1, digits.2)
 
-    fields-formed : malformed (fields_of c b) ≡ false
+    fields_formed : malformed (fields_of c b) ≡ false
     unfolding malformed every
-    fields-formed = rw (digits.0, digits.1, digits.2)
+    fields_formed = rw (digits.0, digits.1, digits.2)
 
-    fields-range : range_of (fields_of c b) ≡ single c b
-    fields-range =
+    fields_range : range_of (fields_of c b) ≡ single c b
+    fields_range =
         let back : 16 * (b / 16) + b % 16 ≡ b = omega arith in
-        rw (value-digit (b / 16) (omega arith), value-digit (b % 16) (omega arith), value-digit (class_of c b) symbol, back)
+        rw (value_digit (b / 16) (omega arith), value_digit (b % 16) (omega arith), value_digit (class_of c b) symbol, back)
 
-  pub written-some : (l : List ℕ) → 1 ≤ length (print c l)
+  pub written_some : (l : List ℕ) → 1 ≤ length (print c l)
   unfolding print
-  written-some l = sheet-some (grid_of c l)
+  written_some l = sheet_some (grid_of c l)
 
   module _ {l : List ℕ} (letters : Letters c different_bytes l) where
     -- What holds of the record of every letter holds of each record.
@@ -48,38 +48,38 @@ module _ (c : List ℕ) where
     at_each P all k h = let at = letter_at c letters k h in all (get_or l k 0) at.0 at.1
 
     digital : Digital (grid_of c l)
-    digital = digital-tabulate (fields_at c l) (length l) (λ k h. (omega arith, at_each (λ b. every (every is_digit) (fields_of c b) ≡ true) fields-digits k h))
+    digital = digital_tabulate (fields_at c l) (length l) (λ k h. (omega arith, at_each (λ b. every (every is_digit) (fields_of c b) ≡ true) fields_digits k h))
 
-    pub written-bytes : bad_bytes false (print c l) ≡ false
+    pub written_bytes : bad_bytes false (print c l) ≡ false
     unfolding print
-    written-bytes = sheet-bytes digital
+    written_bytes = sheet_bytes digital
 
-    pub written-formed : any malformed (grid_of c l) ≡ false
-    written-formed = any-tabulate malformed (fields_at c l) (length l) (at_each (λ b. malformed (fields_of c b) ≡ false) fields-formed)
+    pub written_formed : any malformed (grid_of c l) ≡ false
+    written_formed = any-tabulate malformed (fields_at c l) (length l) (at_each (λ b. malformed (fields_of c b) ≡ false) fields_formed)
 
-    ranges-back : map range_of (grid_of c l) ≡ map (single c) l
-    ranges-back =
+    ranges_back : map range_of (grid_of c l) ≡ map (single c) l
+    ranges_back =
         map-tabulate range_of (fields_at c l) (length l)
-        ∙ tabulate-same (λ k. range_of (fields_at c l k)) (λ k. single c (get_or l k 0)) (length l) (at_each (λ b. range_of (fields_of c b) ≡ single c b) fields-range)
+        ∙ tabulate_same (λ k. range_of (fields_at c l k)) (λ k. single c (get_or l k 0)) (length l) (at_each (λ b. range_of (fields_of c b) ≡ single c b) fields_range)
         ∙ tabulate-map (single c) l 0
 
     module _ (some : 1 ≤ length l) where
-      records-some : 1 ≤ length (grid_of c l)
-      records-some = rw (length-tabulate (fields_at c l) (length l)) some
+      records_some : 1 ≤ length (grid_of c l)
+      records_some = rw (length-tabulate (fields_at c l) (length l)) some
 
-      pub written-grid : grid (print c l) ≡ grid_of c l
+      pub written_grid : grid (print c l) ≡ grid_of c l
       unfolding print
-      written-grid = sheet-grid digital records-some
+      written_grid = sheet_grid digital records_some
 
-      pub written-ranges : ranges_of (print c l) ≡ map (single c) l
+      pub written_ranges : ranges_of (print c l) ≡ map (single c) l
       unfolding ranges_of
-      written-ranges = rw written-grid ranges-back
+      written_ranges = rw written_grid ranges_back
 
       -- seven bytes for a letter, and a CR LF
-      pub written-short : length (print c l) ≤ 9 * length l
+      pub written_short : length (print c l) ≤ 9 * length l
       unfolding print join sum tabulate
-      written-short =
+      written_short =
           let none : ℕ → ℕ = λ k. 0 in
           let joined : length (sheet_of (grid_of c l)) ≤ sum (tabulate (λ k. length (record_of (fields_at c l k)) + 2) (length l)) =
-          rw (map-tabulate record_of (fields_at c l) (length l), map-tabulate (λ (r : List ℕ). length r + 2) (λ k. record_of (fields_at c l k)) (length l)) at (sheet-length (grid_of c l) records-some) in
+          rw (map-tabulate record_of (fields_at c l) (length l), map-tabulate (λ (r : List ℕ). length r + 2) (λ k. record_of (fields_at c l k)) (length l)) at (sheet_length (grid_of c l) records_some) in
           omega (arith, joined, sum_bound (λ k. 9) none 9 (length l) (λ k h. omega arith), sum_past none 0 (length l) (omega arith) (λ k i j. refl))

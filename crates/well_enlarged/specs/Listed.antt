@@ -15,17 +15,17 @@ use Rattle.code.specs.Definitions.BanLists.{refused16, bans_of}
 use Rattle.code.specs.Definitions.Enlarged.{plain_of, refused17}
 use Rattle.code.specs.Definitions.Operations.{Enlarges, refused, enlarged, FromLists}
 use Rattle.code.specs.Laws.Lists.{length-tabulate, get_d_tabulate, any_at}
-use Rattle.ban_writing.specs.Lists.{print, print-accepted, print-short, bans-back}
-use Rattle.ban_writing.specs.Named.{listed-known, listed-apart}
-use Rattle.code.specs.Laws.Exactly.{Exactly, exactly-iff}
+use Rattle.ban_writing.specs.Lists.{print, print_accepted, print_short, bans_back}
+use Rattle.ban_writing.specs.Named.{listed_known, listed_apart}
+use Rattle.code.specs.Laws.Exactly.{Exactly, exactly_iff}
 use Rattle.well_formed.specs.Given.{well}
-use Rattle.well_formed.specs.Round.{from-sheet}
+use Rattle.well_formed.specs.Round.{from_sheet}
 use Rattle.well_formed.specs.Written.{Roomy}
 use Rattle.code.specs.Laws.WellFormed.{WellFormed}
 use Rattle.well_enlarged.specs.WellEnlarged.{WellEnlarged}
 use Rattle.well_enlarged.specs.FromBans.{FromBans}
-use Rattle.well_enlarged.specs.Made.{from-bans}
-use Rattle.well_enlarged.specs.Back.{to-bans, few-bans}
+use Rattle.well_enlarged.specs.Made.{from_bans}
+use Rattle.well_enlarged.specs.Back.{to_bans, few_bans}
 
 -- A list has room for the bans of every value, at ten bytes a ban: two digits for each number, two commas, and the CR LF.
 pub record RoomyLists (l : Limits) : Type 0 where
@@ -37,8 +37,8 @@ never_true true n = absurd (n refl)
 never_true false n = refl
 
 -- A list that is accepted is not refused.
-pub accepted-never : {e d : Enlarged} {r : Refusal} → ◌≡◌ {A = Enlargement} (record { answer = Accepted; enlarged = e }) (record { answer = Refused r; enlarged = d }) → ⊥
-accepted-never {r = r} x =
+pub accepted_never : {e d : Enlarged} {r : Refusal} → ◌≡◌ {A = Enlargement} (record { answer = Accepted; enlarged = e }) (record { answer = Refused r; enlarged = d }) → ⊥
+accepted_never {r = r} x =
     let a : Accepted ≡ Refused r = ap (λ (y : Enlargement). y.answer) x in
     let y : ◌≡◌ {A = ℕ} 0 1 = cc in
     omega arith
@@ -47,26 +47,26 @@ module _ {l : Limits} {e : Enlarged} where
   -- the bans that an accepted list gives
   unfoldable pub given_by : (c : Code) (s : List ℕ) → WellFormed l c → Enlarges l (plain_of l c) s (record { answer = Accepted; enlarged = e }) → FromBans l e
   unfolding plain_of
-  given_by c s w (refused h x) = absurd (accepted-never x)
+  given_by c s w (refused h x) = absurd (accepted_never x)
   given_by c s w (enlarged h x) =
       let listed = never_true (refused16 c.count s) h.1.1.0 in
       record {
         base = c;
         given = w;
         bans = bans_of s;
-        known = listed-known c.count s listed;
-        apart = listed-apart c.count s listed;
+        known = listed_known c.count s listed;
+        apart = listed_apart c.count s listed;
         room = never_true (refused17 l c (bans_of s)) h.1.1.1.0;
         same = sym (ap (λ (y : Enlargement). y.enlarged) x);
       }
 
   -- What a sheet and a list give is well-enlarged.
-  pub from-lists : FromLists l e → WellEnlarged l e
-  from-lists f = from-bans (given_by f.table f.list (well f.given) f.gives)
+  pub from_lists : FromLists l e → WellEnlarged l e
+  from_lists f = from_bans (given_by f.table f.list (well f.given) f.gives)
 
   module _ (sheets : Roomy l) (lists : RoomyLists l) (w : WellEnlarged l e) where
     abbrev bans : FromBans l e
-    bans = to-bans w
+    bans = to_bans w
 
     few : bans.base.count ≤ 100
     few = omega (arith, bans.given.most, lists.digits)
@@ -76,31 +76,31 @@ module _ {l : Limits} {e : Enlarged} where
         let most : (e.code.count - e.originals) * e.originals ≤ (l.words - e.originals) * e.originals =
         mul-le-mul {n₂ = l.words - e.originals} {m₂ = e.originals} (omega (arith, w.code.most)) (omega arith) in
         omega
-        (arith, print-short bans.base.count few bans.bans bans.known, few-bans w, most, lists.bytes e.originals (omega (arith, w.numbers.most, w.numbers.room)))
+        (arith, print_short bans.base.count few bans.bans bans.known, few_bans w, most, lists.bytes e.originals (omega (arith, w.numbers.most, w.numbers.room)))
 
     -- And a sheet and a list give every well-enlarged value.
-    pub to-lists : FromLists l e
+    pub to_lists : FromLists l e
     unfolding plain_of
-    to-lists =
-        let back = bans-back bans.base.count few bans.bans bans.known in
+    to_lists =
+        let back = bans_back bans.base.count few bans.bans bans.known in
         record {
           table = bans.base;
-          given = from-sheet sheets bans.given;
+          given = from_sheet sheets bans.given;
           list = print bans.bans;
           gives =
               enlarged (
                 (λ h. omega (arith, short)),
                 (
-                  (λ none. none (record { given = from-sheet sheets bans.given; plain = refl })),
-                  ((λ h. true≢false (sym h ∙ print-accepted bans.base.count few bans.bans bans.known bans.apart)), ((λ h. true≢false (sym (rw back at h) ∙ bans.room)), tt)),
+                  (λ none. none (record { given = from_sheet sheets bans.given; plain = refl })),
+                  ((λ h. true≢false (sym h ∙ print_accepted bans.base.count few bans.bans bans.known bans.apart)), ((λ h. true≢false (sym (rw back at h) ∙ bans.room)), tt)),
                 ),
               )
               (rw (back, bans.same));
         }
 
 -- The values that a sheet and a list give are the well-enlarged ones.
-pub well-enlarged : {l : Limits} {e : Enlarged} → Roomy l → RoomyLists l → WellEnlarged l e ↔ FromLists l e
-well-enlarged sheets lists = (to-lists sheets lists, from-lists)
+pub well_enlarged_lem : {l : Limits} {e : Enlarged} → Roomy l → RoomyLists l → WellEnlarged l e ↔ FromLists l e
+well_enlarged_lem sheets lists = (to_lists sheets lists, from_lists)
 
 -- The limits of 01 have this room: no more than 256 bans, of 16 words and 16 copies, in 4,096 bytes. Every number of words is tried.
 over : ℕ → Bool
@@ -110,9 +110,9 @@ none_over : any over (tabulate (λ k. k) (limits.words + 1)) ≡ false
 unfolding over any tabulate
 none_over = refl
 
-pub limits-lists : RoomyLists limits
+pub limits_lists : RoomyLists limits
 unfolding over
-limits-lists = record {
+limits_lists = record {
   digits = omega arith;
   bytes = λ k h.
       let below : over k ≡ false = rw (get_d_tabulate (λ i. i) (limits.words + 1) k 0 (omega arith)) at (any_at over (tabulate (λ i. i) (limits.words + 1)) 0 none_over k (rw (length-tabulate (λ (i : ℕ). i) (limits.words + 1)) (omega arith))) in
@@ -120,5 +120,5 @@ limits-lists = record {
 }
 
 -- So a test of the value tells whether a sheet and a list give it.
-pub lists-tested : {e : Enlarged} {a : Bool} → Exactly a (WellEnlarged limits e) → Exactly a (FromLists limits e)
-lists-tested = exactly-iff (well-enlarged (omega arith) limits-lists)
+pub lists_tested : {e : Enlarged} {a : Bool} → Exactly a (WellEnlarged limits e) → Exactly a (FromLists limits e)
+lists_tested = exactly_iff (well_enlarged_lem (omega arith) limits_lists)

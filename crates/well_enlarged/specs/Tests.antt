@@ -28,8 +28,8 @@ NumbersFit l n count origins behind = (x : ℕ) → x < l.words → NumberFits n
 pub record Lent (l : Limits) (origins behind : List ℕ) (n count : ℕ) : Type 0 where
   pub most : n ≤ count
   pub room : count ≤ l.words
-  pub all-origins : length origins ≡ l.words
-  pub all-behind : length behind ≡ l.words
+  pub all_origins : length origins ≡ l.words
+  pub all_behind : length behind ≡ l.words
   pub known : (y : ℕ) → get_or origins y 0 < l.words
 
 -- The copy x is the one that stands for its word where it stands.

@@ -1,4 +1,4 @@
--- The codes with copies that a table and its bans give, said of the value alone, so that a test can compute it. `from-bans` of Made and `to-bans` of Back show that
+-- The codes with copies that a table and its bans give, said of the value alone, so that a test can compute it. `from_bans` of Made and `to_bans` of Back show that
 -- it says just this.
 use Rattle.std.specs.Prelude.{◌≡◌, Bool, not, ℕ, ◌≤◌, ◌<◌, length, get_or}
 use Rattle.code.specs.declared.Enlarged.{Enlarged}
@@ -14,11 +14,11 @@ use Rattle.code.specs.Laws.WellFormed.{WellFormed}
 -- The number x of a code of n words and, up to `count`, copies: it is one of the word `of`, and stands after the word `behind` if it is a copy.
 pub record NumberFits (n count x of behind : ℕ) : Type 0 where
   pub of_word : x < n → of ≡ x
-  pub of-copy : n ≤ x → x < count → of < n
-  pub of-past : count ≤ x → of ≡ 0
-  pub behind-word : x < n → behind ≡ 0
-  pub behind-copy : n ≤ x → x < count → behind < n
-  pub behind-past : count ≤ x → behind ≡ 0
+  pub of_copy : n ≤ x → x < count → of < n
+  pub of_past : count ≤ x → of ≡ 0
+  pub behind_word : x < n → behind ≡ 0
+  pub behind_copy : n ≤ x → x < count → behind < n
+  pub behind_past : count ≤ x → behind ≡ 0
   -- 02, request 2: "Y and Z different"
   pub apart : n ≤ x → x < count → behind ≡ of → ⊥
 

@@ -9,7 +9,7 @@ use Rattle.code.specs.declared.Refusal.TheVariants.{SheetLength, SheetBytes}
 use Rattle.code.specs.declared.SheetAnswer.TheVariants.{Accepted}
 use Rattle.code.specs.declared.Taken.{Taken}
 use Rattle.code.specs.Definitions.Sheets.{grid, bad_bytes, code_of, refused1, taken}
-use Rattle.code.specs.Laws.Fits.{passed, Fits, fits, fits-taken}
+use Rattle.code.specs.Laws.Fits.{passed, Fits, fits, fits_taken}
 
 module _ (l : Limits) (s : List ℕ) where
   pub record Accepts (c : Code) : Type 0 where
@@ -20,7 +20,7 @@ module _ (l : Limits) (s : List ℕ) where
 
   pub accepted : {c : Code} → Accepts c → taken l s ≡ record { answer = Accepted; code = c }
   unfolding taken
-  accepted a = rw (a.size, a.bytes, fits-taken l (grid s) a.records, a.gives)
+  accepted a = rw (a.size, a.bytes, fits_taken l (grid s) a.records, a.gives)
 
   pub accepts : {c : Code} → taken l s ≡ record { answer = Accepted; code = c } → Accepts c
   unfolding taken

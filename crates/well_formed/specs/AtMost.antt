@@ -9,7 +9,7 @@ use Rattle.std.proofs.Math.ListN.{get_or-eq_default}
 use Rattle.code.specs.declared.Limits.{Limits}
 use Rattle.code.specs.Definitions.Lists.{tabulate}
 use Rattle.code.specs.Laws.Lists.{get_d_tabulate}
-use Rattle.code.specs.Laws.Filling.{fill-next, fill-rest}
+use Rattle.code.specs.Laws.Filling.{fill_next, fill_rest}
 use Rattle.code.specs.Laws.WellFormed.{CellsFit}
 
 module _ (a m : List ℕ) where
@@ -23,11 +23,11 @@ module _ (a m : List ℕ) where
   abbrev pub NoExcess : ℕ → ℕ → Type 0
   NoExcess p over = (over ≡ 0) ↔ ((i : ℕ) → i < p → Under i)
 
-  pub excess-none : NoExcess 0 0
-  excess-none = ((λ e. below_none Under), (λ all. refl))
+  pub excess_none : NoExcess 0 0
+  excess_none = ((λ e. below_none Under), (λ all. refl))
 
-  pub excess-more : (p over : ℕ) → NoExcess p over → NoExcess (p + 1) (max (get_or a p 0 - get_or m p 0) over)
-  excess-more p over before = (
+  pub excess_more : (p over : ℕ) → NoExcess p over → NoExcess (p + 1) (max (get_or a p 0 - get_or m p 0) over)
+  excess_more p over before = (
     (λ e. below_more Under p (before.0 (omega arith)) (omega arith)),
     (λ all. omega (arith, all p (omega arith), before.1 (λ i h. all i (omega arith)))),
   )
@@ -60,15 +60,15 @@ module _ (v n : ℕ) (d : List ℕ) where
   filled_more p h i before =
       let here : min p n ≡ p = omega arith in
       let next : min (p + 1) n ≡ p + 1 = omega arith in
-      record { within = omega arith; long = simp length-set before.long; cells = rw (next, before.cells, here) (rw (used p i) at (fill-next filled_at d p h)) }
+      record { within = omega arith; long = simp length-set before.long; cells = rw (next, before.cells, here) (rw (used p i) at (fill_next filled_at d p h)) }
 
-  pub filled-past : (p : ℕ) {m : List ℕ} → p < length d → n ≤ p → FilledTo p m → FilledTo (p + 1) m
-  filled-past p h i before =
+  pub filled_past : (p : ℕ) {m : List ℕ} → p < length d → n ≤ p → FilledTo p m → FilledTo (p + 1) m
+  filled_past p h i before =
       let same : min (p + 1) n ≡ min p n = omega arith in
       record { within = omega arith; long = before.long; cells = rw same before.cells }
 
-  pub filled-all : {p : ℕ} {m : List ℕ} → FilledTo p m → length d ≤ p → m ≡ filled
-  filled-all {p} all h = all.cells ∙ fill-rest filled_at d 0 (min p n) (length d) refl (λ i j k. unused i (omega arith)) (omega (arith, all.within))
+  pub filled_all : {p : ℕ} {m : List ℕ} → FilledTo p m → length d ≤ p → m ≡ filled
+  filled_all {p} all h = all.cells ∙ fill_rest filled_at d 0 (min p n) (length d) refl (λ i j k. unused i (omega arith)) (omega (arith, all.within))
 
 -- Greatest values: v in the first n cells, and zeros.
 abbrev pub greatest : ℕ → ℕ → ℕ → List ℕ
@@ -78,30 +78,30 @@ module _ (v n size : ℕ) (a : List ℕ) (array : length a ≡ size) where
   cell : (p : ℕ) → p < length a → get_or (greatest v n size) p 0 ≡ filled_at v n (replicate size 0) p
   cell p h = get_d_tabulate (filled_at v n (replicate size 0)) (length (replicate size 0)) p 0 (omega (arith, length-replicate {A = ℕ} size 0))
 
-  cell-used : (p : ℕ) → p < length a → p < n → get_or (greatest v n size) p 0 ≡ v
-  cell-used p h i = cell p h ∙ used v n (replicate size 0) p i
+  cell_used : (p : ℕ) → p < length a → p < n → get_or (greatest v n size) p 0 ≡ v
+  cell_used p h i = cell p h ∙ used v n (replicate size 0) p i
 
-  cell-unused : (p : ℕ) → p < length a → n ≤ p → get_or (greatest v n size) p 0 ≡ 0
-  cell-unused p h i = cell p h ∙ unused v n (replicate size 0) p i ∙ get_or-replicate size p 0 0 (omega arith)
+  cell_unused : (p : ℕ) → p < length a → n ≤ p → get_or (greatest v n size) p 0 ≡ 0
+  cell_unused p h i = cell p h ∙ unused v n (replicate size 0) p i ∙ get_or-replicate size p 0 0 (omega arith)
 
   past : (p : ℕ) → length a ≤ p → get_or a p 0 ≡ 0
   past p h = get_or-eq_default a 0 h
 
   low : AtMost a (greatest v n size) → (p : ℕ) → Dec (p < length a) → Dec (p < n) → get_or a p 0 < v + 1
-  low all p (yes h) (yes i) = omega (arith, all p h, cell-used p h i)
-  low all p (yes h) (no i) = omega (arith, all p h, cell-unused p h (omega arith))
+  low all p (yes h) (yes i) = omega (arith, all p h, cell_used p h i)
+  low all p (yes h) (no i) = omega (arith, all p h, cell_unused p h (omega arith))
   low all p (no h) i = omega (arith, past p (omega arith))
 
   none : AtMost a (greatest v n size) → (p : ℕ) → n ≤ p → Dec (p < length a) → get_or a p 0 ≡ 0
-  none all p i (yes h) = omega (arith, all p h, cell-unused p h i)
+  none all p i (yes h) = omega (arith, all p h, cell_unused p h i)
   none all p i (no h) = past p (omega arith)
 
   under : CellsFit (v + 1) n a → (p : ℕ) → p < length a → Dec (p < n) → Under a (greatest v n size) p
-  under f p h (yes i) = omega (arith, f.below p, cell-used p h i)
+  under f p h (yes i) = omega (arith, f.below p, cell_used p h i)
   under f p h (no i) = omega (arith, f.zero p (omega arith))
 
-  pub greatest-fit : AtMost a (greatest v n size) ↔ CellsFit (v + 1) n a
-  greatest-fit = (
+  pub greatest_fit : AtMost a (greatest v n size) ↔ CellsFit (v + 1) n a
+  greatest_fit = (
     (λ all. record { below = λ p. low all p (dec_lt p (length a)) (dec_lt p n); zero = λ p i. none all p i (dec_lt p (length a)) }),
     (λ f p h. under f p h (dec_lt p n)),
   )

@@ -12,87 +12,87 @@ use Rattle.code.specs.declared.Limits.{Limits}
 use Rattle.code.specs.Definitions.Lists.{every, tabulate, sum}
 use Rattle.code.specs.Definitions.Tables.{no_word, symbols_of, entry_of}
 use Rattle.code.specs.Definitions.Sheets.{is_digit, grid, fields, bad_bytes}
-use Rattle.code.specs.Laws.Lists.{length-tabulate, map-tabulate, every-all, every-tabulate, sum_past, sum_bound}
+use Rattle.code.specs.Laws.Lists.{length-tabulate, map-tabulate, every_all, every-tabulate, sum_past, sum_bound}
 use Rattle.code.specs.Laws.WellFormed.{len_of, WellFormed}
-use Rattle.csv_records.specs.Digits.{digit_of, digit-digit}
+use Rattle.csv_records.specs.Digits.{digit_of, digit_digit}
 use Rattle.csv_records.specs.Join.{length-join}
-use Rattle.csv_records.specs.Sheets.{record_of, sheet_of, Digital, digital-tabulate, sheet-bytes, sheet-grid, sheet-some, sheet-length}
+use Rattle.csv_records.specs.Sheets.{record_of, sheet_of, Digital, digital_tabulate, sheet_bytes, sheet_grid, sheet_some, sheet_length}
 use Rattle.well_formed.specs.Print.{word_field, entry_field, fields_of, grid_of, print}
 
 -- A sheet has room for every table: for the symbols, and in every record for the start mark and each of the entries with a comma, and for the CR LF.
 abbrev pub Roomy : Limits → Type 0
 Roomy l = l.total + l.words * (l.words * 2 + 4) ≤ l.bytes
 
-take-zeros : (n : ℕ) (s : List ℕ) → ((p : ℕ) → n ≤ p → get_or s p 0 ≡ 0) → (p : ℕ) → Dec (p < n) → get_or (take n s) p 0 ≡ get_or s p 0
-take-zeros n s zeros p (yes h) = get_or-take n s p 0 h
-take-zeros n s zeros p (no h) = get_or-eq_default (take n s) 0 (omega (arith, length-take n s)) ∙ sym (zeros p (omega arith))
+take_zeros : (n : ℕ) (s : List ℕ) → ((p : ℕ) → n ≤ p → get_or s p 0 ≡ 0) → (p : ℕ) → Dec (p < n) → get_or (take n s) p 0 ≡ get_or s p 0
+take_zeros n s zeros p (yes h) = get_or-take n s p 0 h
+take_zeros n s zeros p (no h) = get_or-eq_default (take n s) 0 (omega (arith, length-take n s)) ∙ sym (zeros p (omega arith))
 
 module _ (l : Limits) (c : Code) (w : WellFormed l c) where
   module _ (k : ℕ) (h : k < l.words) where
-    pub symbol-written : (p : ℕ) → get_or (symbols_of (get_or c.words k no_word)) p 0 ≡ get_or (get_or c.words k no_word).symbols p 0
-    symbol-written p = take-zeros (len_of c k) (get_or c.words k no_word).symbols (w.word k h).symbols.zero p (dec_lt p (len_of c k))
+    pub symbol_written : (p : ℕ) → get_or (symbols_of (get_or c.words k no_word)) p 0 ≡ get_or (get_or c.words k no_word).symbols p 0
+    symbol_written p = take_zeros (len_of c k) (get_or c.words k no_word).symbols (w.word k h).symbols.zero p (dec_lt p (len_of c k))
 
-    pub length-word : length (word_field c k) ≡ len_of c k
-    length-word =
+    pub length_word : length (word_field c k) ≡ len_of c k
+    length_word =
         length-map (symbols_of (get_or c.words k no_word)) digit_of
         ∙ length-take-le (len_of c k) (get_or c.words k no_word).symbols (omega (arith, (w.word k h).short, (w.word k h).array))
 
-    word-digits : every is_digit (word_field c k) ≡ true
-    word-digits =
-        every-all is_digit (word_field c k) (digit_of 0)
-        (λ p i. rw (get_or-map digit_of (symbols_of (get_or c.words k no_word)) p 0, symbol-written p) (digit-digit _ ((w.word k h).symbols.below p)))
+    word_digits : every is_digit (word_field c k) ≡ true
+    word_digits =
+        every_all is_digit (word_field c k) (digit_of 0)
+        (λ p i. rw (get_or-map digit_of (symbols_of (get_or c.words k no_word)) p 0, symbol_written p) (digit_digit _ ((w.word k h).symbols.below p)))
 
-    entries-digits : every (every is_digit) (tabulate (entry_field c k) c.count) ≡ true
+    entries_digits : every (every is_digit) (tabulate (entry_field c k) c.count) ≡ true
     unfolding every
-    entries-digits =
-        every-tabulate (every is_digit) (entry_field c k) c.count (λ y i. rw (digit-digit (entry_of c k y) (omega (arith, (w.row k h).entries.below y))))
+    entries_digits =
+        every-tabulate (every is_digit) (entry_field c k) c.count (λ y i. rw (digit_digit (entry_of c k y) (omega (arith, (w.row k h).entries.below y))))
 
-    fields-digits : every (every is_digit) (fields_of c k) ≡ true
+    fields_digits : every (every is_digit) (fields_of c k) ≡ true
     unfolding every
-    fields-digits = rw (word-digits, digit-digit (get_or c.begins k 0) (omega (arith, w.marks.below k)), entries-digits)
+    fields_digits = rw (word_digits, digit_digit (get_or c.begins k 0) (omega (arith, w.marks.below k)), entries_digits)
 
     -- each field with its comma
-    entries-length : sum (map (λ (f : List ℕ). length f + 1) (tabulate (entry_field c k) c.count)) ≤ c.count * 2
+    entries_length : sum (map (λ (f : List ℕ). length f + 1) (tabulate (entry_field c k) c.count)) ≤ c.count * 2
     unfolding tabulate sum
-    entries-length =
+    entries_length =
         let none : ℕ → ℕ = λ y. 0 in
         rw (map-tabulate (λ (f : List ℕ). length f + 1) (entry_field c k) c.count)
         (omega (arith, sum_bound (λ y. 2) none 2 c.count (λ y i. omega arith), sum_past none 0 c.count (omega arith) (λ y i j. refl)))
 
-    record-length : length (record_of (fields_of c k)) + 2 ≤ len_of c k + (c.count * 2 + 4)
+    record_length : length (record_of (fields_of c k)) + 2 ≤ len_of c k + (c.count * 2 + 4)
     unfolding sum
-    record-length = omega (arith, length-join (44 ∷ []) (fields_of c k) (omega arith), length-word, entries-length)
+    record_length = omega (arith, length-join (44 ∷ []) (fields_of c k) (omega arith), length_word, entries_length)
 
   pub within : (k : ℕ) → k < c.count → k < l.words
   within k h = omega (arith, w.most)
 
   digital : Digital (grid_of c)
-  digital = digital-tabulate (fields_of c) c.count (λ x h. (omega arith, fields-digits x (within x h)))
+  digital = digital_tabulate (fields_of c) c.count (λ x h. (omega arith, fields_digits x (within x h)))
 
   some : 1 ≤ length (grid_of c)
   some = rw (length-tabulate (fields_of c) c.count) w.one
 
-  pub written-bytes : bad_bytes false (print c) ≡ false
+  pub written_bytes : bad_bytes false (print c) ≡ false
   unfolding print
-  written-bytes = sheet-bytes digital
+  written_bytes = sheet_bytes digital
 
-  pub written-grid : grid (print c) ≡ grid_of c
+  pub written_grid : grid (print c) ≡ grid_of c
   unfolding print
-  written-grid = sheet-grid digital some
+  written_grid = sheet_grid digital some
 
   -- the symbols of the words in use are all there are
-  pub total-used : sum (tabulate (len_of c) c.count) ≤ l.total
-  total-used = omega (arith, w.total, sum_past (len_of c) c.count l.words w.most (λ k h i. (w.word k i).unused h))
+  pub total_used : sum (tabulate (len_of c) c.count) ≤ l.total
+  total_used = omega (arith, w.total, sum_past (len_of c) c.count l.words w.most (λ k h i. (w.word k i).unused h))
 
-  pub written-some : 0 < length (print c)
+  pub written_some : 0 < length (print c)
   unfolding print
-  written-some = sheet-some (grid_of c)
+  written_some = sheet_some (grid_of c)
 
-  pub written-short : Roomy l → length (print c) ≤ l.bytes
+  pub written_short : Roomy l → length (print c) ≤ l.bytes
   unfolding print
-  written-short room =
+  written_short room =
       let joined : length (sheet_of (grid_of c)) ≤ sum (tabulate (λ x. length (record_of (fields_of c x)) + 2) c.count) =
-      rw (map-tabulate record_of (fields_of c) c.count, map-tabulate (λ (r : List ℕ). length r + 2) (λ x. record_of (fields_of c x)) c.count) at (sheet-length (grid_of c) some) in
-      let bound = sum_bound (λ x. length (record_of (fields_of c x)) + 2) (len_of c) (c.count * 2 + 4) c.count (λ x h. record-length x (within x h)) in
+      rw (map-tabulate record_of (fields_of c) c.count, map-tabulate (λ (r : List ℕ). length r + 2) (λ x. record_of (fields_of c x)) c.count) at (sheet_length (grid_of c) some) in
+      let bound = sum_bound (λ x. length (record_of (fields_of c x)) + 2) (len_of c) (c.count * 2 + 4) c.count (λ x h. record_length x (within x h)) in
       let square : c.count * (c.count * 2 + 4) ≤ l.words * (l.words * 2 + 4) = mul-le-mul w.most (omega (arith, w.most)) in
-      omega (arith, total-used)
+      omega (arith, total_used)

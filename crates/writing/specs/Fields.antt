@@ -4,7 +4,7 @@ use Rattle.std.proofs.Math.Path.{refl}
 use Rattle.std.proofs.Common.{ap, ◌∙◌, arith, add-one, length-append, take-append-drop, length-take-le, take-suc, take_all, ne_eqb}
 use mathlib.Core.List.{List, [], ◌∷◌, ◌++◌, append_assoc, append-nil}
 use Rattle.code.specs.Definitions.Lists.{join}
-use Rattle.writing.specs.Puts.{Puts, puts_then, puts_none, puts-length}
+use Rattle.writing.specs.Puts.{Puts, puts_then, puts_none, puts_length}
 
 -- field i of a record, with what parts it from the field before
 abbrev pub following : (sep : List ℕ) → ℕ → List ℕ → List ℕ
@@ -32,25 +32,25 @@ module _ (sep : List ℕ) where
   fields_to fs i = join sep (take i fs)
 
   module _ (fs : List (List ℕ)) (i : ℕ) where
-    fields-next : i < length fs → fields_to fs (i + 1) ≡ fields_to fs i ++ following sep i (get_or fs i [])
-    fields-next h = rw (add-one i, take-suc fs i [] h) (join_last (take i fs) (get_or fs i []) ∙ rw (length-take-le i fs (omega arith)))
+    fields_next : i < length fs → fields_to fs (i + 1) ≡ fields_to fs i ++ following sep i (get_or fs i [])
+    fields_next h = rw (add-one i, take-suc fs i [] h) (join_last (take i fs) (get_or fs i []) ∙ rw (length-take-le i fs (omega arith)))
 
-    fields-most : length (fields_to fs i) ≤ length (join sep fs)
-    fields-most = rw (take-append-drop i fs) at (join_front (take i fs) (drop i fs))
+    fields_most : length (fields_to fs i) ≤ length (join sep fs)
+    fields_most = rw (take-append-drop i fs) at (join_front (take i fs) (drop i fs))
 
   -- A loop over the fields: nothing put yet, one field more, all of them.
-  pub none-put : (fs : List (List ℕ)) (at : ℕ) (o : List ℕ) → Puts at (fields_to fs 0) o o at
+  pub none_put : (fs : List (List ℕ)) (at : ℕ) (o : List ℕ) → Puts at (fields_to fs 0) o o at
   unfolding join
-  none-put fs at o = puts_none at o
+  none_put fs at o = puts_none at o
 
   module _ (fs : List (List ℕ)) (i : ℕ) {o p : List ℕ} {at next : ℕ} (before : Puts at (fields_to fs i) o p next) where
     pub field_fits : i < length fs → at + length (join sep fs) ≤ length o → next + length (following sep i (get_or fs i [])) ≤ length p
     field_fits h room =
         omega
-        (arith, before.end, puts-length before, fields-most fs (i + 1), ap length (fields-next fs i h), length-append (fields_to fs i) (following sep i (get_or fs i [])))
+        (arith, before.end, puts_length before, fields_most fs (i + 1), ap length (fields_next fs i h), length-append (fields_to fs i) (following sep i (get_or fs i [])))
 
     pub field_put : {q : List ℕ} {r : ℕ} → i < length fs → Puts next (following sep i (get_or fs i [])) p q r → Puts at (fields_to fs (i + 1)) o q r
-    field_put h g = rw (fields-next fs i h) (puts_then before g)
+    field_put h g = rw (fields_next fs i h) (puts_then before g)
 
-    pub all-put : length fs ≤ i → Puts at (join sep fs) o p next
-    all-put h = rw (take_all i fs h) at before
+    pub all_put : length fs ≤ i → Puts at (join sep fs) o p next
+    all_put h = rw (take_all i fs h) at before

@@ -4,7 +4,7 @@ use Rattle.std.proofs.Common.{ap, ◌∙◌, arith, length-append}
 use Rattle.std.proofs.lemmas.List.Edits.{sets}
 use Rattle.std.proofs.Math.Seq.{length-sets}
 use Rattle.code.specs.Definitions.Operations.{written}
-use Rattle.copying.specs.Runs.{sets_behind, sets-front}
+use Rattle.copying.specs.Runs.{sets_behind, sets_front}
 
 -- The text stands in the buffer from `at` on, and r is the place after it.
 pub record Puts (at : ℕ) (text o o' : List ℕ) (r : ℕ) : Type 0 where
@@ -26,8 +26,8 @@ pub puts_none : (at : ℕ) (o : List ℕ) → Puts at [] o o at
 puts_none at o = record { end = omega arith; out = refl }
 
 -- The length of the buffer stays.
-pub puts-length : {at r : ℕ} {x o p : List ℕ} → Puts at x o p r → length p ≡ length o
-puts-length {at} {r} {x} {o} {p} f = ap length f.out ∙ length-sets o at x
+pub puts_length : {at r : ℕ} {x o p : List ℕ} → Puts at x o p r → length p ≡ length o
+puts_length {at} {r} {x} {o} {p} f = ap length f.out ∙ length-sets o at x
 
 -- The text stands at the start of the buffer, and r is its length.
 pub record Starts (text o o' : List ℕ) (r : ℕ) : Type 0 where
@@ -35,4 +35,4 @@ pub record Starts (text o o' : List ℕ) (r : ℕ) : Type 0 where
   pub out : o' ≡ written text o
 
 pub starts : {r : ℕ} {text o p : List ℕ} → Puts 0 text o p r → length text ≤ length o → Starts text o p r
-starts {r} {text} {o} {p} f h = record { count = omega (arith, f.end); out = f.out ∙ sets-front text o h }
+starts {r} {text} {o} {p} f h = record { count = omega (arith, f.end); out = f.out ∙ sets_front text o h }

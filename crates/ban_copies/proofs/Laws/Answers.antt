@@ -12,20 +12,20 @@ use Rattle.ban_theory.specs.BanLists.{Known}
 use Rattle.code.specs.Laws.WellFormed.{WellFormed}
 use Rattle.ban_copies.specs.declared.Copies.{Copies}
 use Rattle.ban_copies.specs.Held.{Held}
-use Rattle.ban_copies.specs.Adding.{Collected, Passed, refused-passed, refused-not}
+use Rattle.ban_copies.specs.Adding.{Collected, Passed, refused_passed, refused_not}
 
 module _ (c : Code) (bs : List Ban) where
   -- The filled code and the arrays are the enlarged code.
-  pub enlarged-whole : {k : Copies} {filled : Code} → Held c.count (copies_of bs) k → filled ≡ (enlarged_code limits c bs).code
+  pub enlarged_whole : {k : Copies} {filled : Code} → Held c.count (copies_of bs) k → filled ≡ (enlarged_code limits c bs).code
       → record { code = filled; originals = c.count; origins = k.origins; behind = k.behind } ≡ enlarged_code limits c bs
   unfolding enlarged_code
-  enlarged-whole h p = rw (p, h.origins, h.behind)
+  enlarged_whole h p = rw (p, h.origins, h.behind)
 
   module _ (well : WellFormed limits c) (known : Known c.count bs) {e : Enlarged} where
     pub accepted : {k : Copies} → Collected c (copies_of bs) k → e ≡ enlarged_code limits c bs → record { answer = Accepted; enlarged = e } ≡ enlargement limits c bs
     unfolding enlargement
-    accepted had p = rw (refused-not bs well known had, p)
+    accepted had p = rw (refused_not bs well known had, p)
 
     pub refused : Passed c bs → e ≡ blank_enlarged limits → record { answer = Refused BanLimit; enlarged = e } ≡ enlargement limits c bs
     unfolding enlargement
-    refused passed p = rw (refused-passed bs well known passed, p)
+    refused passed p = rw (refused_passed bs well known passed, p)

@@ -13,52 +13,52 @@ use Rattle.code.specs.declared.Limits.{Limits}
 use Rattle.code.specs.Definitions.Bans.{origin}
 use Rattle.code.specs.Definitions.Enlarged.{plain_of}
 use Rattle.code.specs.Definitions.Operations.{WithoutCopies, FromLists}
-use Rattle.code.specs.Laws.Lists.{tabulate-list}
-use Rattle.ban_theory.specs.CopyLists.{origin-word, origin_copy}
+use Rattle.code.specs.Laws.Lists.{tabulate_list}
+use Rattle.ban_theory.specs.CopyLists.{origin_word, origin_copy}
 use Rattle.well_enlarged.specs.WellEnlarged.{WellEnlarged}
-use Rattle.well_enlarged.proofs.Laws.Plain.{plain-well}
-use Rattle.well_enlarged.specs.Listed.{RoomyLists, from-lists, to-lists}
-use Rattle.code.specs.Laws.Exactly.{Exactly, exactly-false}
+use Rattle.well_enlarged.proofs.Laws.Plain.{plain_well}
+use Rattle.well_enlarged.specs.Listed.{RoomyLists, from_lists, to_lists}
+use Rattle.code.specs.Laws.Exactly.{Exactly, exactly_false}
 use Rattle.well_formed.specs.Given.{well}
-use Rattle.well_formed.specs.Round.{from-sheet}
+use Rattle.well_formed.specs.Round.{from_sheet}
 use Rattle.well_formed.specs.Written.{Roomy}
 
-value-is : (e : Enlarged) (n : ℕ) (os bs : List ℕ) → n ≡ e.originals → os ≡ e.origins → bs ≡ e.behind → e ≡ record { code = e.code; originals = n; origins = os; behind = bs }
-value-is e n os bs a b c = rw (a, b, c)
+value_is : (e : Enlarged) (n : ℕ) (os bs : List ℕ) → n ≡ e.originals → os ≡ e.origins → bs ≡ e.behind → e ≡ record { code = e.code; originals = n; origins = os; behind = bs }
+value_is e n os bs a b c = rw (a, b, c)
 
 module _ {l : Limits} {e : Enlarged} where
   module _ (room : Roomy l) (w : WellEnlarged l e) (all : e.originals ≡ e.code.count) where
-    origin-at : (x : ℕ) → x < l.words → Dec (x < e.code.count) → origin e.code.count [] x ≡ get_or e.origins x 0
-    origin-at x h (yes k) = origin-word e.code.count [] x k ∙ sym ((w.numbers.number x h).of_word (omega arith))
-    origin-at x h (no k) = origin_copy e.code.count [] x (omega arith) ∙ sym ((w.numbers.number x h).of-past (omega arith))
+    origin_at : (x : ℕ) → x < l.words → Dec (x < e.code.count) → origin e.code.count [] x ≡ get_or e.origins x 0
+    origin_at x h (yes k) = origin_word e.code.count [] x k ∙ sym ((w.numbers.number x h).of_word (omega arith))
+    origin_at x h (no k) = origin_copy e.code.count [] x (omega arith) ∙ sym ((w.numbers.number x h).of_past (omega arith))
 
-    behind-at : (x : ℕ) → x < l.words → Dec (x < e.code.count) → 0 ≡ get_or e.behind x 0
-    behind-at x h (yes k) = sym ((w.numbers.number x h).behind-word (omega arith))
-    behind-at x h (no k) = sym ((w.numbers.number x h).behind-past (omega arith))
+    behind_at_lem : (x : ℕ) → x < l.words → Dec (x < e.code.count) → 0 ≡ get_or e.behind x 0
+    behind_at_lem x h (yes k) = sym ((w.numbers.number x h).behind_word (omega arith))
+    behind_at_lem x h (no k) = sym ((w.numbers.number x h).behind_past (omega arith))
 
-    all-originals : WithoutCopies l e
+    all_originals : WithoutCopies l e
     unfolding plain_of
-    all-originals = record {
-      given = from-sheet room w.code;
+    all_originals = record {
+      given = from_sheet room w.code;
       plain =
-          value-is e e.code.count _ _ (sym all)
-          (tabulate-list (origin e.code.count []) l.words e.origins 0 w.numbers.origins (λ x h. origin-at x h (dec_lt x e.code.count)))
-          (tabulate-list (λ x. 0) l.words e.behind 0 w.numbers.behind (λ x h. behind-at x h (dec_lt x e.code.count)));
+          value_is e e.code.count _ _ (sym all)
+          (tabulate_list (origin e.code.count []) l.words e.origins 0 w.numbers.origins (λ x h. origin_at x h (dec_lt x e.code.count)))
+          (tabulate_list (λ x. 0) l.words e.behind 0 w.numbers.behind (λ x h. behind_at_lem x h (dec_lt x e.code.count)));
     }
 
   plain_value : WithoutCopies l e → WellEnlarged l e
-  plain_value p = subst (WellEnlarged l) (sym p.plain) (plain-well (well p.given))
+  plain_value p = subst (WellEnlarged l) (sym p.plain) (plain_well (well p.given))
 
-  plain-all : WithoutCopies l e → e.originals ≡ e.code.count
+  plain_all : WithoutCopies l e → e.originals ≡ e.code.count
   unfolding plain_of
-  plain-all p = ap (λ (d : Enlarged). d.originals) p.plain
+  plain_all p = ap (λ (d : Enlarged). d.originals) p.plain
 
   -- What `without_copies` returns.
-  pub tested-all : Roomy l → {a : Bool} → Exactly a (FromLists l e) → a ≡ true → Exactly (eqb e.originals e.code.count) (WithoutCopies l e)
-  tested-all room t h = record {
-    yes = λ q. all-originals room (from-lists (t.yes h)) (eqb-true e.originals e.code.count q);
-    no = λ q p. eqb-false e.originals e.code.count q (plain-all p);
+  pub tested_all : Roomy l → {a : Bool} → Exactly a (FromLists l e) → a ≡ true → Exactly (eqb e.originals e.code.count) (WithoutCopies l e)
+  tested_all room t h = record {
+    yes = λ q. all_originals room (from_lists (t.yes h)) (eqb-true e.originals e.code.count q);
+    no = λ q p. eqb-false e.originals e.code.count q (plain_all p);
   }
 
-  pub tested-not : Roomy l → RoomyLists l → {a : Bool} → Exactly a (FromLists l e) → a ≡ false → Exactly false (WithoutCopies l e)
-  tested-not room lists t h = exactly-false (λ p. t.no h (to-lists room lists (plain_value p)))
+  pub tested_not : Roomy l → RoomyLists l → {a : Bool} → Exactly a (FromLists l e) → a ≡ false → Exactly false (WithoutCopies l e)
+  tested_not room lists t h = exactly_false (λ p. t.no h (to_lists room lists (plain_value p)))

@@ -2,16 +2,16 @@
 use mathlib.Core.Path.{sym, ◌∙◌}
 use native.Mathlib.Omega.{arith}
 use lib.Seq.{length-take-le}
-use Rattle.code.specs.Laws.Clean.{clean-body}
-use Rattle.ban_list.proofs.Laws.Passing.{list-empty, list-bytes, list-records}
+use Rattle.code.specs.Laws.Clean.{clean_body}
+use Rattle.ban_list.proofs.Laws.Passing.{list_empty, list_bytes, list_records}
 use borrow.Author.Rules.{rules}
 use Rattle.ban_list.proofs.read_bans.Goals as goal
 
 pub returns-then-list-eq0 : goal.returns-then-list-eq0
-returns-then-list-eq0 c = (search list-empty, search rules)
+returns-then-list-eq0 c = (search list_empty, search rules)
 
 pub returns-then-bad_bytes : goal.returns-then-bad_bytes
-returns-then-bad_bytes c = (search list-bytes, search rules)
+returns-then-bad_bytes c = (search list_bytes, search rules)
 
 pub slice_bounds-read_records-end : goal.slice_bounds-read_records-end
 slice_bounds-read_records-end c = let s = c.before.before.before.before.before.before.before.args.list.now in
@@ -20,10 +20,10 @@ slice_bounds-read_records-end c = let s = c.before.before.before.before.before.b
 pub read_records-requires : goal.read_records-requires
 read_records-requires c = let s = c.before.before.before.before.before.before.before.before.args.list.now in
     let b = c.body_len-e.ensures in (
-      rw b.0 (clean-body s (sym c.bad_bytes.ensures ∙ c.if-bad_bytes.false)),
+      rw b.0 (clean_body s (sym c.bad_bytes.ensures ∙ c.if-bad_bytes.false)),
       search rules,
       omega (arith, length-take-le _ s b.1, b.1),
     )
 
 pub returns : goal.returns
-returns c = (search list-records, search rules)
+returns c = (search list_records, search rules)

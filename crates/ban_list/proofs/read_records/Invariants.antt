@@ -4,7 +4,7 @@ use mathlib.Core.Path.{◌≡◌}
 use Prim.Native.Nat.{◌+◌, ◌-◌}
 use lib.ListN.{length}
 use Rattle.ban_list.specs.Ensured.{wrong}
-use Rattle.ban_list.proofs.Laws.Passing.{Passed, passing-starts, passing-clean, passing-room, passing-stops, passing-on, passing-less, passing-ends}
+use Rattle.ban_list.proofs.Laws.Passing.{Passed, passing_starts, passing_clean, passing_room, passing_stops, passing_on, passing_less, passing_ends}
 use Rattle.ban_list.proofs.read_records.Given as goal
 
 abbrev pub invariant-loop-at : goal.invariant-loop-at

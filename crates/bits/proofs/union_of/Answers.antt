@@ -3,8 +3,8 @@ use borrow.Author.Rules.{rules}
 use lib.ListN.{length}
 use mathlib.Core.Path.{◌≡◌, sym, ◌∙◌}
 use native.Mathlib.Omega.{arith}
-use Rattle.bits.specs.Lowest.{lowest-below, left-above, left_less}
-use Rattle.bits.specs.Unions.{UnionOf, union-none, union_more, union-all}
+use Rattle.bits.specs.Lowest.{lowest_below, left_above, left_less}
+use Rattle.bits.specs.Unions.{UnionOf, union_none, union_more, union_all}
 use Rattle.bits.proofs.union_of.Goals as goal
 use Rattle.bits.proofs.union_of.Goals.{After-lowest-skipped}
 
@@ -12,10 +12,10 @@ use Rattle.bits.proofs.union_of.Goals.{After-lowest-skipped}
 below : (c : After-lowest-skipped) → c.loop-left.z + c.lowest-skipped.result < length c.args.sets.now
 below c =
     let l = c.loop-left in
-    lowest-below _ l.z l.invariant.0 c.lowest-skipped.ensures c.requires
+    lowest_below _ l.z l.invariant.0 c.lowest-skipped.ensures c.requires
 
 pub loop-left-init : goal.loop-left-init
-loop-left-init c = (omega arith, union-none _ _)
+loop-left-init c = (omega arith, union_none _ _)
 
 pub overflow_add-z : goal.overflow_add-z
 overflow_add-z c = let h = below c in search rules
@@ -39,10 +39,10 @@ pub loop-left-preserved : goal.loop-left-preserved
 loop-left-preserved c =
     let l = c.loop-left in
     let f = c.lowest-skipped.ensures in
-    (left-above _ l.z l.invariant.0 f, union_more _ l.z l.invariant.0 f l.invariant.1)
+    (left_above _ l.z l.invariant.0 f, union_more _ l.z l.invariant.0 f l.invariant.1)
 
 pub returns : goal.returns
 returns c =
     let l = c.loop-left in
     let out : l.left ≡ 0 = omega arith in
-    union-all _ l.z c.requires (sym l.invariant.0 ∙ out) l.invariant.1
+    union_all _ l.z c.requires (sym l.invariant.0 ∙ out) l.invariant.1

@@ -5,8 +5,8 @@ use borrow.Author.Rules.{rules}
 use lib.ListN.{length}
 use mathlib.Core.Path.{◌≡◌, sym, ◌∙◌}
 use native.Mathlib.Omega.{arith}
-use Rattle.bits.specs.Lowest.{lowest-below, left-above, left_less}
-use Rattle.bits.specs.Unions.{UnionOf, union-none, union_more, union-all}
+use Rattle.bits.specs.Lowest.{lowest_below, left_above, left_less}
+use Rattle.bits.specs.Unions.{UnionOf, union_none, union_more, union_all}
 use Rattle.bits.proofs.union_of.Given as goal
 
 abbrev pub invariant-loop-left : goal.invariant-loop-left

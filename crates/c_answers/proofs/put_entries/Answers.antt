@@ -2,7 +2,7 @@
 use mathlib.Core.List.{[], ◌∷◌}
 use native.Mathlib.Omega.{arith}
 use lib.ListN.{length-set}
-use Rattle.copying.specs.Runs.{sets-front}
+use Rattle.copying.specs.Runs.{sets_front}
 use Rattle.c_answers.proofs.put_entries.Goals as goal
 
 pub bounds-answer-1 : goal.bounds-answer-1
@@ -12,4 +12,4 @@ pub bounds-answer-2 : goal.bounds-answer-2
 bounds-answer-2 c = simp length-set (omega arith)
 
 pub returns : goal.returns
-returns c = sets-front (c.args.a ∷ c.args.b ∷ c.args.c ∷ c.args.d ∷ []) c.args.answer.now c.requires
+returns c = sets_front (c.args.a ∷ c.args.b ∷ c.args.c ∷ c.args.d ∷ []) c.args.answer.now c.requires

@@ -8,7 +8,7 @@ use Rattle.code.specs.declared.Word.{Word}
 use Rattle.code.specs.declared.Row.{Row}
 use Rattle.code.specs.declared.Code.{Code}
 use Rattle.code.specs.Definitions.Lists.{tabulate}
-use Rattle.code.specs.Laws.Filling.{fill-next}
+use Rattle.code.specs.Laws.Filling.{fill_next}
 use Rattle.c_image.specs.Image.{marks_place, count_place, code_length, origins_place, behind_place, row_in, word_number, row_number, code_in, enlarged_in}
 
 -- Filled to its end, an array is the table.
@@ -31,21 +31,21 @@ pub record Unpacked (b : List ℕ) (c : Code) (k : ℕ) : Type 0 where
   pub begins : c.begins ≡ (row_in b marks_place).entries
   pub count : c.count ≡ get_or b count_place 0
 
-pub unpacked-next : (b : List ℕ) (c : Code) (k : ℕ) (w : Word) (r : Row) → Unpacked b c k → k < 32 → w ≡ word_number b k → r ≡ row_number b k
+pub unpacked_next : (b : List ℕ) (c : Code) (k : ℕ) (w : Word) (r : Row) → Unpacked b c k → k < 32 → w ≡ word_number b k → r ≡ row_number b k
     → Unpacked b (record { words = set c.words k w; rows = set c.rows k r; begins = c.begins; count = c.count }) (k + 1)
-unpacked-next b c k w r u h e n = record {
+unpacked_next b c k w r u h e n = record {
   most = omega arith;
   words_long = length-set c.words k w ∙ u.words_long;
   rows_long = length-set c.rows k r ∙ u.rows_long;
-  words = rw (u.words, e) (fill-next (word_number b) (replicate 32 zero_word) k h);
-  rows = rw (u.rows, n) (fill-next (row_number b) (replicate 32 zero_row) k h);
+  words = rw (u.words, e) (fill_next (word_number b) (replicate 32 zero_word) k h);
+  rows = rw (u.rows, n) (fill_next (row_number b) (replicate 32 zero_row) k h);
   begins = u.begins;
   count = u.count;
 }
 
-pub unpacked-all : (b : List ℕ) (c : Code) (k : ℕ) → Unpacked b c k → 32 ≤ k → c ≡ code_in b
+pub unpacked_all : (b : List ℕ) (c : Code) (k : ℕ) → Unpacked b c k → 32 ≤ k → c ≡ code_in b
 unfolding code_in
-unpacked-all b c k u h =
+unpacked_all b c k u h =
     let words-all = u.words ∙ filled (word_number b) (replicate 32 zero_word) k 32 (omega (arith, u.most)) (omega arith) in
     let rows_all = u.rows ∙ filled (row_number b) (replicate 32 zero_row) k 32 (omega (arith, u.most)) (omega arith) in
     rw (← words-all, ← rows_all, ← u.begins, ← u.count)

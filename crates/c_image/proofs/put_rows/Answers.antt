@@ -1,7 +1,7 @@
 use mathlib.Core.Path.{refl, sym}
 use mathlib.Core.List.{flat_map}
 use native.Mathlib.Omega.{arith}
-use Rattle.c_image.specs.Packing.{rows_next, all-rows}
+use Rattle.c_image.specs.Packing.{rows_next, all_rows}
 use Rattle.c_image.proofs.put_rows.Goals as goal
 
 pub loop-k-init : goal.loop-k-init
@@ -28,4 +28,4 @@ loop-k-preserved c =
 pub returns : goal.returns
 returns c =
     let l = c.loop-k in
-    rw (all-rows c.requires.0 l.k (omega arith)) at l.invariant.2
+    rw (all_rows c.requires.0 l.k (omega arith)) at l.invariant.2

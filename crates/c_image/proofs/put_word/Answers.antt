@@ -3,7 +3,7 @@ use mathlib.Core.Path.{◌≡◌}
 use native.Mathlib.Omega.{arith}
 use lib.ListN.{length}
 use borrow.Author.Rules.{rules}
-use Rattle.c_image.specs.Packing.{word-stored}
+use Rattle.c_image.specs.Packing.{word_stored}
 use Rattle.c_image.proofs.put_word.Goals as goal
 
 pub copy_at-requires : goal.copy_at-requires
@@ -12,4 +12,4 @@ copy_at-requires c = let long : length c.args.w.symbols ≡ 16 = search rules in
 pub returns : goal.returns
 returns c =
     let a = c.args in
-    word-stored a.w a.table.now _ a.at (search rules) (search rules) c.copy_at.ensures
+    word_stored a.w a.table.now _ a.at (search rules) (search rules) c.copy_at.ensures

@@ -1,7 +1,7 @@
 use mathlib.Core.Path.{refl}
 use mathlib.Core.List.{flat_map}
 use native.Mathlib.Omega.{arith}
-use Rattle.c_image.specs.Packing.{words-next, all_words}
+use Rattle.c_image.specs.Packing.{words_next, all_words}
 use Rattle.c_image.proofs.put_words.Goals as goal
 
 pub loop-k-init : goal.loop-k-init
@@ -18,7 +18,7 @@ pub loop-k-preserved : goal.loop-k-preserved
 loop-k-preserved c =
     let l = c.loop-k in
     let fits = c.requires.0 in
-    (omega arith, omega arith, words-next fits _ l.table _ l.k (omega arith) l.invariant.2 c.put_word.ensures)
+    (omega arith, omega arith, words_next fits _ l.table _ l.k (omega arith) l.invariant.2 c.put_word.ensures)
 
 pub returns : goal.returns
 returns c =

@@ -2,7 +2,7 @@ use mathlib.Core.Path.{refl, ◌∙◌}
 use native.Mathlib.Omega.{arith}
 use lib.ListN.{replicate, length-set}
 use Rattle.code.specs.Definitions.Lists.{tabulate as filling}
-use Rattle.code.specs.Laws.Filling.{fill-next}
+use Rattle.code.specs.Laws.Filling.{fill_next}
 use Rattle.c_image.specs.Image.{byte_from}
 use Rattle.c_image.proofs.Laws.Unpacking.{filled}
 use Rattle.c_image.proofs.row_in.Goals as goal
@@ -15,7 +15,7 @@ pub loop-y-preserved : goal.loop-y-preserved
 loop-y-preserved c =
     let l = c.loop-y in
     let a = c.args in
-    (omega arith, simp length-set l.invariant.1, rw l.invariant.2 (fill-next (byte_from a.table.now a.at) (replicate 32 0) l.y (omega arith)))
+    (omega arith, simp length-set l.invariant.1, rw l.invariant.2 (fill_next (byte_from a.table.now a.at) (replicate 32 0) l.y (omega arith)))
 
 pub returns : goal.returns
 returns c =

@@ -3,7 +3,7 @@ use native.Mathlib.Omega.{arith}
 use Rattle.code.specs.declared.Row.{Row}
 use Rattle.code.specs.Definitions.Lists.{tabulate as filling}
 use Rattle.c_image.specs.Image.{count_place}
-use Rattle.c_image.proofs.Laws.Unpacking.{unpacked-next, unpacked-all}
+use Rattle.c_image.proofs.Laws.Unpacking.{unpacked_next, unpacked_all}
 use Rattle.c_image.proofs.unpack_code.Goals as goal
 
 pub overflow_cast-code : goal.overflow_cast-code
@@ -16,7 +16,7 @@ loop-k-init c = record { most = omega arith; words_long = refl; rows_long = refl
 pub loop-k-preserved : goal.loop-k-preserved
 loop-k-preserved c =
     let l = c.loop-k in
-    unpacked-next _ l.code l.k _ _ l.invariant (omega arith) c.word_in-word.ensures c.row_in-row.ensures
+    unpacked_next _ l.code l.k _ _ l.invariant (omega arith) c.word_in-word.ensures c.row_in-row.ensures
 
 pub returns : goal.returns
-returns c = let l = c.loop-k in unpacked-all _ l.code l.k l.invariant (omega arith)
+returns c = let l = c.loop-k in unpacked_all _ l.code l.k l.invariant (omega arith)

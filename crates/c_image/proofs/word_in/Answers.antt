@@ -3,7 +3,7 @@ use Prim.Native.Nat.{◌+◌}
 use native.Mathlib.Omega.{arith}
 use lib.ListN.{replicate, length-set}
 use Rattle.code.specs.Definitions.Lists.{tabulate as filling}
-use Rattle.code.specs.Laws.Filling.{fill-next}
+use Rattle.code.specs.Laws.Filling.{fill_next}
 use Rattle.c_image.specs.Image.{byte_from}
 use Rattle.c_image.proofs.Laws.Unpacking.{filled}
 use Rattle.c_image.proofs.word_in.Goals as goal
@@ -19,7 +19,7 @@ pub loop-k-preserved : goal.loop-k-preserved
 loop-k-preserved c =
     let l = c.loop-k in
     let a = c.args in
-    (omega arith, simp length-set l.invariant.1, rw l.invariant.2 (fill-next (byte_from a.table.now a.at) (replicate 16 0) l.k (omega arith)), l.invariant.3)
+    (omega arith, simp length-set l.invariant.1, rw l.invariant.2 (fill_next (byte_from a.table.now a.at) (replicate 16 0) l.k (omega arith)), l.invariant.3)
 
 pub returns : goal.returns
 returns c =

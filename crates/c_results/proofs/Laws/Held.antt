@@ -51,5 +51,5 @@ given {a} {n} {bytes} {b} call =
     (d.0, rw (d.0, le-ltb (length b) n d.1) at call.buffer)
 
 -- Classes that were written stand there.
-pub classes-there : (c b : List ℕ) → length c ≡ different_bytes → classes_in (written c b) ≡ record { entries = c }
-classes-there c b long = ap (λ (l : List ℕ). record { entries = l }) (take_at c (drop (length c) b) different_bytes long)
+pub classes_there : (c b : List ℕ) → length c ≡ different_bytes → classes_in (written c b) ≡ record { entries = c }
+classes_there c b long = ap (λ (l : List ℕ). record { entries = l }) (take_at c (drop (length c) b) different_bytes long)

@@ -5,11 +5,11 @@ use lib.ListN.{length}
 use borrow.Author.Rules.{rules}
 use borrow.Author.Tests.{lt-ltb, le-ltb}
 use Rattle.code.specs.Definitions.ClassSheets.{different_bytes}
-use Rattle.c_results.proofs.Laws.Ways.{given-short, given-written, given-refused, front-pasted}
+use Rattle.c_results.proofs.Laws.Ways.{given_short, given_written, given_refused, front_pasted}
 use Rattle.c_results.proofs.put_classes.Goals as goal
 
 pub returns-then-short : goal.returns-then-short
-returns-then-short c = given-short refl c.in-Accepted.is (lt-ltb _ _ c.if-short.true) c.number.ensures
+returns-then-short c = given_short refl c.in-Accepted.is (lt-ltb _ _ c.if-short.true) c.number.ensures
 
 pub copy_at-requires : goal.copy_at-requires
 copy_at-requires c =
@@ -22,8 +22,8 @@ pub returns-else-short : goal.returns-else-short
 returns-else-short c =
     let a = c.args in
     let whole : length a.classes.entries ≡ different_bytes = search rules in
-    given-written refl c.in-Accepted.is (le-ltb _ _ c.if-short.false)
-    (front-pasted a.out.now a.classes.entries different_bytes whole c.copy_at.ensures)
+    given_written refl c.in-Accepted.is (le-ltb _ _ c.if-short.false)
+    (front_pasted a.out.now a.classes.entries different_bytes whole c.copy_at.ensures)
 
 pub returns-in-Refused : goal.returns-in-Refused
-returns-in-Refused c = given-refused refl c.in-Refused.is c.lower.ensures
+returns-in-Refused c = given_refused refl c.in-Refused.is c.lower.ensures

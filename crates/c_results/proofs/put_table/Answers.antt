@@ -1,17 +1,17 @@
 -- The answer decides: the lower of its own refusal and 13, where the buffer is too short for a table; or the table is packed.
 use mathlib.Core.Path.{refl}
 use borrow.Author.Tests.{lt-ltb, le-ltb}
-use Rattle.c_results.proofs.Laws.Ways.{given-short, given-written, given-refused}
+use Rattle.c_results.proofs.Laws.Ways.{given_short, given_written, given_refused}
 use Rattle.c_results.proofs.put_table.Goals as goal
 
 pub returns-then-short : goal.returns-then-short
-returns-then-short c = given-short refl c.in-Accepted.is (lt-ltb _ _ c.if-short.true) c.number.ensures
+returns-then-short c = given_short refl c.in-Accepted.is (lt-ltb _ _ c.if-short.true) c.number.ensures
 
 pub pack-requires : goal.pack-requires
 pack-requires c = (c.requires c.in-Accepted.is, c.if-short.false)
 
 pub returns-else-short : goal.returns-else-short
-returns-else-short c = given-written refl c.in-Accepted.is (le-ltb _ _ c.if-short.false) c.pack.ensures
+returns-else-short c = given_written refl c.in-Accepted.is (le-ltb _ _ c.if-short.false) c.pack.ensures
 
 pub returns-in-Refused : goal.returns-in-Refused
-returns-in-Refused c = given-refused refl c.in-Refused.is c.lower.ensures
+returns-in-Refused c = given_refused refl c.in-Refused.is c.lower.ensures

@@ -14,28 +14,28 @@ use Rattle.code.specs.Definitions.Sheets.{is_digit}
 use Rattle.code.specs.Definitions.Texts.{other}
 use Rattle.code.specs.Laws.Clean.{Clean, record_fields}
 use Rattle.csv_records.specs.Fields.{leading}
-use Rattle.csv_records.specs.Front.{Next, rest_of, first_field-law, joined, any-first, record-goes-on, record-ends}
+use Rattle.csv_records.specs.Front.{Next, rest_of, first_field_lem, joined, any_first, record_goes_on, record_ends}
 use Rattle.class_records.specs.Ensured.{SevenBytes, Formed, RangeFrom}
-use Rattle.class_records.proofs.Laws.Values.{digits-many, symbol-digit}
+use Rattle.class_records.proofs.Laws.Values.{digits_many, symbol_digit}
 
 -- What stands in a field are digits, so only their number counts.
-leading-digits : (t : List ℕ) → every is_digit (leading t) ≡ true
+leading_digits : (t : List ℕ) → every is_digit (leading t) ≡ true
 unfolding leading every
-leading-digits [] = refl
-leading-digits (a ∷ t) = by-digit (is_digit a) refl (leading-digits t)
+leading_digits [] = refl
+leading_digits (a ∷ t) = by_digit (is_digit a) refl (leading_digits t)
   where
-    by-digit : (b : Bool) → is_digit a ≡ b → every is_digit (leading t) ≡ true → every is_digit (if b then a ∷ leading t else []) ≡ true
-    by-digit true e h = rw (e, h)
-    by-digit false e h = refl
+    by_digit : (b : Bool) → is_digit a ≡ b → every is_digit (leading t) ≡ true → every is_digit (if b then a ∷ leading t else []) ≡ true
+    by_digit true e h = rw (e, h)
+    by_digit false e h = refl
 
-pub digits-counted : (s : List ℕ) (from n : ℕ) {e : ℕ} → e ≡ from + length (leading (drop from s)) → eqb (e - from) n ≡ digits n (leading (drop from s))
-digits-counted s from n {e} q = let k : e - from ≡ length (leading (drop from s)) = omega arith in rw (k, leading-digits (drop from s), and-true)
+pub digits_counted : (s : List ℕ) (from n : ℕ) {e : ℕ} → e ≡ from + length (leading (drop from s)) → eqb (e - from) n ≡ digits n (leading (drop from s))
+digits_counted s from n {e} q = let k : e - from ≡ length (leading (drop from s)) = omega arith in rw (k, leading_digits (drop from s), and-true)
 
 -- A record that is not three fields of two digits, two and one
-malformed-unless : (r : List (List ℕ)) → (length r ≡ 3 → digits 2 (get_or r 0 []) ≡ true → digits 2 (get_or r 1 []) ≡ true → digits 1 (get_or r 2 []) ≡ true → ⊥)
+malformed_unless : (r : List (List ℕ)) → (length r ≡ 3 → digits 2 (get_or r 0 []) ≡ true → digits 2 (get_or r 1 []) ≡ true → digits 1 (get_or r 2 []) ≡ true → ⊥)
     → malformed r ≡ true
 unfolding malformed
-malformed-unless r never =
+malformed_unless r never =
     fails (eqb (length r) 3) (digits 2 (get_or r 0 [])) (digits 2 (get_or r 1 [])) (digits 1 (get_or r 2 [])) (λ a. never (eqb-true (length r) 3 a))
   where
     fails : (a b c d : Bool) → (a ≡ true → b ≡ true → c ≡ true → d ≡ true → ⊥) → not (a && b && c && d) ≡ true
@@ -45,87 +45,87 @@ malformed-unless r never =
     fails true false c d n = refl
     fails false b c d n = refl
 
-three-formed : (f g h : List ℕ) → digits 2 f ≡ true → digits 2 g ≡ true → digits 1 h ≡ true → malformed (f ∷ g ∷ h ∷ []) ≡ false
+three_formed : (f g h : List ℕ) → digits 2 f ≡ true → digits 2 g ≡ true → digits 1 h ≡ true → malformed (f ∷ g ∷ h ∷ []) ≡ false
 unfolding malformed
-three-formed f g h p q r = rw (p, q, r)
+three_formed f g h p q r = rw (p, q, r)
 
-formed-not : {s : List ℕ} {from : ℕ} → any malformed (record_fields (drop from s)) ≡ true → Formed s from false
-formed-not e = record { yes = λ t. absurd (true≢false (sym t)); no = λ t. e }
+formed_not : {s : List ℕ} {from : ℕ} → any malformed (record_fields (drop from s)) ≡ true → Formed s from false
+formed_not e = record { yes = λ t. absurd (true≢false (sym t)); no = λ t. e }
 
 -- One field of n digits that begins at `from` and ends at e: where the record goes on, and where it ends.
 module _ (s : List ℕ) (from n e : ℕ) (c : Clean (drop from s)) (d : digits n (leading (drop from s)) ≡ true) (is : e ≡ from + n) where
   ends : e ≡ from + length (leading (drop from s))
-  ends = let k = digits-many n (leading (drop from s)) d in omega arith
+  ends = let k = digits_many n (leading (drop from s)) d in omega arith
 
   goes_on : (k : ℕ) → k ≡ e + 1 → get_or s e 0 ≡ 44 → Next (record_fields (drop from s)) (leading (drop from s)) (drop k s)
-  goes_on k q h = rw q (record-goes-on s from e c ends h).0
+  goes_on k q h = rw q (record_goes_on s from e c ends h).0
 
   stops : (k : ℕ) → k ≡ e + 2 → (get_or s e 0 ≡ 44 → ⊥)
       → (record_fields (drop from s) ≡ (leading (drop from s) ∷ []) ∷ rest_of s k) × (k ≤ length s → Clean (drop k s))
-  stops k q h = rw q (record-ends s from e c ends h)
+  stops k q h = rw q (record_ends s from e c ends h)
 
 -- The record that begins at `from`, by its fields f, g and h.
 module _ (s : List ℕ) (from : ℕ) (c : Clean (drop from s)) {t : Bool} (first : t ≡ digits 2 (leading (drop from s))) where
   abbrev f : List ℕ
   f = leading (drop from s)
 
-  pub lowest-wrong : not t ≡ true → Formed s from false
-  lowest-wrong n =
-      formed-not (any-first malformed (f ∷ drop 1 (get_or (record_fields (drop from s)) 0 [])) (drop 1 (record_fields (drop from s))) (first_field-law c)
-      (malformed-unless (f ∷ drop 1 (get_or (record_fields (drop from s)) 0 [])) (λ l p q r. true≢false (sym p ∙ sym first ∙ not-true t n))))
+  pub lowest_wrong : not t ≡ true → Formed s from false
+  lowest_wrong n =
+      formed_not (any_first malformed (f ∷ drop 1 (get_or (record_fields (drop from s)) 0 [])) (drop 1 (record_fields (drop from s))) (first_field_lem c)
+      (malformed_unless (f ∷ drop 1 (get_or (record_fields (drop from s)) 0 [])) (λ l p q r. true≢false (sym p ∙ sym first ∙ not-true t n))))
 
   module _ (yes-1 : not t ≡ false) {b : ℕ} (behind : b ≡ get_or s (from + 2) 0) where
     d_1 : digits 2 f ≡ true
     d_1 = sym first ∙ not-false t yes-1
 
-    pub lowest-only : (b ≡ 44 → ⊥) → Formed s from false
-    lowest-only n =
-        formed-not (any-first malformed (f ∷ []) (rest_of s (from + 4)) (stops s from 2 (from + 2) c d_1 refl (from + 4) (omega arith) (λ h. n (behind ∙ h))).0
-        (malformed-unless (f ∷ []) (λ l p q r. omega arith)))
+    pub lowest_only : (b ≡ 44 → ⊥) → Formed s from false
+    lowest_only n =
+        formed_not (any_first malformed (f ∷ []) (rest_of s (from + 4)) (stops s from 2 (from + 2) c d_1 refl (from + 4) (omega arith) (λ h. n (behind ∙ h))).0
+        (malformed_unless (f ∷ []) (λ l p q r. omega arith)))
 
     module _ (comma-1 : b ≡ 44) where
-      next-1 : Next (record_fields (drop from s)) f (drop (from + 3) s)
-      next-1 = goes_on s from 2 (from + 2) c d_1 refl (from + 3) (omega arith) (sym behind ∙ comma-1)
+      next_1 : Next (record_fields (drop from s)) f (drop (from + 3) s)
+      next_1 = goes_on s from 2 (from + 2) c d_1 refl (from + 3) (omega arith) (sym behind ∙ comma-1)
 
       abbrev g : List ℕ
       g = leading (drop (from + 3) s)
 
-      from-1 : (r : List (List ℕ)) (l : List (List (List ℕ))) → record_fields (drop (from + 3) s) ≡ r ∷ l → record_fields (drop from s) ≡ (f ∷ r) ∷ l
-      from-1 r l = joined f (record_fields (drop (from + 3) s)) r l next-1.same
+      from_1 : (r : List (List ℕ)) (l : List (List (List ℕ))) → record_fields (drop (from + 3) s) ≡ r ∷ l → record_fields (drop from s) ≡ (f ∷ r) ∷ l
+      from_1 r l = joined f (record_fields (drop (from + 3) s)) r l next_1.same
 
       module _ {u : Bool} (second : u ≡ digits 2 g) where
-        pub highest-wrong : not u ≡ true → Formed s from false
-        highest-wrong n =
+        pub highest_wrong : not u ≡ true → Formed s from false
+        highest_wrong n =
             let r = drop 1 (get_or (record_fields (drop (from + 3) s)) 0 []) in
-            formed-not (any-first malformed (f ∷ g ∷ r) (drop 1 (record_fields (drop (from + 3) s))) (from-1 (g ∷ r) (drop 1 (record_fields (drop (from + 3) s))) (first_field-law next-1.clean))
-            (malformed-unless (f ∷ g ∷ r) (λ l p q z. true≢false (sym q ∙ sym second ∙ not-true u n))))
+            formed_not (any_first malformed (f ∷ g ∷ r) (drop 1 (record_fields (drop (from + 3) s))) (from_1 (g ∷ r) (drop 1 (record_fields (drop (from + 3) s))) (first_field_lem next_1.clean))
+            (malformed_unless (f ∷ g ∷ r) (λ l p q z. true≢false (sym q ∙ sym second ∙ not-true u n))))
 
         module _ (yes-2 : not u ≡ false) {a : ℕ} (behind-2 : a ≡ get_or s (from + 5) 0) where
           d_2 : digits 2 g ≡ true
           d_2 = sym second ∙ not-false u yes-2
 
-          pub highest-last : (a ≡ 44 → ⊥) → Formed s from false
-          highest-last n =
-              formed-not (any-first malformed (f ∷ g ∷ []) (rest_of s (from + 7))
-              (from-1 (g ∷ []) (rest_of s (from + 7)) (stops s (from + 3) 2 (from + 5) next-1.clean d_2 (omega arith) (from + 7) (omega arith) (λ h. n (behind-2 ∙ h))).0)
-              (malformed-unless (f ∷ g ∷ []) (λ l p q r. omega arith)))
+          pub highest_last : (a ≡ 44 → ⊥) → Formed s from false
+          highest_last n =
+              formed_not (any_first malformed (f ∷ g ∷ []) (rest_of s (from + 7))
+              (from_1 (g ∷ []) (rest_of s (from + 7)) (stops s (from + 3) 2 (from + 5) next_1.clean d_2 (omega arith) (from + 7) (omega arith) (λ h. n (behind-2 ∙ h))).0)
+              (malformed_unless (f ∷ g ∷ []) (λ l p q r. omega arith)))
 
           module _ (comma-2 : a ≡ 44) where
-            next-2 : Next (record_fields (drop (from + 3) s)) g (drop (from + 6) s)
-            next-2 = goes_on s (from + 3) 2 (from + 5) next-1.clean d_2 (omega arith) (from + 6) (omega arith) (sym behind-2 ∙ comma-2)
+            next_2 : Next (record_fields (drop (from + 3) s)) g (drop (from + 6) s)
+            next_2 = goes_on s (from + 3) 2 (from + 5) next_1.clean d_2 (omega arith) (from + 6) (omega arith) (sym behind-2 ∙ comma-2)
 
             abbrev h : List ℕ
             h = leading (drop (from + 6) s)
 
-            from-2 : (r : List (List ℕ)) (l : List (List (List ℕ))) → record_fields (drop (from + 6) s) ≡ r ∷ l → record_fields (drop from s) ≡ (f ∷ g ∷ r) ∷ l
-            from-2 r l e = from-1 (g ∷ r) l (joined g (record_fields (drop (from + 6) s)) r l next-2.same e)
+            from_2 : (r : List (List ℕ)) (l : List (List (List ℕ))) → record_fields (drop (from + 6) s) ≡ r ∷ l → record_fields (drop from s) ≡ (f ∷ g ∷ r) ∷ l
+            from_2 r l e = from_1 (g ∷ r) l (joined g (record_fields (drop (from + 6) s)) r l next_2.same e)
 
             module _ {v : Bool} (third : v ≡ digits 1 h) where
-              pub symbol-wrong : not v ≡ true → Formed s from false
-              symbol-wrong n =
+              pub symbol_wrong : not v ≡ true → Formed s from false
+              symbol_wrong n =
                   let r = drop 1 (get_or (record_fields (drop (from + 6) s)) 0 []) in
-                  formed-not (any-first malformed (f ∷ g ∷ h ∷ r) (drop 1 (record_fields (drop (from + 6) s))) (from-2 (h ∷ r) (drop 1 (record_fields (drop (from + 6) s))) (first_field-law next-2.clean))
-                  (malformed-unless (f ∷ g ∷ h ∷ r) (λ l p q z. true≢false (sym z ∙ sym third ∙ not-true v n))))
+                  formed_not (any_first malformed (f ∷ g ∷ h ∷ r) (drop 1 (record_fields (drop (from + 6) s))) (from_2 (h ∷ r) (drop 1 (record_fields (drop (from + 6) s))) (first_field_lem next_2.clean))
+                  (malformed_unless (f ∷ g ∷ h ∷ r) (λ l p q z. true≢false (sym z ∙ sym third ∙ not-true v n))))
 
               -- The byte behind the symbol decides: a comma, and the record has a fourth field; else it is a range.
               module _ (yes-3 : not v ≡ false) {z : ℕ} (behind-3 : z ≡ get_or s (from + 7) 0) where
@@ -134,23 +134,23 @@ module _ (s : List ℕ) (from : ℕ) (c : Clean (drop from s)) {t : Bool} (first
 
                 fourth : get_or s (from + 7) 0 ≡ 44 → any malformed (record_fields (drop from s)) ≡ true
                 fourth k =
-                    let next = goes_on s (from + 6) 1 (from + 7) next-2.clean d_3 (omega arith) (from + 8) (omega arith) k in
+                    let next = goes_on s (from + 6) 1 (from + 7) next_2.clean d_3 (omega arith) (from + 8) (omega arith) k in
                     let rest = record_fields (drop (from + 8) s) in
                     let r = leading (drop (from + 8) s) ∷ drop 1 (get_or rest 0 []) in
-                    any-first malformed (f ∷ g ∷ h ∷ r) (drop 1 rest)
-                    (from-2 (h ∷ r) (drop 1 rest) (joined h rest r (drop 1 rest) next.same (first_field-law next.clean)))
-                    (malformed-unless (f ∷ g ∷ h ∷ r) (λ l p q y. omega arith))
+                    any_first malformed (f ∷ g ∷ h ∷ r) (drop 1 rest)
+                    (from_2 (h ∷ r) (drop 1 rest) (joined h rest r (drop 1 rest) next.same (first_field_lem next.clean)))
+                    (malformed_unless (f ∷ g ∷ h ∷ r) (λ l p q y. omega arith))
 
                 seven : (get_or s (from + 7) 0 ≡ 44 → ⊥) → SevenBytes s from
                 seven k =
-                    let last = stops s (from + 6) 1 (from + 7) next-2.clean d_3 (omega arith) (from + 9) (omega arith) k in
+                    let last = stops s (from + 6) 1 (from + 7) next_2.clean d_3 (omega arith) (from + 9) (omega arith) k in
                     record {
                       lowest = d_1;
                       highest = d_2;
                       symbol = d_3;
-                      first = from-2 (h ∷ []) (rest_of s (from + 9)) last.0;
+                      first = from_2 (h ∷ []) (rest_of s (from + 9)) last.0;
                       clean = last.1;
-                      within = omega (arith, (symbol-digit s (from + 6) d_3).within);
+                      within = omega (arith, (symbol_digit s (from + 6) d_3).within);
                     }
 
                 pub last_byte : Formed s from (not (eqb z 44))
@@ -160,15 +160,15 @@ module _ (s : List ℕ) (from : ℕ) (c : Clean (drop from s)) {t : Bool} (first
                 }
 
 -- A record that is formed, with what its fields stand for
-pub range-read : {s : List ℕ} {from : ℕ} {r : Bool} {lowest highest symbol : ℕ} → Formed s from r → r ≡ true → lowest ≡ byte_of (leading (drop from s))
+pub range_read : {s : List ℕ} {from : ℕ} {r : Bool} {lowest highest symbol : ℕ} → Formed s from r → r ≡ true → lowest ≡ byte_of (leading (drop from s))
     → highest ≡ byte_of (leading (drop (from + 3) s)) → (symbol ≡ symbol_of (leading (drop (from + 6) s))) × (symbol < other)
     → RangeFrom s from lowest highest symbol (from + 9)
-range-read {s} {from} {r} formed n p q z =
+range_read {s} {from} {r} formed n p q z =
     let b = formed.yes n in
     record {
       fields = leading (drop from s) ∷ leading (drop (from + 3) s) ∷ leading (drop (from + 6) s) ∷ [];
       first = b.first;
-      right = three-formed (leading (drop from s)) (leading (drop (from + 3) s)) (leading (drop (from + 6) s)) b.lowest b.highest b.symbol;
+      right = three_formed (leading (drop from s)) (leading (drop (from + 3) s)) (leading (drop (from + 6) s)) b.lowest b.highest b.symbol;
       same = rw (p, q, z.0);
       clean = b.clean;
       letter = z.1;

@@ -13,15 +13,15 @@ use Rattle.code.specs.Definitions.Lists.{every}
 use Rattle.code.specs.Definitions.Sheets.{is_digit, value_of}
 use Rattle.code.specs.Definitions.Texts.{other}
 use Rattle.csv_records.specs.Fields.{leading}
-use Rattle.csv_records.specs.Digits.{value-symbol}
-use Rattle.csv_records.specs.Symbols.{leading-digit, leading-symbol}
+use Rattle.csv_records.specs.Digits.{value_symbol}
+use Rattle.csv_records.specs.Symbols.{leading_digit, leading_symbol}
 
-pub digits-many : (n : ℕ) (f : List ℕ) → digits n f ≡ true → length f ≡ n
-digits-many n f e = eqb-true (length f) n ((and-eq-true_iff (eqb (length f) n) (every is_digit f)).0 e).0
+pub digits_many : (n : ℕ) (f : List ℕ) → digits n f ≡ true → length f ≡ n
+digits_many n f e = eqb-true (length f) n ((and-eq-true_iff (eqb (length f) n) (every is_digit f)).0 e).0
 
 -- Past the end a read gives 0, which is no digit.
-digit-within : (s : List ℕ) (k : ℕ) → is_digit (get_or s k 0) ≡ true → k < length s
-digit-within s k d = by_place (dec_lt k (length s))
+digit_within : (s : List ℕ) (k : ℕ) → is_digit (get_or s k 0) ≡ true → k < length s
+digit_within s k d = by_place (dec_lt k (length s))
   where
     by_place : Dec (k < length s) → k < length s
     by_place (yes h) = h
@@ -34,26 +34,26 @@ pub record DigitAt (s f : List ℕ) (k j : ℕ) : Type 0 where
   pub value : value_of (get_or s k 0) ≡ value_of (get_or f j 48)
   pub small : value_of (get_or s k 0) < other
 
-pub field-digit : (s : List ℕ) (from n j k : ℕ) → k ≡ from + j → digits n (leading (drop from s)) ≡ true → j < n → DigitAt s (leading (drop from s)) k j
-field-digit s from n j k q d h =
-    let l : j < length (leading (drop from s)) = omega (arith, digits-many n (leading (drop from s)) d) in
-    let e = leading-digit s from j l in
-    rw q (record { within = digit-within s (from + j) e; digit = e; value = leading-symbol s from j l; small = value-symbol (get_or s (from + j) 0) e })
+pub field_digit : (s : List ℕ) (from n j k : ℕ) → k ≡ from + j → digits n (leading (drop from s)) ≡ true → j < n → DigitAt s (leading (drop from s)) k j
+field_digit s from n j k q d h =
+    let l : j < length (leading (drop from s)) = omega (arith, digits_many n (leading (drop from s)) d) in
+    let e = leading_digit s from j l in
+    rw q (record { within = digit_within s (from + j) e; digit = e; value = leading_symbol s from j l; small = value_symbol (get_or s (from + j) 0) e })
 
 -- The digit of a symbol, and the two of a byte.
 module _ (s : List ℕ) (from : ℕ) where
-  pub symbol-digit : digits 1 (leading (drop from s)) ≡ true → DigitAt s (leading (drop from s)) from 0
-  symbol-digit d = field-digit s from 1 0 from (omega arith) d (omega arith)
+  pub symbol_digit : digits 1 (leading (drop from s)) ≡ true → DigitAt s (leading (drop from s)) from 0
+  symbol_digit d = field_digit s from 1 0 from (omega arith) d (omega arith)
 
   module _ (d : digits 2 (leading (drop from s)) ≡ true) where
     pub high_digit : DigitAt s (leading (drop from s)) from 0
-    high_digit = field-digit s from 2 0 from (omega arith) d (omega arith)
+    high_digit = field_digit s from 2 0 from (omega arith) d (omega arith)
 
     pub low_digit : DigitAt s (leading (drop from s)) (from + 1) 1
-    low_digit = field-digit s from 2 1 (from + 1) (omega arith) d (omega arith)
+    low_digit = field_digit s from 2 1 (from + 1) (omega arith) d (omega arith)
 
-    pub digits-small : {high low : ℕ} → high ≡ value_of (get_or s from 0) → low ≡ value_of (get_or s (from + 1) 0) → (high < other) × (low < other)
-    digits-small p q = (omega (arith, high_digit.small), omega (arith, low_digit.small))
+    pub digits_small : {high low : ℕ} → high ≡ value_of (get_or s from 0) → low ≡ value_of (get_or s (from + 1) 0) → (high < other) × (low < other)
+    digits_small p q = (omega (arith, high_digit.small), omega (arith, low_digit.small))
 
-    pub byte-read : {high low : ℕ} → high ≡ value_of (get_or s from 0) → low ≡ value_of (get_or s (from + 1) 0) → 16 * high + low ≡ byte_of (leading (drop from s))
-    byte-read p q = rw (p, q, high_digit.value, low_digit.value)
+    pub byte_read : {high low : ℕ} → high ≡ value_of (get_or s from 0) → low ≡ value_of (get_or s (from + 1) 0) → 16 * high + low ≡ byte_of (leading (drop from s))
+    byte_read p q = rw (p, q, high_digit.value, low_digit.value)

@@ -1,6 +1,6 @@
 -- A record that is formed is read field by field.
 use Rattle.class_records.specs.Ensured.{wrong, found}
-use Rattle.class_records.proofs.Laws.Forms.{range-read}
+use Rattle.class_records.proofs.Laws.Forms.{range_read}
 use Rattle.class_records.proofs.read_range.Goals as goal
 
 pub returns-then-not-is_formed : goal.returns-then-not-is_formed
@@ -18,5 +18,5 @@ symbol_in-symbol-requires c = (c.is_formed.ensures.yes c.if-not-is_formed.false)
 pub returns : goal.returns
 returns c =
     found
-    (range-read c.is_formed.ensures c.if-not-is_formed.false c.byte_in-lowest.ensures c.byte_in-highest.ensures
+    (range_read c.is_formed.ensures c.if-not-is_formed.false c.byte_in-lowest.ensures c.byte_in-highest.ensures
     c.symbol_in-symbol.ensures)

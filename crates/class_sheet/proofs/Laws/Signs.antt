@@ -5,6 +5,6 @@ use Prim.Native.Nat.{ℕ}
 use Rattle.code.specs.Definitions.Lists.{any}
 use Rattle.code.specs.Definitions.Texts.{syllable_break, signs}
 
-pub signs-tested : (p : ℕ → Bool) → p syllable_break || (p 40 || p 41 || (p 91 || p 93)) ≡ any p signs
+pub signs_tested : (p : ℕ → Bool) → p syllable_break || (p 40 || p 41 || (p 91 || p 93)) ≡ any p signs
 unfolding any
-signs-tested p = rw (or-false (p 93), or_assoc (p 40) (p 41) (p 91 || p 93))
+signs_tested p = rw (or-false (p 93), or_assoc (p 40) (p 41) (p 91 || p 93))

@@ -13,10 +13,10 @@ use Rattle.code.specs.declared.SheetAnswer.TheVariants.{Refused}
 use Rattle.code.specs.Definitions.ClassSheets.{Range, range_of, malformed, takes_sign, refused19, different_bytes, all_bytes, takers, refused20, class_by, classes_of}
 use Rattle.code.specs.Definitions.Lists.{any}
 use Rattle.code.specs.Definitions.Texts.{other, class_of, is_letter, signs}
-use Rattle.code.specs.Laws.Lists.{any-tabulate, any-alike, tabulate-list}
+use Rattle.code.specs.Laws.Lists.{any-tabulate, any_alike, tabulate_list}
 use Rattle.class_sheet.specs.Filling.{from_to, FilledBy}
 use Rattle.class_sheet.specs.Records.{ranges_in, bad_records, taken_records, judged, Answers, refused, accepted}
-use Rattle.class_sheet.proofs.Laws.Counting.{seen, twice-next, class-next, others-next}
+use Rattle.class_sheet.proofs.Laws.Counting.{seen, twice_next, class_next, others_next}
 
 -- Of the records `whole`, those of `rest` are to come: c has the classes so far, and it is known whether a range was upside down and whether two took in a byte.
 pub record Sofar (whole rest : List (List (List ℕ))) (c : List ℕ) (upside twice : Bool) : Type 0 where
@@ -28,17 +28,17 @@ pub record Sofar (whole rest : List (List (List ℕ))) (c : List ℕ) (upside tw
   pub long : length c ≡ different_bytes
 
 -- No record was met, and no byte is a letter.
-pub sofar-none : (g : List (List (List ℕ))) {c : List ℕ} → c ≡ replicate different_bytes other → Sofar g g c false false
+pub sofar_none : (g : List (List (List ℕ))) {c : List ℕ} → c ≡ replicate different_bytes other → Sofar g g c false false
 unfolding refused20 all_bytes
-sofar-none g {c} e =
+sofar_none g {c} e =
     let none : (b : ℕ) → b < different_bytes → class_of c b ≡ other = λ b h. rw e (get_or-replicate different_bytes b other 0 h) in
-    let no-letter : (b : ℕ) → b < different_bytes → is_letter c b ≡ false = λ b h. rw (none b h) in
+    let no_letter : (b : ℕ) → b < different_bytes → is_letter c b ≡ false = λ b h. rw (none b h) in
     record {
       bad = refl;
       down = refl;
-      met = any-alike (λ b. ltb 1 (seen c b + takers b (ranges_in g))) (λ b. ltb 1 (takers b (ranges_in g))) (λ b. b) different_bytes
-          (λ b h. let k : 0 + takers b (ranges_in g) ≡ takers b (ranges_in g) = omega arith in rw (no-letter b h, k));
-      class = λ b h. rw (no-letter b h);
+      met = any_alike (λ b. ltb 1 (seen c b + takers b (ranges_in g))) (λ b. ltb 1 (takers b (ranges_in g))) (λ b. b) different_bytes
+          (λ b h. let k : 0 + takers b (ranges_in g) ≡ takers b (ranges_in g) = omega arith in rw (no_letter b h, k));
+      class = λ b h. rw (no_letter b h);
       others = λ b h n. none b h;
       long = rw e (length-replicate different_bytes other);
     }
@@ -49,31 +49,31 @@ module _ {whole g : List (List (List ℕ))} {f : List (List ℕ)} {c : List ℕ}
   abbrev takes : Bool
   takes = any (from_to low high) signs
 
-  sign-tested : takes_sign (range_of f) ≡ takes
+  sign_tested : takes_sign (range_of f) ≡ takes
   unfolding takes_sign
-  sign-tested = ap takes_sign is
+  sign_tested = ap takes_sign is
 
-  pub sofar-sign : takes ≡ true → bad_records whole ≡ true
+  pub sofar_sign : takes ≡ true → bad_records whole ≡ true
   unfolding any
-  sofar-sign e = sym s.bad ∙ rw (sign-tested, e) (last (malformed f || any malformed g))
+  sofar_sign e = sym s.bad ∙ rw (sign_tested, e) (last (malformed f || any malformed g))
     where
       last : (a : Bool) → (a || true) ≡ true
       last true = refl
       last false = refl
 
-  pub sofar-next : malformed f ≡ false → takes ≡ false → symbol < other → {d : List ℕ} {m : Bool} → FilledBy (from_to low high) symbol c d m
+  pub sofar_next : malformed f ≡ false → takes ≡ false → symbol < other → {d : List ℕ} {m : Bool} → FilledBy (from_to low high) symbol c d m
       → Sofar whole g d (upside || ltb high low) (m || twice)
   unfolding any refused19
-  sofar-next right free small {d} {m} filled =
+  sofar_next right free small {d} {m} filled =
       let down = subst (λ (r : Range). upside || refused19 (r ∷ ranges_in g) ≡ refused19 (ranges_in whole)) is s.down in
       let met = rw is at s.met in
       let class = rw is at s.class in
       record {
-        bad = sym (rw (right, sign-tested, free)) ∙ s.bad;
+        bad = sym (rw (right, sign_tested, free)) ∙ s.bad;
         down = or_assoc upside (ltb high low) (refused19 (ranges_in g)) ∙ down;
-        met = twice-next low high symbol filled small (ranges_in g) twice ∙ met;
-        class = λ b h. class-next low high symbol filled small (ranges_in g) b h ∙ class b h;
-        others = λ b h. others-next low high symbol filled small (ranges_in g) b h (s.others b h);
+        met = twice_next low high symbol filled small (ranges_in g) twice ∙ met;
+        class = λ b h. class_next low high symbol filled small (ranges_in g) b h ∙ class b h;
+        others = λ b h. others_next low high symbol filled small (ranges_in g) b h (s.others b h);
         long = filled.long;
       }
 
@@ -81,39 +81,39 @@ module _ {whole g : List (List (List ℕ))} {f : List (List ℕ)} {c : List ℕ}
 module _ {whole : List (List (List ℕ))} {c : List ℕ} {upside twice : Bool} (s : Sofar whole [] c upside twice) where
   once : any (λ b. ltb 1 (seen c b + takers b [])) all_bytes ≡ false
   unfolding all_bytes takers
-  once = any-tabulate (λ b. ltb 1 (seen c b + 0)) (λ b. b) different_bytes (λ b h. by-test (is_letter c b))
+  once = any-tabulate (λ b. ltb 1 (seen c b + 0)) (λ b. b) different_bytes (λ b h. by_test (is_letter c b))
     where
-      by-test : (t : Bool) → ltb 1 ((if t then 1 else 0) + 0) ≡ false
-      by-test true = refl
-      by-test false = refl
+      by_test : (t : Bool) → ltb 1 ((if t then 1 else 0) + 0) ≡ false
+      by_test true = refl
+      by_test false = refl
 
-  is-twice : refused20 (ranges_in whole) ≡ twice
-  is-twice = sym s.met ∙ rw (once, or-false)
+  is_twice : refused20 (ranges_in whole) ≡ twice
+  is_twice = sym s.met ∙ rw (once, or-false)
 
-  is-upside : refused19 (ranges_in whole) ≡ upside
+  is_upside : refused19 (ranges_in whole) ≡ upside
   unfolding any refused19
-  is-upside = sym s.down ∙ or-false upside
+  is_upside = sym s.down ∙ or-false upside
 
-  is-classes : classes_of (ranges_in whole) ≡ record { entries = c }
+  is_classes : classes_of (ranges_in whole) ≡ record { entries = c }
   unfolding classes_of class_by
-  is-classes =
+  is_classes =
       ap (λ (l : List ℕ). record { entries = l })
-      (tabulate-list (class_by (ranges_in whole)) different_bytes c 0 s.long (λ b h. sym (s.class b h) ∙ by-test b h (is_letter c b) refl))
+      (tabulate_list (class_by (ranges_in whole)) different_bytes c 0 s.long (λ b h. sym (s.class b h) ∙ by_test b h (is_letter c b) refl))
     where
-      by-test : (b : ℕ) → b < different_bytes → (t : Bool) → is_letter c b ≡ t → (if t then class_of c b else other) ≡ class_of c b
-      by-test b h true e = refl
-      by-test b h false e = sym (s.others b h e)
+      by_test : (b : ℕ) → b < different_bytes → (t : Bool) → is_letter c b ≡ t → (if t then class_of c b else other) ≡ class_of c b
+      by_test b h true e = refl
+      by_test b h false e = sym (s.others b h e)
 
-  pub sofar-ends : {a : SheetAnswer} → a ≡ judged false upside twice → Answers whole c a
+  pub sofar_ends : {a : SheetAnswer} → a ≡ judged false upside twice → Answers whole c a
   unfolding taken_records any
-  sofar-ends e = rw e (by_flags upside twice is-upside is-twice)
+  sofar_ends e = rw e (by_flags upside twice is_upside is_twice)
     where
       by_flags : (u t : Bool) → refused19 (ranges_in whole) ≡ u → refused20 (ranges_in whole) ≡ t → Answers whole c (judged false u t)
       by_flags true t p q = refused {r = ClassRange} (rw (← s.bad, p))
       by_flags false true p q = refused {r = ClassOverlap} (rw (← s.bad, p, q))
-      by_flags false false p q = accepted (rw (← s.bad, p, q, is-classes))
+      by_flags false false p q = accepted (rw (← s.bad, p, q, is_classes))
 
 -- A record is malformed, or takes in a sign.
-pub refused-18 : (g : List (List (List ℕ))) {c : List ℕ} → bad_records g ≡ true → {a : SheetAnswer} → a ≡ Refused ClassRecord → Answers g c a
+pub refused_18 : (g : List (List (List ℕ))) {c : List ℕ} → bad_records g ≡ true → {a : SheetAnswer} → a ≡ Refused ClassRecord → Answers g c a
 unfolding taken_records
-refused-18 g bad e = rw e (refused {r = ClassRecord} (rw bad))
+refused_18 g bad e = rw e (refused {r = ClassRecord} (rw bad))

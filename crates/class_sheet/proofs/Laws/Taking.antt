@@ -17,29 +17,29 @@ use Rattle.class_sheet.specs.Records.{taken_records, Answers, refused, accepted}
 
 -- What the answer to the records says
 module _ {g : List (List (List ℕ))} {c : List ℕ} where
-  pub way-refused : {a : SheetAnswer} {r : Refusal} → Answers g c a → a ≡ Refused r → no_classes r ≡ taken_records g
-  way-refused {r = r} (refused {r = q} e) d = let same : q ≡ r = cc in sym (e ∙ ap no_classes same)
-  way-refused (accepted e) d = let z : ◌≡◌ {A = ℕ} 0 1 = cc in absurd (omega arith)
+  pub way_refused : {a : SheetAnswer} {r : Refusal} → Answers g c a → a ≡ Refused r → no_classes r ≡ taken_records g
+  way_refused {r = r} (refused {r = q} e) d = let same : q ≡ r = cc in sym (e ∙ ap no_classes same)
+  way_refused (accepted e) d = let z : ◌≡◌ {A = ℕ} 0 1 = cc in absurd (omega arith)
 
-  pub way-accepted : {a : SheetAnswer} → Answers g c a → a ≡ Accepted → record { answer = Accepted; classes = record { entries = c } } ≡ taken_records g
-  way-accepted (refused e) d = let z : ◌≡◌ {A = ℕ} 0 1 = cc in absurd (omega arith)
-  way-accepted (accepted e) d = sym e
+  pub way_accepted : {a : SheetAnswer} → Answers g c a → a ≡ Accepted → record { answer = Accepted; classes = record { entries = c } } ≡ taken_records g
+  way_accepted (refused e) d = let z : ◌≡◌ {A = ℕ} 0 1 = cc in absurd (omega arith)
+  way_accepted (accepted e) d = sym e
 
 -- the refusal 1, wrong bytes, and what is left
 module _ (s : List ℕ) where
-  pub way-empty : length s ≡ 0 → no_classes SheetLength ≡ taken_classes limits s
+  pub way_empty : length s ≡ 0 → no_classes SheetLength ≡ taken_classes limits s
   unfolding taken_classes
-  way-empty h = rw h
+  way_empty h = rw h
 
   pub way_long : limits.classes < length s → no_classes SheetLength ≡ taken_classes limits s
   unfolding taken_classes
   way_long h = rw (ne_eqb (length s) 0 (λ e. omega arith), lt-ltb limits.classes (length s) h)
 
   module _ (n : length s ≡ 0 → ⊥) (h : length s ≤ limits.classes) where
-    pub way-bytes : bad_bytes false s ≡ true → no_classes ClassRecord ≡ taken_classes limits s
+    pub way_bytes : bad_bytes false s ≡ true → no_classes ClassRecord ≡ taken_classes limits s
     unfolding taken_classes refused18
-    way-bytes b = rw (ne_eqb (length s) 0 n, le-ltb limits.classes (length s) h, b)
+    way_bytes b = rw (ne_eqb (length s) 0 n, le-ltb limits.classes (length s) h, b)
 
-    pub way-records : bad_bytes false s ≡ false → taken_records (record_fields (body s)) ≡ taken_classes limits s
+    pub way_records : bad_bytes false s ≡ false → taken_records (record_fields (body s)) ≡ taken_classes limits s
     unfolding taken_classes refused18 ranges_of taken_records grid
-    way-records b = rw (ne_eqb (length s) 0 n, le-ltb limits.classes (length s) h, b)
+    way_records b = rw (ne_eqb (length s) 0 n, le-ltb limits.classes (length s) h, b)

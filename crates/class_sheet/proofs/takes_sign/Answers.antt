@@ -1,6 +1,6 @@
--- The five tests are joined as `any` joins them (`signs-tested`).
+-- The five tests are joined as `any` joins them (`signs_tested`).
 use Rattle.class_sheet.specs.Filling.{from_to}
-use Rattle.class_sheet.proofs.Laws.Signs.{signs-tested}
+use Rattle.class_sheet.proofs.Laws.Signs.{signs_tested}
 use Rattle.class_sheet.proofs.takes_sign.Goals as goal
 
 pub returns : goal.returns
@@ -17,4 +17,4 @@ returns c =
       c.takes_in-2.ensures,
       c.takes_in.ensures,
     )
-    (signs-tested (from_to a.lowest a.highest))
+    (signs_tested (from_to a.lowest a.highest))

@@ -3,16 +3,16 @@ use Rattle.std.specs.Prelude.{◌↔◌, ℕ}
 use Rattle.code.specs.Definitions.Tables.{Table}
 use Rattle.code.specs.Definitions.Delays.{SharePrefix}
 use Rattle.code.specs.Laws.Sequences.{Free}
-use Rattle.code.specs.Laws.Openings.{RivalsShare, rivals-open, open-rivals}
+use Rattle.code.specs.Laws.Openings.{RivalsShare, rivals_open, open_rivals}
 
 module _ {t : Table} {N : ℕ} where
   pub share→rivals : SharePrefix t N → RivalsShare t N
   share→rivals r =
-      record { x = r.x; s = r.s; y = r.y; u = r.u; parted = open-rivals r.o r.left r.right; differ = r.differ; share = r.share }
+      record { x = r.x; s = r.s; y = r.y; u = r.u; parted = open_rivals r.o r.left r.right; differ = r.differ; share = r.share }
 
   pub rivals→share : Free t → RivalsShare t N → SharePrefix t N
   rivals→share free r =
-      let z = rivals-open free r.parted.rivals in
+      let z = rivals_open free r.parted.rivals in
       record {
         o = z.o;
         x = r.x;
@@ -26,5 +26,5 @@ module _ {t : Table} {N : ℕ} where
       }
 
   -- Without bans sequences that share an opening, and then N symbols, are rivals and what follows them.
-  pub share-rivals : Free t → SharePrefix t N ↔ RivalsShare t N
-  share-rivals free = (share→rivals, rivals→share free)
+  pub share_rivals : Free t → SharePrefix t N ↔ RivalsShare t N
+  share_rivals free = (share→rivals, rivals→share free)

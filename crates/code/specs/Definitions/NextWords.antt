@@ -34,7 +34,7 @@ module _ (t : Table) where
     pub delay : Delay t N
     pub none : (m ≡ []) ⊎ ((x : ℕ) → NextWord t N m x → ⊥)
 
-  -- "For a table with delay N .. name the one word": by the delay no other is one (`next-only`, Laws/NextWords).
+  -- "For a table with delay N .. name the one word": by the delay no other is one (`next_only`, Laws/NextWords).
   pub record Foretells (m : List ℕ) (x : ℕ) : Type 0 where
     pub N : ℕ
     pub delay : Delay t N

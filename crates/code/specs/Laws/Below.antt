@@ -40,28 +40,28 @@ pub record Some (f : ℕ → Bool) (n : ℕ) : Type 0 where
   pub below : x < n
   pub passes : f x ≡ true
 
-some-here : (f : ℕ → Bool) (n : ℕ) → f n ≡ true → Some f (suc n)
-some-here f n e = record { x = n; below = omega arith; passes = e }
+some_here : (f : ℕ → Bool) (n : ℕ) → f n ≡ true → Some f (suc n)
+some_here f n e = record { x = n; below = omega arith; passes = e }
 
-some-later : (f : ℕ → Bool) (n : ℕ) → Some f n → Some f (suc n)
-some-later f n s = record { x = s.x; below = let h = s.below in omega arith; passes = s.passes }
+some_later : (f : ℕ → Bool) (n : ℕ) → Some f n → Some f (suc n)
+some_later f n s = record { x = s.x; below = let h = s.below in omega arith; passes = s.passes }
 
-some-step : (f : ℕ → Bool) (n : ℕ) → (some_below f n ≡ true → Some f n) → (f n ≡ true) ⊎ (some_below f n ≡ true) → Some f (suc n)
-some-step f n ih (inl e) = some-here f n e
-some-step f n ih (inr e) = some-later f n (ih e)
+some_step : (f : ℕ → Bool) (n : ℕ) → (some_below f n ≡ true → Some f n) → (f n ≡ true) ⊎ (some_below f n ≡ true) → Some f (suc n)
+some_step f n ih (inl e) = some_here f n e
+some_step f n ih (inr e) = some_later f n (ih e)
 
 -- Where the test says that some number passes, one does.
 pub some_out : (f : ℕ → Bool) (n : ℕ) → some_below f n ≡ true → Some f n
 unfolding some_below
 some_out f zero e = absurd (false≢true e)
-some_out f (suc n) e = some-step f n (some_out f n) (or_cases (f n) (some_below f n) e)
+some_out f (suc n) e = some_step f n (some_out f n) (or_cases (f n) (some_below f n) e)
 
-some-in-step : (f : ℕ → Bool) (n x : ℕ) → (x < n → some_below f n ≡ true) → x < suc n → f x ≡ true → Dec (x ≡ n) → (f n || some_below f n) ≡ true
-some-in-step f n x ih h e (yes z) = or_left (f n) (some_below f n) (rw z at e)
-some-in-step f n x ih h e (no z) = or_right (f n) (some_below f n) (ih (omega arith))
+some_in_step : (f : ℕ → Bool) (n x : ℕ) → (x < n → some_below f n ≡ true) → x < suc n → f x ≡ true → Dec (x ≡ n) → (f n || some_below f n) ≡ true
+some_in_step f n x ih h e (yes z) = or_left (f n) (some_below f n) (rw z at e)
+some_in_step f n x ih h e (no z) = or_right (f n) (some_below f n) (ih (omega arith))
 
 -- And the other way round.
 pub some_in : (f : ℕ → Bool) (n x : ℕ) → x < n → f x ≡ true → some_below f n ≡ true
 unfolding some_below
 some_in f zero x h e = absurd (omega arith)
-some_in f (suc n) x h e = some-in-step f n x (λ l. some_in f n x l e) h e (ℕ_discrete x n)
+some_in f (suc n) x h e = some_in_step f n x (λ l. some_in f n x l e) h e (ℕ_discrete x n)

@@ -5,18 +5,18 @@ use Rattle.std.proofs.Math.Decide.{ℕ_discrete, dec_lt}
 use Rattle.std.proofs.Math.ListN.{get_or-eq_default}
 
 -- What holds of the value stored, and of every other cell before the store, holds of every cell after it.
-pub on-set : (xs : List ℕ) (i y : ℕ) → i < length xs → (P : ℕ → ℕ → Type 0) → P i y → ((j : ℕ) → (j ≡ i → ⊥) → P j (get_or xs j 0))
+pub on_set : (xs : List ℕ) (i y : ℕ) → i < length xs → (P : ℕ → ℕ → Type 0) → P i y → ((j : ℕ) → (j ≡ i → ⊥) → P j (get_or xs j 0))
     → (j : ℕ) → P j (get_or (set xs i y) j 0)
-on-set xs i y h P new old j = go (ℕ_discrete j i)
+on_set xs i y h P new old j = go (ℕ_discrete j i)
   where
     go : Dec (j ≡ i) → P j (get_or (set xs i y) j 0)
     go (yes e) = rw e (rw (get_or-set_same xs i y 0 h) new)
     go (no ne) = rw (get_or-set_other xs i j y 0 ne) (old j ne)
 
 -- What holds of the value stored in cell n, and of the cells below it, holds of all up to n.
-pub on-push : (xs : List ℕ) (n y : ℕ) → n < length xs → (P : ℕ → ℕ → Type 0) → P n y → ((i : ℕ) → i < n → P i (get_or xs i 0))
+pub on_push : (xs : List ℕ) (n y : ℕ) → n < length xs → (P : ℕ → ℕ → Type 0) → P n y → ((i : ℕ) → i < n → P i (get_or xs i 0))
     → (i : ℕ) → i < n + 1 → P i (get_or (set xs n y) i 0)
-on-push xs n y h P new old = on-set xs n y h (λ i x. i < n + 1 → P i x) (λ _. new) (λ i ne l. old i (omega arith))
+on_push xs n y h P new old = on_set xs n y h (λ i x. i < n + 1 → P i x) (λ _. new) (λ i ne l. old i (omega arith))
 
 -- Every cell of a list of zeros is 0, also past its end.
 pub zeros : (n i : ℕ) → ◌≡◌ {A = ℕ} (get_or (replicate n 0) i 0) 0
@@ -45,10 +45,10 @@ total-set f (x ∷ xs) zero y h = omega arith
 total-set f (x ∷ xs) (suc i) y h = let e = total-set f xs i y (le_of_suc-le-suc h) in omega arith
 
 -- A sum of terms of at most 1 is at most the length.
-pub total-le : (f : ℕ → ℕ) (xs : List ℕ) → ((x : ℕ) → f x ≤ 1) → total f xs ≤ length xs
+pub total_le : (f : ℕ → ℕ) (xs : List ℕ) → ((x : ℕ) → f x ≤ 1) → total f xs ≤ length xs
 unfolding total
-total-le f [] h = zero-le
-total-le f (x ∷ xs) h = omega (arith, h x, total-le f xs h)
+total_le f [] h = zero-le
+total_le f (x ∷ xs) h = omega (arith, h x, total_le f xs h)
 
 -- w i + w (i + 1) + .., n terms.
 unfoldable pub sum_from : (ℕ → ℕ) → ℕ → ℕ → ℕ
@@ -56,7 +56,7 @@ sum_from w i zero = 0
 sum_from w i (suc n) = w i + sum_from w (suc i) n
 
 -- A sum over the cells from index i on is at most the sum of bounds for each index.
-pub total-under : (f w : ℕ → ℕ) (i : ℕ) (xs : List ℕ) → ((j n : ℕ) → i + j ≡ n → f (get_or xs j 0) ≤ w n) → total f xs ≤ sum_from w i (length xs)
+pub total_under : (f w : ℕ → ℕ) (i : ℕ) (xs : List ℕ) → ((j n : ℕ) → i + j ≡ n → f (get_or xs j 0) ≤ w n) → total f xs ≤ sum_from w i (length xs)
 unfolding total sum_from
-total-under f w i [] h = zero-le
-total-under f w i (x ∷ xs) h = omega (arith, h 0 i (omega arith), total-under f w (suc i) xs (λ j n e. h (suc j) n (omega arith)))
+total_under f w i [] h = zero-le
+total_under f w i (x ∷ xs) h = omega (arith, h 0 i (omega arith), total_under f w (suc i) xs (λ j n e. h (suc j) n (omega arith)))

@@ -23,15 +23,15 @@ module _ {R S : List ℕ → Type 0} (to : (s : List ℕ) → R s → S s) (back
   pub same_none : None R → None S
   same_none n s h = n s (back s h)
 
-  pub same-only : {s : List ℕ} → Only R s → Only S s
-  same-only {s} o = record { member = to s o.member; only = λ v h. o.only v (back v h) }
+  pub same_only : {s : List ℕ} → Only R s → Only S s
+  same_only {s} o = record { member = to s o.member; only = λ v h. o.only v (back v h) }
 
-  pub same-pair : {s u : List ℕ} → FirstPair R s u → FirstPair S s u
-  same-pair {s} {u} f = record { first = to s f.first; second = to u f.second; order = f.order; later = λ v h. f.later v (back v h) }
+  pub same_pair : {s u : List ℕ} → FirstPair R s u → FirstPair S s u
+  same_pair {s} {u} f = record { first = to s f.first; second = to u f.second; order = f.order; later = λ v h. f.later v (back v h) }
 
 module _ {t : Table} {m : List ℕ} where
-  pub only-reading : {s : List ℕ} → Only (Reads t m) s → OnlyReading t m s
-  only-reading o = record { reads = o.member; only = o.only }
+  pub only_reading_lem : {s : List ℕ} → Only (Reads t m) s → OnlyReading t m s
+  only_reading_lem o = record { reads = o.member; only = o.only }
 
   pub first_two : {s u : List ℕ} → FirstPair (Reads t m) s u → FirstTwo t m s u
   first_two f = record { first = f.first; second = f.second; order = f.order; later = f.later }

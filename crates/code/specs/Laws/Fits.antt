@@ -37,6 +37,6 @@ module _ (l : Limits) where
         let p15 = passed (refused15 g) StartField _ p7.1 in
         record { records = p3.0; words = p4.0; symbols = p5.0; widths = p6.0; entries = p7.0; starts = p15.0 }
 
-    pub fits-taken : Fits → taken_grid l g ≡ record { answer = Accepted; code = code_of l g }
+    pub fits_taken : Fits → taken_grid l g ≡ record { answer = Accepted; code = code_of l g }
     unfolding taken_grid
-    fits-taken f = rw (f.records, f.words, f.symbols, f.widths, f.entries, f.starts)
+    fits_taken f = rw (f.records, f.words, f.symbols, f.widths, f.entries, f.starts)

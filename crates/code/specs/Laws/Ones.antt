@@ -1,4 +1,4 @@
--- 02, request 1: "Sheets of n + 1 fields stay valid and let every word begin." Such a sheet with a column of ones put in, which is answered like it: `ones-alike`
+-- 02, request 1: "Sheets of n + 1 fields stay valid and let every word begin." Such a sheet with a column of ones put in, which is answered like it: `ones_alike`
 -- (proofs/Laws/Ones).
 use Rattle.std.specs.Prelude.{List, [], ◌∷◌, map, ℕ, drop}
 use Rattle.code.specs.Definitions.Sheets.{first_field}

@@ -12,10 +12,10 @@ module _ {l : Limits} {c : Code} (well : WellFormed l c) where
   pub size-count : size (table_of c) ≡ c.count
   size-count = length-map (take c.count c.words) symbols_of ∙ length-take-le c.count c.words (omega (arith, well.most, well.words))
 
-  pub word-symbols : (x : ℕ) → x < c.count → word (table_of c) x ≡ symbols_of (get_or c.words x no_word)
-  word-symbols x h = get_or-map symbols_of (take c.count c.words) x no_word ∙ ap symbols_of (get_or-take c.count c.words x no_word h)
+  pub word_symbols : (x : ℕ) → x < c.count → word (table_of c) x ≡ symbols_of (get_or c.words x no_word)
+  word_symbols x h = get_or-map symbols_of (take c.count c.words) x no_word ∙ ap symbols_of (get_or-take c.count c.words x no_word h)
 
   pub word-length : (x : ℕ) → x < c.count → length (word (table_of c) x) ≡ len_of c x
   word-length x h =
       let fits = well.word x (omega (arith, well.most)) in
-      rw (word-symbols x h) (length-take-le (len_of c x) (get_or c.words x no_word).symbols (omega (arith, fits.short, fits.array)))
+      rw (word_symbols x h) (length-take-le (len_of c x) (get_or c.words x no_word).symbols (omega (arith, fits.short, fits.array)))

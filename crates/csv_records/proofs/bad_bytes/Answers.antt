@@ -4,12 +4,12 @@ use mathlib.Core.Bool.{◌||◌, false}
 use Prim.Native.Nat.{◌≤◌, ◌-◌}
 use lib.ListN.{length, drop}
 use Rattle.code.specs.Definitions.Sheets.{bad_bytes}
-use Rattle.csv_records.specs.Fields.{bad-on, bad-end}
+use Rattle.csv_records.specs.Fields.{bad_on, bad_end}
 use Rattle.csv_records.proofs.bad_bytes.Goals as goal
 
 pub loop-i-preserved : goal.loop-i-preserved
 loop-i-preserved c = let l = c.loop-i in
-    (search rules, rw (c.or-bad.ensures, c.bad_byte.ensures, c.now_cr-cr.ensures) (bad-on l.bad l.cr _ l.i (search rules) ∙ l.invariant.1))
+    (search rules, rw (c.or-bad.ensures, c.bad_byte.ensures, c.now_cr-cr.ensures) (bad_on l.bad l.cr _ l.i (search rules) ∙ l.invariant.1))
 
 pub returns : goal.returns
-returns c = let l = c.loop-i in c.or.ensures ∙ sym (bad-end l.bad l.cr _ l.i (search rules)) ∙ l.invariant.1
+returns c = let l = c.loop-i in c.or.ensures ∙ sym (bad_end l.bad l.cr _ l.i (search rules)) ∙ l.invariant.1

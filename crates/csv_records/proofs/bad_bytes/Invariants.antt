@@ -5,7 +5,7 @@ use mathlib.Core.Bool.{◌||◌, false}
 use Prim.Native.Nat.{◌≤◌, ◌-◌}
 use lib.ListN.{length, drop}
 use Rattle.code.specs.Definitions.Sheets.{bad_bytes}
-use Rattle.csv_records.specs.Fields.{bad-on, bad-end}
+use Rattle.csv_records.specs.Fields.{bad_on, bad_end}
 use Rattle.csv_records.proofs.bad_bytes.Given as goal
 
 abbrev pub invariant-loop-i : goal.invariant-loop-i

@@ -4,7 +4,7 @@ use mathlib.Core.Path.{◌≡◌, sym, ◌∙◌}
 use Prim.Native.Nat.{◌+◌, ◌≤◌, ◌-◌}
 use native.Mathlib.Omega.{arith}
 use lib.ListN.{length, drop}
-use Rattle.csv_records.specs.Fields.{leading, leading-on, leading-stop, leading_end}
+use Rattle.csv_records.specs.Fields.{leading, leading_on, leading_stop, leading_end}
 use Rattle.csv_records.proofs.field_end.Given as goal
 
 abbrev pub invariant-loop-i : goal.invariant-loop-i

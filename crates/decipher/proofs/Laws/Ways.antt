@@ -18,15 +18,15 @@ use Rattle.decipher.specs.Decided.{Decided}
 
 module _ {e : Enlarged} {t : Bool} {m f g w : List ℕ} (lists : Exactly t (FromLists limits e)) where
   -- No sheet and list give the value: 8.
-  pub way-8 : t ≡ false → Judges limits e m f g w m f g w (Refused NotFromSheet)
-  way-8 h = refused (inl (lists.no h, refl)) refl refl refl refl
+  pub way_8 : t ≡ false → Judges limits e m f g w m f g w (Refused NotFromSheet)
+  way_8 h = refused (inl (lists.no h, refl)) refl refl refl refl
 
   module _ (given : t ≡ true) {k : Bool} (short : Exactly k (Short (length m) (length f) (length g) (length w))) where
     -- Some do, and a buffer is too short: 13.
-    pub way-13 : k ≡ true → Judges limits e m f g w m f g w (Refused ShortBuffer)
-    way-13 h = refused (inr (λ n. n (lists.yes given), inl (short.yes h, refl))) refl refl refl refl
+    pub way_13 : k ≡ true → Judges limits e m f g w m f g w (Refused ShortBuffer)
+    way_13 h = refused (inr (λ n. n (lists.yes given), inl (short.yes h, refl))) refl refl refl refl
 
     -- All are long enough, and the verdict is decided.
-    pub way-judged : {m' f' g' w' : List ℕ} {v : Verdict} → k ≡ false → Decided (original_table e) m f g w m' f' g' w' v → Judges limits e m f g w m' f' g' w' (Judged v)
-    way-judged h d =
+    pub way_judged : {m' f' g' w' : List ℕ} {v : Verdict} → k ≡ false → Decided (original_table e) m f g w m' f' g' w' v → Judges limits e m f g w m' f' g' w' (Judged v)
+    way_judged h d =
         judged d.x d.s d.u (λ n. n (lists.yes given), (short.no h, tt)) d.means d.shown d.work

@@ -4,7 +4,7 @@ use native.Mathlib.Omega.{arith}
 use lib.ListN.{length}
 use borrow.Author.Rules.{rules}
 use Rattle.code.specs.Definitions.Sheets.{limits}
-use Rattle.encode_join.specs.Passes.{message_below, known-number, known-short, length_more, length_over, length_whole}
+use Rattle.encode_join.specs.Passes.{message_below, known_number, known_short, length_more, length_over, length_whole}
 use Rattle.encode_join.proofs.message_len.Goals as goal
 
 pub overflow_cast-w : goal.overflow_cast-w
@@ -14,10 +14,10 @@ pub offset_bounds-code-words : goal.offset_bounds-code-words
 offset_bounds-code-words c = omega (arith, c.shared_slice_known-1.given c.loop-i.i)
 
 pub bounds-code-words : goal.bounds-code-words
-bounds-code-words c = search (known-number limits)
+bounds-code-words c = search (known_number limits)
 
 pub overflow_add-sum : goal.overflow_add-sum
-overflow_add-sum c = omega (arith, known-short limits c.requires c.loop-i.i (search rules))
+overflow_add-sum c = omega (arith, known_short limits c.requires c.loop-i.i (search rules))
 
 pub returns-then-sum-gt-SYMBOLS : goal.returns-then-sum-gt-SYMBOLS
 returns-then-sum-gt-SYMBOLS c = search (length_over limits)

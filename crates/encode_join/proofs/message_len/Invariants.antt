@@ -5,7 +5,7 @@ use native.Mathlib.Omega.{arith}
 use lib.ListN.{length}
 use borrow.Author.Rules.{rules}
 use Rattle.code.specs.Definitions.Sheets.{limits}
-use Rattle.encode_join.specs.Passes.{message_below, known-number, known-short, length_more, length_over, length_whole}
+use Rattle.encode_join.specs.Passes.{message_below, known_number, known_short, length_more, length_over, length_whole}
 use Rattle.encode_join.proofs.message_len.Given as goal
 
 abbrev pub invariant-loop-i : goal.invariant-loop-i

@@ -6,7 +6,7 @@ use lib.ListN.{length}
 use borrow.Author.Rules.{rules}
 use Rattle.code.specs.Definitions.Sheets.{limits}
 use Rattle.code.specs.Definitions.Operations.{written}
-use Rattle.encode_join.specs.Passes.{message_below, known-number, known-short, length_more, write-room, write-more, write-whole}
+use Rattle.encode_join.specs.Passes.{message_below, known_number, known_short, length_more, write_room, write_more, write_whole}
 use Rattle.encode_join.proofs.write_message.Given as goal
 
 abbrev pub invariant-loop-i : goal.invariant-loop-i

@@ -15,9 +15,9 @@ use Rattle.code.specs.Definitions.Tables.{size, entry_of, table_of}
 use Rattle.code.specs.Definitions.Bans.{number_after}
 use Rattle.code.specs.Definitions.Enlarged.{copies_in, original_table}
 use Rattle.code.specs.Definitions.Operations.{HasForbidden, opening, pair, triple}
-use Rattle.well_enlarged.specs.Back.{original-size}
-use Rattle.well_enlarged.specs.Meaning.{Covers, value-covers}
-use Rattle.code.specs.Laws.Exactly.{Exactly, exactly-true, exactly-false}
+use Rattle.well_enlarged.specs.Back.{original_size}
+use Rattle.well_enlarged.specs.Meaning.{Covers, value_covers}
+use Rattle.code.specs.Laws.Exactly.{Exactly, exactly_true, exactly_false}
 use Rattle.code.specs.Laws.Words.{size-count}
 use Rattle.encode_permitted.specs.Originals.{Original}
 
@@ -50,90 +50,90 @@ walk_begins h = record { within = h; held = refl; come = below_none _ }
 
 module _ (l : Limits) {e : Enlarged} {s : List ℕ} (original : Original l e s) where
   cover : Covers e (original_table e)
-  cover = value-covers original.well
+  cover = value_covers original.well
 
   entry_known : (k : ℕ) → k < length s → get_or s k 0 < size (original_table e)
-  entry_known k h = rw (original-size original.well) (original.known k h)
+  entry_known k h = rw (original_size original.well) (original.known k h)
 
-  number-known : (k : ℕ) → k < length s → number_in e s k < size (table_of e.code)
-  number-known zero h = cover.start-known (get_or s 0 0) (entry_known 0 h)
-  number-known (suc k) h = cover.after-known (get_or s k 0) (get_or s (suc k) 0) (entry_known k (omega arith)) (entry_known (suc k) h)
+  number_known : (k : ℕ) → k < length s → number_in e s k < size (table_of e.code)
+  number_known zero h = cover.start_known (get_or s 0 0) (entry_known 0 h)
+  number_known (suc k) h = cover.after_known (get_or s k 0) (get_or s (suc k) 0) (entry_known k (omega arith)) (entry_known (suc k) h)
 
-  number-named : (k : ℕ) → k < length s → get_or e.origins (number_in e s k) 0 ≡ get_or s k 0
-  number-named zero h = cover.start-named (get_or s 0 0) (entry_known 0 h)
-  number-named (suc k) h = cover.after-named (get_or s k 0) (get_or s (suc k) 0) (entry_known k (omega arith)) (entry_known (suc k) h)
+  number_named : (k : ℕ) → k < length s → get_or e.origins (number_in e s k) 0 ≡ get_or s k 0
+  number_named zero h = cover.start_named (get_or s 0 0) (entry_known 0 h)
+  number_named (suc k) h = cover.after_named (get_or s k 0) (get_or s (suc k) 0) (entry_known k (omega arith)) (entry_known (suc k) h)
 
   -- The numbers stand within the arrays.
-  pub number-low : (k : ℕ) → k < length s → number_in e s k < l.words
-  number-low k h = omega (arith, number-known k h, size-count original.well.code, original.well.code.most)
+  pub number_low : (k : ℕ) → k < length s → number_in e s k < l.words
+  number_low k h = omega (arith, number_known k h, size-count original.well.code, original.well.code.most)
 
   -- Where a number may not come after the one before it, a pair or a triple is forbidden,
 
-  second-forbidden : 1 < length s → (ComesAt e s 0 → ⊥) → (a : Bool) → (original_table e).follow (get_or s 1 0) (get_or s 0 0) ≡ a → HasForbidden (original_table e) s
-  second-forbidden h n true f = absurd (n (cover.follows-start (get_or s 0 0) (get_or s 1 0) (entry_known 0 (omega arith)) (entry_known 1 h) f))
-  second-forbidden h n false f = pair 0 h f
+  second_forbidden : 1 < length s → (ComesAt e s 0 → ⊥) → (a : Bool) → (original_table e).follow (get_or s 1 0) (get_or s 0 0) ≡ a → HasForbidden (original_table e) s
+  second_forbidden h n true f = absurd (n (cover.follows_start (get_or s 0 0) (get_or s 1 0) (entry_known 0 (omega arith)) (entry_known 1 h) f))
+  second_forbidden h n false f = pair 0 h f
 
-  later-forbidden : (k : ℕ) → suc (suc k) < length s → (ComesAt e s (suc k) → ⊥)
+  later_forbidden : (k : ℕ) → suc (suc k) < length s → (ComesAt e s (suc k) → ⊥)
       → (a b : Bool) → (original_table e).follow (get_or s (suc (suc k)) 0) (get_or s (suc k) 0) ≡ a
       → (original_table e).banned (get_or s (suc (suc k)) 0) (get_or s k 0) (get_or s (suc k) 0) ≡ b → HasForbidden (original_table e) s
-  later-forbidden k h n true true f g =
+  later_forbidden k h n true true f g =
       let two : k + 2 ≡ suc (suc k) = omega arith in
       triple k (omega arith) (rw (two, add-one) g)
-  later-forbidden k h n true false f g =
+  later_forbidden k h n true false f g =
       absurd (n (cover.follows (get_or s k 0) (get_or s (suc k) 0) (get_or s (suc (suc k)) 0) (entry_known k (omega arith)) (entry_known (suc k) (omega arith)) (entry_known (suc (suc k)) h) f g))
-  later-forbidden k h n false b f g = pair (suc k) (omega arith) (rw add-one f)
+  later_forbidden k h n false b f g = pair (suc k) (omega arith) (rw add-one f)
 
-  comes-not : (k : ℕ) → suc k < length s → (ComesAt e s k → ⊥) → HasForbidden (original_table e) s
-  comes-not zero h n = second-forbidden h n _ refl
-  comes-not (suc k) h n = later-forbidden k h n _ _ refl refl
+  comes_not : (k : ℕ) → suc k < length s → (ComesAt e s k → ⊥) → HasForbidden (original_table e) s
+  comes_not zero h n = second_forbidden h n _ refl
+  comes_not (suc k) h n = later_forbidden k h n _ _ refl refl
 
   -- and where each may, none is.
-  none-forbidden : Opens e s → ((k : ℕ) → suc k < length s → ComesAt e s k) → HasForbidden (original_table e) s → ⊥
-  none-forbidden o comes (opening h f) = false≢true (sym f ∙ eq-eqb _ _ o)
-  none-forbidden o comes (pair k h f) =
+  none_forbidden : Opens e s → ((k : ℕ) → suc k < length s → ComesAt e s k) → HasForbidden (original_table e) s → ⊥
+  none_forbidden o comes (opening h f) = false≢true (sym f ∙ eq-eqb _ _ o)
+  none_forbidden o comes (pair k h f) =
       let i : suc k < length s = omega arith in
-      let named = cover.follow-named (number_in e s (suc k)) (number_in e s k) (number-known (suc k) i) (number-known k (omega arith)) (comes k i) in
-      false≢true (sym f ∙ rw add-one (rw (number-named (suc k) i, number-named k (omega arith)) at named))
-  none-forbidden o comes (triple k h f) =
+      let named = cover.follow_named (number_in e s (suc k)) (number_in e s k) (number_known (suc k) i) (number_known k (omega arith)) (comes k i) in
+      false≢true (sym f ∙ rw add-one (rw (number_named (suc k) i, number_named k (omega arith)) at named))
+  none_forbidden o comes (triple k h f) =
       let i : suc (suc k) < length s = omega arith in
       let two : k + 2 ≡ suc (suc k) = omega arith in
-      let obeys = cover.follow-obeys (get_or s k 0) (get_or s (suc k) 0) (number_in e s (suc (suc k))) (entry_known k (omega arith)) (entry_known (suc k) (omega arith)) (number-known (suc (suc k)) i) (comes (suc k) i) in
-      false≢true (sym (rw (two, add-one) (rw (number-named (suc (suc k)) i) at obeys)) ∙ f)
+      let obeys = cover.follow_obeys (get_or s k 0) (get_or s (suc k) 0) (number_in e s (suc (suc k))) (entry_known k (omega arith)) (entry_known (suc k) (omega arith)) (number_known (suc (suc k)) i) (comes (suc k) i) in
+      false≢true (sym (rw (two, add-one) (rw (number_named (suc (suc k)) i) at obeys)) ∙ f)
 
   -- The ways through the walk
 
-  pub forbidden-empty : length s ≡ 0 → Exactly false (HasForbidden (original_table e) s)
-  forbidden-empty none = exactly-false never
+  pub forbidden_empty : length s ≡ 0 → Exactly false (HasForbidden (original_table e) s)
+  forbidden_empty none = exactly_false never
     where
       never : HasForbidden (original_table e) s → ⊥
       never (opening h f) = omega arith
       never (pair k h f) = omega arith
       never (triple k h f) = omega arith
 
-  pub forbidden-opening : 0 < length s → (Opens e s → ⊥) → Exactly true (HasForbidden (original_table e) s)
-  forbidden-opening h n = exactly-true (opening h (ne_eqb _ _ n))
+  pub forbidden_opening : 0 < length s → (Opens e s → ⊥) → Exactly true (HasForbidden (original_table e) s)
+  forbidden_opening h n = exactly_true (opening h (ne_eqb _ _ n))
 
   module _ {i last : ℕ} (walked : Walked e s i last) where
     pub held_low : last < l.words
-    held_low = rw walked.held (number-low i walked.within)
+    held_low = rw walked.held (number_low i walked.within)
 
     module _ {next : ℕ} (more : i + 1 < length s) (is-next : next ≡ next_in e (get_or s i 0) (get_or s (i + 1) 0)) where
       pub next_low : next < l.words
-      next_low = rw (is-next, add-one) (number-low (suc i) (rw add-one at more))
+      next_low = rw (is-next, add-one) (number_low (suc i) (rw add-one at more))
 
-      same-entry : (table_of e.code).follow (number_in e s (suc i)) (number_in e s i) ≡ (table_of e.code).follow next last
-      same-entry = rw (is-next, walked.held, add-one)
+      same_entry : (table_of e.code).follow (number_in e s (suc i)) (number_in e s i) ≡ (table_of e.code).follow next last
+      same_entry = rw (is-next, walked.held, add-one)
 
-      pub forbidden-here : (entry_of e.code next last ≡ 1 → ⊥) → Exactly true (HasForbidden (original_table e) s)
-      forbidden-here n = exactly-true (comes-not i (omega arith) (λ f. n (eqb-true _ _ (sym same-entry ∙ f))))
+      pub forbidden_here : (entry_of e.code next last ≡ 1 → ⊥) → Exactly true (HasForbidden (original_table e) s)
+      forbidden_here n = exactly_true (comes_not i (omega arith) (λ f. n (eqb-true _ _ (sym same_entry ∙ f))))
 
       -- one entry more
       pub walked_on : entry_of e.code next last ≡ 1 → Walked e s (i + 1) next
       walked_on f = record {
         within = more;
         held = rw add-one (rw add-one at is-next);
-        come = below_more (ComesAt e s) i walked.come (same-entry ∙ eq-eqb _ _ f);
+        come = below_more (ComesAt e s) i walked.come (same_entry ∙ eq-eqb _ _ f);
       }
 
-    pub forbidden-nowhere : Opens e s → length s ≤ i + 1 → Exactly false (HasForbidden (original_table e) s)
-    forbidden-nowhere o h = exactly-false (none-forbidden o (λ k j. walked.come k (omega arith)))
+    pub forbidden_nowhere : Opens e s → length s ≤ i + 1 → Exactly false (HasForbidden (original_table e) s)
+    forbidden_nowhere o h = exactly_false (none_forbidden o (λ k j. walked.come k (omega arith)))

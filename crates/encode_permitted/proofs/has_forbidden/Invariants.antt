@@ -4,7 +4,7 @@ use native.Mathlib.Omega.{arith}
 use lib.ListN.{length}
 use borrow.Author.Rules.{rules}
 use Rattle.code.specs.Definitions.Sheets.{limits}
-use Rattle.encode_permitted.proofs.Laws.Walk.{Walked, walk_begins, number-low, held_low, next_low, forbidden-empty, forbidden-opening, forbidden-here, walked_on, forbidden-nowhere}
+use Rattle.encode_permitted.proofs.Laws.Walk.{Walked, walk_begins, number_low, held_low, next_low, forbidden_empty, forbidden_opening, forbidden_here, walked_on, forbidden_nowhere}
 use Rattle.encode_permitted.proofs.has_forbidden.Given as goal
 
 abbrev pub invariant-loop-i : goal.invariant-loop-i

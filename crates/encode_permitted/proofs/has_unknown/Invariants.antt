@@ -5,7 +5,7 @@ use lib.ListN.{length}
 use borrow.Author.Count.{below_none, below_more}
 use borrow.Author.Rules.{rules}
 use Rattle.encode_join.specs.Passes.{WordsBelow}
-use Rattle.encode_permitted.specs.Originals.{unknown-here, unknown-nowhere}
+use Rattle.encode_permitted.specs.Originals.{unknown_here, unknown_nowhere}
 use Rattle.encode_permitted.proofs.has_unknown.Given as goal
 
 abbrev pub invariant-loop-i : goal.invariant-loop-i

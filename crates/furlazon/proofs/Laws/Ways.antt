@@ -35,95 +35,95 @@ use Rattle.furlazon.specs.Calls.{TakesIn, ClassesCall, TurkishCall, TurkishClass
 
 -- Answering a sheet or a ban list
 
-pub sheet-answered : (s : List ℕ) {b b' : List ℕ} {n : ℕ} {t : Taken} {e : Enlarged} → t ≡ taken limits s → e ≡ plain_of limits t.code
+pub sheet_answered : (s : List ℕ) {b b' : List ℕ} {n : ℕ} {t : Taken} {e : Enlarged} → t ≡ taken limits s → e ≡ plain_of limits t.code
     → Answered t.answer image_length (image_of e) b b' n → TakesIn s b b' n
-sheet-answered s g p h = rw (p, g) at h
+sheet_answered s g p h = rw (p, g) at h
 
-pub turkish-answered : {b b' : List ℕ} {n : ℕ} {c : Code} {e : Enlarged} → c ≡ code_of_types limits types → e ≡ plain_of limits c → Answered Accepted image_length (image_of e) b b' n
+pub turkish_answered : {b b' : List ℕ} {n : ℕ} {c : Code} {e : Enlarged} → c ≡ code_of_types limits types → e ≡ plain_of limits c → Answered Accepted image_length (image_of e) b b' n
     → TurkishCall b b' n
-turkish-answered g p h = rw (p, g) at h
+turkish_answered g p h = rw (p, g) at h
 
-pub classes-answered : (s : List ℕ) {b b' : List ℕ} {n : ℕ} {t : TakenClasses} → t ≡ taken_classes limits s → Answered t.answer different_bytes t.classes.entries b b' n
+pub classes_answered : (s : List ℕ) {b b' : List ℕ} {n : ℕ} {t : TakenClasses} → t ≡ taken_classes limits s → Answered t.answer different_bytes t.classes.entries b b' n
     → ClassesCall s b b' n
-classes-answered s g h = rw g at h
+classes_answered s g h = rw g at h
 
-pub letters-answered : {b b' : List ℕ} {n : ℕ} {c : Classes} → c.entries ≡ turkish_classes → Answered Accepted different_bytes c.entries b b' n → TurkishClassesCall b b' n
-letters-answered g h = rw g at h
+pub letters_answered : {b b' : List ℕ} {n : ℕ} {c : Classes} → c.entries ≡ turkish_classes → Answered Accepted different_bytes c.entries b b' n → TurkishClassesCall b b' n
+letters_answered g h = rw g at h
 
-pub list-unread : {t s b : List ℕ} {n : ℕ} → length t < image_length → n ≡ short_number → EnlargeCall t s b b n
-list-unread h e = EnlargeCall.unread h e refl
+pub list_unread : {t s b : List ℕ} {n : ℕ} → length t < image_length → n ≡ short_number → EnlargeCall t s b b n
+list_unread h e = EnlargeCall.unread h e refl
 
-pub list-answered : {t s b b' : List ℕ} {n : ℕ} {e : Enlarged} {x : Enlargement} → image_length ≤ length t → e ≡ enlarged_in t → Enlarges limits e s x
+pub list_answered : {t s b b' : List ℕ} {n : ℕ} {e : Enlarged} {x : Enlargement} → image_length ≤ length t → e ≡ enlarged_in t → Enlarges limits e s x
     → Answered x.answer image_length (image_of x.enlarged) b b' n → EnlargeCall t s b b' n
-list-answered h u g k = EnlargeCall.answered h (rw u at g) k
+list_answered h u g k = EnlargeCall.answered h (rw u at g) k
 
 -- What is known of the room for an answer after the test for it.
-pub answer-short : (n : ℕ) {b : Bool} → b ≡ ltb n answer_length → b ≡ true → n < answer_length
-answer-short n e t = ltb-true n answer_length (sym e ∙ t)
+pub answer_short : (n : ℕ) {b : Bool} → b ≡ ltb n answer_length → b ≡ true → n < answer_length
+answer_short n e t = ltb-true n answer_length (sym e ∙ t)
 
-pub answer-room : (n : ℕ) {b : Bool} → b ≡ ltb n answer_length → b ≡ false → answer_length ≤ n
-answer-room n e t = ltb-false n answer_length (sym e ∙ t)
+pub answer_room : (n : ℕ) {b : Bool} → b ≡ ltb n answer_length → b ≡ false → answer_length ≤ n
+answer_room n e t = ltb-false n answer_length (sym e ∙ t)
 
 -- The other operations: an image that is too short to be read, an answer that is too short to be told, and the operation's answer
 
 module _ {t s m a : List ℕ} where
-  pub encode-unread : {n : ℕ} → length t < image_length → n ≡ short_number → EncodeCall t s m a m a n
-  encode-unread h e = EncodeCall.unread h e refl refl
+  pub encode_unread : {n : ℕ} → length t < image_length → n ≡ short_number → EncodeCall t s m a m a n
+  encode_unread h e = EncodeCall.unread h e refl refl
 
-  pub encode-untold : {n : ℕ} {v : Enlarged} → image_length ≤ length t → length a < answer_length → v ≡ enlarged_in t → Untold (encoding_conditions limits v s []) n
+  pub encode_untold : {n : ℕ} {v : Enlarged} → image_length ≤ length t → length a < answer_length → v ≡ enlarged_in t → Untold (encoding_conditions limits v s []) n
       → EncodeCall t s m a m a n
-  encode-untold h l u e = EncodeCall.untold h l (rw u at e) refl refl
+  encode_untold h l u e = EncodeCall.untold h l (rw u at e) refl refl
 
-  pub encode-answered : {m' a' : List ℕ} {n : ℕ} {e : Encoding} {v : Enlarged} → image_length ≤ length t → answer_length ≤ length a → v ≡ enlarged_in t → Encodes limits v s m m' e
+  pub encode_answered : {m' a' : List ℕ} {n : ℕ} {e : Encoding} {v : Enlarged} → image_length ≤ length t → answer_length ≤ length a → v ≡ enlarged_in t → Encodes limits v s m m' e
       → (n ≡ encoding_number e) × (a' ≡ written (encoding_entries e) a) → EncodeCall t s m a m' a' n
-  encode-answered h l u r w = EncodeCall.answered h l (rw u at r) w.0 w.1
+  encode_answered h l u r w = EncodeCall.answered h l (rw u at r) w.0 w.1
 
 module _ {t m f g w a : List ℕ} where
-  pub read-unread : {n : ℕ} → length t < image_length → n ≡ short_number → ReadCall t m f g w a f g w a n
-  read-unread h e = ReadCall.unread h e refl refl refl refl
+  pub read_unread : {n : ℕ} → length t < image_length → n ≡ short_number → ReadCall t m f g w a f g w a n
+  read_unread h e = ReadCall.unread h e refl refl refl refl
 
-  pub read-untold : {n : ℕ} {v : Enlarged} → image_length ≤ length t → length a < answer_length → v ≡ enlarged_in t → Untold (reading_conditions limits v m [] [] []) n
+  pub read_untold : {n : ℕ} {v : Enlarged} → image_length ≤ length t → length a < answer_length → v ≡ enlarged_in t → Untold (reading_conditions limits v m [] [] []) n
       → ReadCall t m f g w a f g w a n
-  read-untold h l u e = ReadCall.untold h l (rw u at e) refl refl refl refl
+  read_untold h l u e = ReadCall.untold h l (rw u at e) refl refl refl refl
 
-  pub read-answered : {f' g' w' a' : List ℕ} {n : ℕ} {e : Reading} {v : Enlarged} → image_length ≤ length t → answer_length ≤ length a → v ≡ enlarged_in t
+  pub read_answered : {f' g' w' a' : List ℕ} {n : ℕ} {e : Reading} {v : Enlarged} → image_length ≤ length t → answer_length ≤ length a → v ≡ enlarged_in t
       → ReadsMessage limits v m f g w f' g' w' e → (n ≡ reading_number e) × (a' ≡ written (reading_entries e) a) → ReadCall t m f g w a f' g' w' a' n
-  read-answered h l u r e = ReadCall.answered h l (rw u at r) e.0 e.1
+  read_answered h l u r e = ReadCall.answered h l (rw u at r) e.0 e.1
 
-  pub verdict-unread : {n : ℕ} → length t < image_length → n ≡ short_number → VerdictCall t m f g w a m f g w a n
-  verdict-unread h e = VerdictCall.unread h e refl refl refl refl refl
+  pub verdict_unread : {n : ℕ} → length t < image_length → n ≡ short_number → VerdictCall t m f g w a m f g w a n
+  verdict_unread h e = VerdictCall.unread h e refl refl refl refl refl
 
-  pub verdict-untold : {n : ℕ} {v : Enlarged} → image_length ≤ length t → length a < answer_length → v ≡ enlarged_in t → Untold (verdict_conditions limits v [] [] [] []) n
+  pub verdict_untold : {n : ℕ} {v : Enlarged} → image_length ≤ length t → length a < answer_length → v ≡ enlarged_in t → Untold (verdict_conditions limits v [] [] [] []) n
       → VerdictCall t m f g w a m f g w a n
-  verdict-untold h l u e = VerdictCall.untold h l (rw u at e) refl refl refl refl refl
+  verdict_untold h l u e = VerdictCall.untold h l (rw u at e) refl refl refl refl refl
 
-  pub verdict-answered : {m' f' g' w' a' : List ℕ} {n : ℕ} {e : Judgement} {v : Enlarged} → image_length ≤ length t → answer_length ≤ length a → v ≡ enlarged_in t
+  pub verdict_answered : {m' f' g' w' a' : List ℕ} {n : ℕ} {e : Judgement} {v : Enlarged} → image_length ≤ length t → answer_length ≤ length a → v ≡ enlarged_in t
       → Judges limits v m f g w m' f' g' w' e → (n ≡ judgement_number e) × (a' ≡ written (judgement_entries e) a) → VerdictCall t m f g w a m' f' g' w' a' n
-  verdict-answered h l u r e = VerdictCall.answered h l (rw u at r) e.0 e.1
+  verdict_answered h l u r e = VerdictCall.answered h l (rw u at r) e.0 e.1
 
 module _ {t m w a : List ℕ} where
-  pub next-unread : {n : ℕ} → length t < image_length → n ≡ short_number → NextCall t m w a w a n
-  next-unread h e = NextCall.unread h e refl refl
+  pub next_unread : {n : ℕ} → length t < image_length → n ≡ short_number → NextCall t m w a w a n
+  next_unread h e = NextCall.unread h e refl refl
 
-  pub next-untold : {n : ℕ} {v : Enlarged} → image_length ≤ length t → length a < answer_length → v ≡ enlarged_in t → Untold (naming_conditions limits v m []) n
+  pub next_untold : {n : ℕ} {v : Enlarged} → image_length ≤ length t → length a < answer_length → v ≡ enlarged_in t → Untold (naming_conditions limits v m []) n
       → NextCall t m w a w a n
-  next-untold h l u e = NextCall.untold h l (rw u at e) refl refl
+  next_untold h l u e = NextCall.untold h l (rw u at e) refl refl
 
-  pub next-answered : {w' a' : List ℕ} {n : ℕ} {e : Naming} {v : Enlarged} → image_length ≤ length t → answer_length ≤ length a → v ≡ enlarged_in t → NamesNext limits v m w w' e
+  pub next_answered : {w' a' : List ℕ} {n : ℕ} {e : Naming} {v : Enlarged} → image_length ≤ length t → answer_length ≤ length a → v ≡ enlarged_in t → NamesNext limits v m w w' e
       → (n ≡ naming_number e) × (a' ≡ written (naming_entries e) a) → NextCall t m w a w' a' n
-  next-answered h l u r e = NextCall.answered h l (rw u at r) e.0 e.1
+  next_answered h l u r e = NextCall.answered h l (rw u at r) e.0 e.1
 
 module _ {t k s b m f g w a : List ℕ} where
-  pub split-unread : {n : ℕ} → length t < image_length → n ≡ short_number → SplitCall t k s b m f g w a b m f g w a n
-  split-unread h e = SplitCall.unread (inl h) e refl refl refl refl refl refl
+  pub split_unread : {n : ℕ} → length t < image_length → n ≡ short_number → SplitCall t k s b m f g w a b m f g w a n
+  split_unread h e = SplitCall.unread (inl h) e refl refl refl refl refl refl
 
-  pub split-unclassed : {n : ℕ} → length k < different_bytes → n ≡ short_number → SplitCall t k s b m f g w a b m f g w a n
-  split-unclassed h e = SplitCall.unread (inr h) e refl refl refl refl refl refl
+  pub split_unclassed : {n : ℕ} → length k < different_bytes → n ≡ short_number → SplitCall t k s b m f g w a b m f g w a n
+  split_unclassed h e = SplitCall.unread (inr h) e refl refl refl refl refl refl
 
   module _ {v : Enlarged} {c : Classes} (long : image_length ≤ length t) (whole : different_bytes ≤ length k) (table : v ≡ enlarged_in t) (classes : c ≡ classes_in k) where
-    pub split-untold : {n : ℕ} → length a < answer_length → Untold (splitting_conditions limits v c s [] [] [] [] []) n → SplitCall t k s b m f g w a b m f g w a n
-    split-untold l e = SplitCall.untold long whole l (rw (table, classes) at e) refl refl refl refl refl refl
+    pub split_untold : {n : ℕ} → length a < answer_length → Untold (splitting_conditions limits v c s [] [] [] [] []) n → SplitCall t k s b m f g w a b m f g w a n
+    split_untold l e = SplitCall.untold long whole l (rw (table, classes) at e) refl refl refl refl refl refl
 
-    pub split-answered : {b' m' f' g' w' a' : List ℕ} {n : ℕ} {e : Splitting} → answer_length ≤ length a → SplitsText limits v c s b m f g w b' m' f' g' w' e
+    pub split_answered : {b' m' f' g' w' a' : List ℕ} {n : ℕ} {e : Splitting} → answer_length ≤ length a → SplitsText limits v c s b m f g w b' m' f' g' w' e
         → (n ≡ splitting_number e) × (a' ≡ written (splitting_entries e) a) → SplitCall t k s b m f g w a b' m' f' g' w' a' n
-    split-answered l r e = SplitCall.answered long whole l (rw (table, classes) at r) e.0 e.1
+    split_answered l r e = SplitCall.answered long whole l (rw (table, classes) at r) e.0 e.1

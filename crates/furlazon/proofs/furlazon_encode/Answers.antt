@@ -1,15 +1,15 @@
 -- An image too short to be read is found first, then an answer too short to be told; then the operation answers, and its answer is written as numbers.
-use Rattle.furlazon.proofs.Laws.Ways.{answer-short, answer-room, encode-unread, encode-untold, encode-answered}
+use Rattle.furlazon.proofs.Laws.Ways.{answer_short, answer_room, encode_unread, encode_untold, encode_answered}
 use Rattle.furlazon.proofs.furlazon_encode.Goals as goal
 
 pub returns-then-table-lt-LENGTH : goal.returns-then-table-lt-LENGTH
-returns-then-table-lt-LENGTH c = search encode-unread
+returns-then-table-lt-LENGTH c = search encode_unread
 
 pub returns-then-is_short : goal.returns-then-is_short
-returns-then-is_short c = search (encode-untold, answer-short)
+returns-then-is_short c = search (encode_untold, answer_short)
 
 pub returns : goal.returns
-returns c = search (encode-answered, answer-room)
+returns c = search (encode_answered, answer_room)
 
 pub put_encoding-requires : goal.put_encoding-requires
-put_encoding-requires c = search answer-room
+put_encoding-requires c = search answer_room

@@ -1,15 +1,15 @@
 -- An image too short to be read is found first, then an answer too short to be told; then the operation answers, and its answer is written as numbers.
-use Rattle.furlazon.proofs.Laws.Ways.{answer-short, answer-room, next-unread, next-untold, next-answered}
+use Rattle.furlazon.proofs.Laws.Ways.{answer_short, answer_room, next_unread, next_untold, next_answered}
 use Rattle.furlazon.proofs.furlazon_next.Goals as goal
 
 pub returns-then-table-lt-LENGTH : goal.returns-then-table-lt-LENGTH
-returns-then-table-lt-LENGTH c = search next-unread
+returns-then-table-lt-LENGTH c = search next_unread
 
 pub returns-then-is_short : goal.returns-then-is_short
-returns-then-is_short c = search (next-untold, answer-short)
+returns-then-is_short c = search (next_untold, answer_short)
 
 pub returns : goal.returns
-returns c = search (next-answered, answer-room)
+returns c = search (next_answered, answer_room)
 
 pub put_naming-requires : goal.put_naming-requires
-put_naming-requires c = search answer-room
+put_naming-requires c = search answer_room

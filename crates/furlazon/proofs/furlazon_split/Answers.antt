@@ -1,23 +1,23 @@
 -- An image or classes too short to be read are found first, then an answer too short to be told; then the operation answers, and its answer is written as numbers.
-use Rattle.furlazon.proofs.Laws.Ways.{answer-short, answer-room, split-unread, split-unclassed, split-untold, split-answered}
+use Rattle.furlazon.proofs.Laws.Ways.{answer_short, answer_room, split_unread, split_unclassed, split_untold, split_answered}
 use Rattle.furlazon.proofs.furlazon_split.Goals as goal
 
 pub returns-then-table-lt-LENGTH : goal.returns-then-table-lt-LENGTH
-returns-then-table-lt-LENGTH c = split-unread c.if-table-lt-LENGTH.true c.number.ensures
+returns-then-table-lt-LENGTH c = split_unread c.if-table-lt-LENGTH.true c.number.ensures
 
 pub returns-then-classes-lt-BYTES : goal.returns-then-classes-lt-BYTES
-returns-then-classes-lt-BYTES c = split-unclassed c.if-classes-lt-BYTES.true c.number-then-classes-lt-BYTES.ensures
+returns-then-classes-lt-BYTES c = split_unclassed c.if-classes-lt-BYTES.true c.number-then-classes-lt-BYTES.ensures
 
 pub returns-then-is_short : goal.returns-then-is_short
 returns-then-is_short c =
-    split-untold c.if-table-lt-LENGTH.false c.if-classes-lt-BYTES.false c.unpack-value.ensures c.classes_in-letters.ensures
-    (answer-short _ c.is_short.ensures c.if-is_short.true) c.untold_splitting.ensures
+    split_untold c.if-table-lt-LENGTH.false c.if-classes-lt-BYTES.false c.unpack-value.ensures c.classes_in-letters.ensures
+    (answer_short _ c.is_short.ensures c.if-is_short.true) c.untold_splitting.ensures
 
 pub put_splitting-requires : goal.put_splitting-requires
 put_splitting-requires c =
-    answer-room _ c.is_short.ensures c.if-is_short.false
+    answer_room _ c.is_short.ensures c.if-is_short.false
 
 pub returns : goal.returns
 returns c =
-    split-answered c.if-table-lt-LENGTH.false c.if-classes-lt-BYTES.false c.unpack-value.ensures c.classes_in-letters.ensures
-    (answer-room _ c.is_short.ensures c.if-is_short.false) c.split-e.ensures c.put_splitting.ensures
+    split_answered c.if-table-lt-LENGTH.false c.if-classes-lt-BYTES.false c.unpack-value.ensures c.classes_in-letters.ensures
+    (answer_room _ c.is_short.ensures c.if-is_short.false) c.split-e.ensures c.put_splitting.ensures

@@ -1,6 +1,6 @@
 -- The built-in table is given.
-use Rattle.furlazon.proofs.Laws.Ways.{letters-answered}
+use Rattle.furlazon.proofs.Laws.Ways.{letters_answered}
 use Rattle.furlazon.proofs.furlazon_turkish_classes.Goals as goal
 
 pub returns : goal.returns
-returns c = search letters-answered
+returns c = search letters_answered

@@ -1,15 +1,15 @@
 -- An image too short to be read is found first, then an answer too short to be told; then the operation answers, and its answer is written as numbers.
-use Rattle.furlazon.proofs.Laws.Ways.{answer-short, answer-room, verdict-unread, verdict-untold, verdict-answered}
+use Rattle.furlazon.proofs.Laws.Ways.{answer_short, answer_room, verdict_unread, verdict_untold, verdict_answered}
 use Rattle.furlazon.proofs.furlazon_verdict.Goals as goal
 
 pub returns-then-table-lt-LENGTH : goal.returns-then-table-lt-LENGTH
-returns-then-table-lt-LENGTH c = search verdict-unread
+returns-then-table-lt-LENGTH c = search verdict_unread
 
 pub returns-then-is_short : goal.returns-then-is_short
-returns-then-is_short c = search (verdict-untold, answer-short)
+returns-then-is_short c = search (verdict_untold, answer_short)
 
 pub returns : goal.returns
-returns c = search (verdict-answered, answer-room)
+returns c = search (verdict_answered, answer_room)
 
 pub put_judgement-requires : goal.put_judgement-requires
-put_judgement-requires c = search answer-room
+put_judgement-requires c = search answer_room

@@ -1,22 +1,22 @@
 -- `name` meets its contract: 12, 14 for the empty message, 14 for a message that tells no word, or the word that it tells.
 use native.Mathlib.Omega.{arith}
-use Rattle.next_word.proofs.Laws.Ways.{way-12, way-empty, way-14, way-named}
+use Rattle.next_word.proofs.Laws.Ways.{way_12, way_empty, way_14, way_named}
 use Rattle.next_word.proofs.name.Goals as goal
 
 pub returns-then-high_soon : goal.returns-then-high_soon
-returns-then-high_soon c = way-12 c.requires.0 c.args.message.now c.requires.1 c.high_soon.ensures c.if-high_soon.true
+returns-then-high_soon c = way_12 c.requires.0 c.args.message.now c.requires.1 c.high_soon.ensures c.if-high_soon.true
 
 pub returns-then-message-eq0 : goal.returns-then-message-eq0
 returns-then-message-eq0 c =
-    way-empty c.requires.0 c.args.message.now c.requires.1 c.high_soon.ensures c.if-high_soon.false c.if-message-eq0.true
+    way_empty c.requires.0 c.args.message.now c.requires.1 c.high_soon.ensures c.if-high_soon.false c.if-message-eq0.true
 
 pub tell-x-requires : goal.tell-x-requires
 tell-x-requires c = (c.requires.0.code, omega (arith, c.requires.2), omega arith)
 
 pub returns-then-code-x : goal.returns-then-code-x
 returns-then-code-x c =
-    way-14 c.requires.0 c.args.message.now c.requires.1 c.high_soon.ensures c.if-high_soon.false c.if-message-eq0.false c.tell-x.ensures c.if-code-x.true
+    way_14 c.requires.0 c.args.message.now c.requires.1 c.high_soon.ensures c.if-high_soon.false c.if-message-eq0.false c.tell-x.ensures c.if-code-x.true
 
 pub returns : goal.returns
 returns c =
-    way-named c.requires.0 c.args.message.now c.requires.1 c.high_soon.ensures c.if-high_soon.false c.if-message-eq0.false c.tell-x.ensures c.if-code-x.false
+    way_named c.requires.0 c.args.message.now c.requires.1 c.high_soon.ensures c.if-high_soon.false c.if-message-eq0.false c.tell-x.ensures c.if-code-x.false

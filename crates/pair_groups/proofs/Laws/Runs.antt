@@ -18,8 +18,8 @@ pub record Run (g : Graph) (q : List ℕ) (tail a b : ℕ) : Type 0 where
   pub same : (i : ℕ) → a ≤ i → i < b → key g q i ≡ key g q a
 
 module _ {g : Graph} {q : List ℕ} {tail a : ℕ} where
-  pub run-one : a < tail → Run g q tail a (a + 1)
-  run-one l = record { some = omega arith; ends = omega arith; same = λ i p d. let e : i ≡ a = omega arith in rw e }
+  pub run_one : a < tail → Run g q tail a (a + 1)
+  run_one l = record { some = omega arith; ends = omega arith; same = λ i p d. let e : i ≡ a = omega arith in rw e }
 
   module _ {b : ℕ} (r : Run g q tail a b) where
     pub run_more : b < tail → key g q b ≡ key g q a → Run g q tail a (b + 1)
@@ -47,11 +47,11 @@ module _ {g : Graph} {q : List ℕ} {tail a : ℕ} where
 
 -- The scan for a group's end: the next key is the same, or differs, or there is none.
 module _ {f q : List ℕ} {tail a b : ℕ} (laid : Laid f) (s : Ascending (open_graph f) q tail) (r : Run (open_graph f) q tail a b) where
-  pub group-more : {x y : ℕ} → x ≡ key_of f (get_or q b 0) → y ≡ key_of f (get_or q a 0) → x ≡ y → b < tail → Run (open_graph f) q tail a (b + 1)
-  group-more d e z l = run_more r l (sym d ∙ z ∙ e)
+  pub group_more : {x y : ℕ} → x ≡ key_of f (get_or q b 0) → y ≡ key_of f (get_or q a 0) → x ≡ y → b < tail → Run (open_graph f) q tail a (b + 1)
+  group_more d e z l = run_more r l (sym d ∙ z ∙ e)
 
-  pub group-differs : {x y : ℕ} → x ≡ key_of f (get_or q b 0) → y ≡ key_of f (get_or q a 0) → (x ≡ y → ⊥) → IsGroup (open_graph f) q tail a b
-  group-differs d e n = run_end r s (λ l z. n (d ∙ z ∙ sym e))
+  pub group_differs : {x y : ℕ} → x ≡ key_of f (get_or q b 0) → y ≡ key_of f (get_or q a 0) → (x ≡ y → ⊥) → IsGroup (open_graph f) q tail a b
+  group_differs d e n = run_end r s (λ l z. n (d ∙ z ∙ sym e))
 
-  pub group-last : tail ≤ b → IsGroup (open_graph f) q tail a b
-  group-last h = run_end r s (λ l. absurd (omega arith))
+  pub group_last : tail ≤ b → IsGroup (open_graph f) q tail a b
+  group_last h = run_end r s (λ l. absurd (omega arith))

@@ -7,7 +7,7 @@ use lib.ListN.{length}
 use Rattle.pair_places.specs.declared.Pair.{Pair}
 use Rattle.pair_places.specs.Flat.{arc_from, cell}
 use Rattle.pair_places.specs.Nodes.{lower-cell, higher-cell}
-use Rattle.pair_places.specs.Opens.{toward, toward-other}
+use Rattle.pair_places.specs.Opens.{toward, toward_other}
 use Rattle.pair_places.specs.Steps.{Arrives}
 use Rattle.pair_storage.specs.Entries.{node_at, entries_in}
 use Rattle.pair_slots.specs.declared.Progress.{Progress}
@@ -15,31 +15,31 @@ use Rattle.pair_slots.specs.declared.Progress.TheVariants.{Goal, Tail}
 use Rattle.pair_slots.specs.Ensured.{Straight, Arrived}
 use Rattle.pair_slots.specs.Widths.{width}
 use Rattle.pair_groups.specs.Ensured.{Expanding, Progressed, went}
-use Rattle.pair_groups.specs.Pairs.{pair-slots}
-use Rattle.pair_groups.specs.Parts.{goal-again, expanding-next}
-use Rattle.pair_groups.specs.Slots.{slots-begin, next-member}
-use Rattle.pair_groups.proofs.Laws.Steps.{slot-done}
+use Rattle.pair_groups.specs.Pairs.{pair_slots}
+use Rattle.pair_groups.specs.Parts.{goal_again, expanding_next}
+use Rattle.pair_groups.specs.Slots.{slots_begin, next_member}
+use Rattle.pair_groups.proofs.Laws.Steps.{slot_done}
 
 module _ {f ms q : List ℕ} {tail a b t k c : ℕ} {p : Pair} (x : Expanding f ms q tail a b t k c)
     (number : node_at (entries_in f q) k ≡ cell f p.low p.high)
     (g : Straight f p) where
-  slot-leads : {o : Pair} → Arrives f (arc_from f p.low p.high c) o → toward f (node_at (entries_in f q) k) c ≡ cell f o.low o.high
-  slot-leads d =
+  slot_leads : {o : Pair} → Arrives f (arc_from f p.low p.high c) o → toward f (node_at (entries_in f q) k) c ≡ cell f o.low o.high
+  slot_leads d =
       ap (λ (v : ℕ). toward f v c) number
-      ∙ toward-other f (cell f p.low p.high) c g.straight
+      ∙ toward_other f (cell f p.low p.high) c g.straight
       ∙ (rw (lower-cell f p.low p.high g.high, higher-cell f p.low p.high g.high) (sym d.node))
 
   module _ {o : Pair} (d : Arrives f (arc_from f p.low p.high c) o) {ms' q' : List ℕ} {r : Progress} where
     pub slot_next : {e : ℕ} → Arrived f ms (entries_in f q) ms' (entries_in f q') a t tail (cell f o.low o.high) r → r ≡ Tail e → length q' ≡ length q
         → Expanding f ms' q' e a b t k (c + 1)
-    slot_next h = expanding-next x (slot-done x (slot-leads d) h)
+    slot_next h = expanding_next x (slot_done x (slot_leads d) h)
 
-    pub slot-goal : {y t' k' c' : ℕ} → Arrived f ms (entries_in f q) ms' q' a t tail (cell f o.low o.high) r → r ≡ Goal y
+    pub slot_goal : {y t' k' c' : ℕ} → Arrived f ms (entries_in f q) ms' q' a t tail (cell f o.low o.high) r → r ≡ Goal y
         → Progressed f ms' q' a b t' k' c' (Goal y)
-    slot-goal h = goal-again (slot-done x (slot-leads d) h)
+    slot_goal h = goal_again (slot_done x (slot_leads d) h)
 
   -- After the last slot the member is done.
-  pub slots-ended : {end : ℕ} → end ≡ width f (cell f p.low p.high) t → end ≤ c → Progressed f ms (entries_in f q) a b t (k + 1) 0 (Tail tail)
-  slots-ended e l =
+  pub slots_ended : {end : ℕ} → end ≡ width f (cell f p.low p.high) t → end ≤ c → Progressed f ms (entries_in f q) a b t (k + 1) 0 (Tail tail)
+  slots_ended e l =
       let w = ap (λ (v : ℕ). width f v t) number in
-      went (slots-begin (next-member x.stands (pair-slots x.laid x.numbered) (omega arith) x.ready.member))
+      went (slots_begin (next_member x.stands (pair_slots x.laid x.numbered) (omega arith) x.ready.member))

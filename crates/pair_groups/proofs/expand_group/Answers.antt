@@ -1,26 +1,26 @@
 use borrow.Author.Rules.{rules}
-use Rattle.pair_groups.specs.Parts.{goal-again, group-done, group-known, group-within, known-again}
-use Rattle.pair_groups.specs.Symbols.{symbols-passed, symbol-next}
+use Rattle.pair_groups.specs.Parts.{goal_again, group_done, group_known, group_within, known_again}
+use Rattle.pair_groups.specs.Symbols.{symbols_passed, symbol_next}
 use Rattle.pair_groups.proofs.expand_group.Goals as goal
 
 pub next_symbol-symbol-requires : goal.next_symbol-symbol-requires
-next_symbol-symbol-requires c = (search rules, search group-known, search group-within, search rules)
+next_symbol-symbol-requires c = (search rules, search group_known, search group_within, search rules)
 
 pub loop-symbol-init : goal.loop-symbol-init
-loop-symbol-init c = (search symbols-passed, search rules, search group-within, search rules)
+loop-symbol-init c = (search symbols_passed, search rules, search group_within, search rules)
 
 pub next_symbol-symbol-requires-in-loop-symbol : goal.next_symbol-symbol-requires-in-loop-symbol
 next_symbol-symbol-requires-in-loop-symbol c =
-    (search rules, known-again c.expand_symbol.ensures c.in-Tail.is, search rules, search rules)
+    (search rules, known_again c.expand_symbol.ensures c.in-Tail.is, search rules, search rules)
 
 pub returns-in-Goal : goal.returns-in-Goal
-returns-in-Goal c = search goal-again
+returns-in-Goal c = search goal_again
 
 pub loop-symbol-preserved : goal.loop-symbol-preserved
-loop-symbol-preserved c = (search symbol-next, search rules, search rules, (cc))
+loop-symbol-preserved c = (search symbol_next, search rules, search rules, (cc))
 
 pub returns : goal.returns
-returns c = search group-done
+returns c = search group_done
 
 pub shape_of-work-in-Goal : goal.shape_of-work-in-Goal
 shape_of-work-in-Goal c = cc

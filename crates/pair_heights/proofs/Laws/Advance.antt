@@ -6,12 +6,12 @@ use native.Mathlib.Omega.{arith}
 use lib.ListN.{get_or}
 use Rattle.pair_places.specs.declared.Pair.{Pair}
 use Rattle.pair_places.specs.Flat.{slots_of}
-use Rattle.pair_places.specs.Onward.{arc-past}
+use Rattle.pair_places.specs.Onward.{arc_past}
 use Rattle.pair_storage.specs.Fields.{Carries}
 use Rattle.pair_storage.specs.Entries.{entries_in}
 use Rattle.pair_storage.specs.Stores.{mark_of}
-use Rattle.pair_heights.specs.Pairs.{arc-of}
-use Rattle.pair_heights.specs.Search.{top-cell, top-high, top-marked, Searching}
+use Rattle.pair_heights.specs.Pairs.{arc_of}
+use Rattle.pair_heights.specs.Search.{top_cell, top_high, top_marked, Searching}
 use Rattle.pair_heights.specs.Follow.{Following}
 use Rattle.pair_heights.specs.Pop.{Popping}
 
@@ -21,10 +21,10 @@ module _ (f sk : List ℕ) {xs : List ℕ} {d m n : ℕ} {p : Pair} (s : Searchi
   -- One of them is left.
   pub following : m - 1 < n → Following f xs (entries_in f sk) d p (m - 1)
   following l =
-      let on = top-cell f sk s.numbers c in
+      let on = top_cell f sk s.numbers c in
       record {
         searching = s;
-        pair = top-marked f sk s.numbers c;
+        pair = top_marked f sk s.numbers c;
         node = on;
         slot = rw (← on, ← mark) (omega (arith, rw (← on, ← mark) at s.numbers.met));
         within = omega arith;
@@ -33,11 +33,11 @@ module _ (f sk : List ℕ) {xs : List ℕ} {d m n : ℕ} {p : Pair} (s : Searchi
   -- None is left.
   pub popping : n ≤ m - 1 → Popping f xs (entries_in f sk) d p
   popping l =
-      let on = top-cell f sk s.numbers c in
+      let on = top_cell f sk s.numbers c in
       record {
         searching = s;
-        pair = top-marked f sk s.numbers c;
+        pair = top_marked f sk s.numbers c;
         node = on;
         nowhere = λ j k.
-            rw (← on, arc-of f p (top-high f sk s.numbers c) j, arc-past f p.low p.high j (omega (arith, rw (← on, ← mark) at k))) (omega arith);
+            rw (← on, arc_of f p (top_high f sk s.numbers c) j, arc_past f p.low p.high j (omega (arith, rw (← on, ← mark) at k))) (omega arith);
       }

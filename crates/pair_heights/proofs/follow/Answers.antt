@@ -1,22 +1,22 @@
 -- `pair_heights::follow` meets its contract: each way out is one transition of the state, or closes a cycle.
 use borrow.Author.Rules.{rules}
-use Rattle.pair_heights.specs.Follow.{follow-nowhere, follow-pass, follow-cycle, push-room, push-small, follow-push}
+use Rattle.pair_heights.specs.Follow.{follow_nowhere, follow_pass, follow_cycle, push_room, push_small, follow_push}
 use Rattle.pair_heights.proofs.follow.Goals as goal
 
 pub returns-then-place_count-next : goal.returns-then-place_count-next
-returns-then-place_count-next c = search follow-nowhere
+returns-then-place_count-next c = search follow_nowhere
 
 pub store-requires : goal.store-requires
-store-requires c = (search rules, search push-room, search rules, search rules)
+store-requires c = (search rules, search push_room, search rules, search rules)
 
 pub overflow_add-deeper : goal.overflow_add-deeper
-overflow_add-deeper c = search push-small
+overflow_add-deeper c = search push_small
 
 pub returns-then-met-eq0 : goal.returns-then-met-eq0
-returns-then-met-eq0 c = search follow-push
+returns-then-met-eq0 c = search follow_push
 
 pub returns-then-met-lt-FINISHED : goal.returns-then-met-lt-FINISHED
-returns-then-met-lt-FINISHED c = search follow-cycle
+returns-then-met-lt-FINISHED c = search follow_cycle
 
 pub returns : goal.returns
-returns c = search follow-pass
+returns c = search follow_pass

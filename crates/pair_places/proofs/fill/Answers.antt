@@ -1,6 +1,6 @@
 use mathlib.Core.Path.{◌≡◌, refl}
 use native.Mathlib.Omega.{arith}
-use Rattle.pair_places.specs.Writes.{always, written_none, written-more}
+use Rattle.pair_places.specs.Writes.{always, written_none, written_more}
 use Rattle.pair_places.proofs.fill.Goals as goal
 
 pub loop-k-init : goal.loop-k-init
@@ -14,7 +14,7 @@ loop-k-preserved c =
     let l = c.loop-k in
     let a = c.args in (
       omega arith,
-      written-more a.places.now l.places a.at l.k (always a.v) l.invariant.1 (omega arith) a.v refl,
+      written_more a.places.now l.places a.at l.k (always a.v) l.invariant.1 (omega arith) a.v refl,
     )
 
 pub shape_of-places : goal.shape_of-places

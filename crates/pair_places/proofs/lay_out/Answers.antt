@@ -1,8 +1,8 @@
 use mathlib.Core.Path.{sym}
 use native.Mathlib.Omega.{arith}
 use Rattle.code.specs.Definitions.Tables.{table_of}
-use Rattle.pair_places.specs.Codes.{code-none, word_room, next_start, next-lays, places-fit, code-laid}
-use Rattle.pair_places.specs.Bases.{base-none}
+use Rattle.pair_places.specs.Codes.{code_none, word_room, next_start, next_lays, places_fit, code_laid}
+use Rattle.pair_places.specs.Bases.{base_none}
 use Rattle.pair_places.proofs.lay_out.Goals as goal
 
 pub overflow_cast-places : goal.overflow_cast-places
@@ -10,7 +10,7 @@ overflow_cast-places c = omega (arith, c.requires.most)
 
 pub loop-x-init : goal.loop-x-init
 loop-x-init c =
-    (omega arith, sym (base-none (table_of c.args.code)), code-none c.args.code c.requires c.copy_at.new.to c.copy_at.ensures)
+    (omega arith, sym (base_none (table_of c.args.code)), code_none c.args.code c.requires c.copy_at.new.to c.copy_at.ensures)
 
 pub lay_word-requires : goal.lay_word-requires
 lay_word-requires c =
@@ -26,17 +26,17 @@ loop-x-preserved c =
     let s = c.loop-x in (
       omega arith,
       next_start c.args.code c.requires s.x s.at s.places (omega arith) s.invariant.1 s.invariant.2,
-      next-lays c.args.code c.requires s.x s.at s.places (omega arith) s.invariant.1 s.invariant.2 c.lay_word.new.places
+      next_lays c.args.code c.requires s.x s.at s.places (omega arith) s.invariant.1 s.invariant.2 c.lay_word.new.places
           c.lay_word.ensures,
     )
 
 pub overflow_cast-places-2 : goal.overflow_cast-places-2
 overflow_cast-places-2 c =
-    omega (arith, places-fit c.args.code c.requires c.loop-x.x c.loop-x.at c.loop-x.places (omega arith) c.loop-x.invariant.0 c.loop-x.invariant.1 c.loop-x.invariant.2)
+    omega (arith, places_fit c.args.code c.requires c.loop-x.x c.loop-x.at c.loop-x.places (omega arith) c.loop-x.invariant.0 c.loop-x.invariant.1 c.loop-x.invariant.2)
 
 pub returns : goal.returns
 returns c =
-    code-laid c.args.code c.requires c.loop-x.x c.loop-x.at c.loop-x.places (omega arith) c.loop-x.invariant.0 c.loop-x.invariant.1 c.loop-x.invariant.2
+    code_laid c.args.code c.requires c.loop-x.x c.loop-x.at c.loop-x.places (omega arith) c.loop-x.invariant.0 c.loop-x.invariant.1 c.loop-x.invariant.2
 
 pub copy_at-requires : goal.copy_at-requires
 copy_at-requires c = (omega arith, omega (arith, c.requires.begins))

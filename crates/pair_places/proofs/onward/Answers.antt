@@ -2,7 +2,7 @@
 use mathlib.Core.Path.{◌∙◌, sym, ap}
 use native.Mathlib.Omega.{arith}
 use Rattle.pair_places.specs.Flat.{may_follow}
-use Rattle.pair_places.specs.Onward.{inside, across, banned, no-word}
+use Rattle.pair_places.specs.Onward.{inside, across, banned, no_word_lem}
 use Rattle.pair_places.proofs.onward.Goals as goal
 
 pub returns-then-may_follow : goal.returns-then-may_follow
@@ -23,7 +23,7 @@ returns-else-may_follow c =
 pub returns-else-slot-word_count : goal.returns-else-slot-word_count
 returns-else-slot-word_count c =
     let a = c.args in
-    (c.place_count-none.ensures ∙ sym (no-word a.places.now a.p a.slot (sym c.is_end.ensures ∙ c.if-is_end.true) (omega arith)), omega arith)
+    (c.place_count-none.ensures ∙ sym (no_word_lem a.places.now a.p a.slot (sym c.is_end.ensures ∙ c.if-is_end.true) (omega arith)), omega arith)
 
 pub returns : goal.returns
 returns c =

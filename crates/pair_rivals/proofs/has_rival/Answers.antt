@@ -1,5 +1,5 @@
 use Rattle.code.specs.Laws.Below.{none_yet, none_more}
-use Rattle.pair_rivals.specs.Rivals.{before_here, before-none}
+use Rattle.pair_rivals.specs.Rivals.{before_here, before_none}
 use borrow.Author.Rules.{rules}
 use Rattle.pair_rivals.proofs.has_rival.Goals as goal
 
@@ -13,4 +13,4 @@ pub loop-y-preserved : goal.loop-y-preserved
 loop-y-preserved c = (search rules, search none_more)
 
 pub returns : goal.returns
-returns c = search before-none
+returns c = search before_none

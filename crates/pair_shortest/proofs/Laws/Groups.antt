@@ -9,12 +9,12 @@ use Rattle.pair_places.specs.Roots.{Numbered}
 use Rattle.pair_slots.specs.declared.Progress.{Progress}
 use Rattle.pair_slots.specs.declared.Progress.TheVariants.{Goal, Tail}
 use Rattle.pair_groups.specs.Ensured.{Known, Stands, GoalNext, Progressed}
-use Rattle.pair_groups.proofs.Laws.Frontier.{no-goal}
+use Rattle.pair_groups.proofs.Laws.Frontier.{no_goal}
 use Rattle.pair_groups.specs.Queue.{IsGroup, Between}
-use Rattle.pair_groups.specs.Room.{tail-most}
-use Rattle.pair_groups.specs.Parts.{entries-known, was-goal, was-tail}
-use Rattle.pair_groups.specs.Slots.{slots-begin}
-use Rattle.pair_groups.specs.Turns.{enter, next-group}
+use Rattle.pair_groups.specs.Room.{tail_most}
+use Rattle.pair_groups.specs.Parts.{entries_known, was_goal, was_tail}
+use Rattle.pair_groups.specs.Slots.{slots_begin}
+use Rattle.pair_groups.specs.Turns.{enter, next_group}
 use Rattle.pair_shortest.specs.declared.Expansion.{Expansion}
 use Rattle.pair_shortest.specs.declared.Expansion.TheVariants.{Goal as Ended, Next}
 use Rattle.pair_shortest.specs.declared.Exploration.TheVariants.{Goal as Reached, Exhausted}
@@ -22,45 +22,45 @@ use Rattle.pair_shortest.specs.Ensured.{Expanded, ended, moved, Explored, reache
 
 -- The entries in use have a cell, or the source.
 pub between_known : {f ms q : List ℕ} {tail a : ℕ} → Between (open_graph f) ms q tail a → Known f q tail
-between_known s = entries-known s.queue (omega arith)
+between_known s = entries_known s.queue (omega arith)
 
 -- A group that was found is entered.
 pub entered : {f ms q : List ℕ} {tail a b : ℕ} → Laid f → Between (open_graph f) ms q tail a → IsGroup (open_graph f) q tail a b → Stands f ms q tail a b 0 a 0
-entered laid s p = slots-begin (enter s p)
+entered laid s p = slots_begin (enter s p)
 
 -- What `advance` returns.
-pub expand-goal : {f ms q : List ℕ} {a b t k c x : ℕ} {r : Progress} → Progressed f ms q a b t k c r → r ≡ Goal x → Expanded f ms q a (Ended x)
-expand-goal h e = ended (was-goal h e)
+pub expand_goal : {f ms q : List ℕ} {a b t k c x : ℕ} {r : Progress} → Progressed f ms q a b t k c r → r ≡ Goal x → Expanded f ms q a (Ended x)
+expand_goal h e = ended (was_goal h e)
 
-pub expand-next : {f ms q : List ℕ} {a b k c e : ℕ} {r : Progress} → Progressed f ms q a b 16 k c r → r ≡ Tail e → Expanded f ms q a (Next b e)
-expand-next h d = let s = was-tail h d in moved s.stage.group.some (next-group s.stage (omega arith))
+pub expand_next : {f ms q : List ℕ} {a b k c e : ℕ} {r : Progress} → Progressed f ms q a b 16 k c r → r ≡ Tail e → Expanded f ms q a (Next b e)
+expand_next h d = let s = was_tail h d in moved s.stage.group.some (next_group s.stage (omega arith))
 
 -- What each expansion says.
 module _ {f ms q : List ℕ} {a : ℕ} where
-  was-ended : {x : ℕ} {r : Expansion} → Expanded f ms q a r → r ≡ Ended x → GoalNext f q a x
-  was-ended {x} (ended {x = y} h) e = let z : y ≡ x = cc in rw z at h
-  was-ended (moved l h) e = let z : ◌≡◌ {A = ℕ} 0 1 = cc in absurd (omega arith)
+  was_ended : {x : ℕ} {r : Expansion} → Expanded f ms q a r → r ≡ Ended x → GoalNext f q a x
+  was_ended {x} (ended {x = y} h) e = let z : y ≡ x = cc in rw z at h
+  was_ended (moved l h) e = let z : ◌≡◌ {A = ℕ} 0 1 = cc in absurd (omega arith)
 
-  pub was-moved : {b e : ℕ} {r : Expansion} → Expanded f ms q a r → r ≡ Next b e → Between (open_graph f) ms q e b
-  was-moved (ended h) d = let z : ◌≡◌ {A = ℕ} 0 1 = cc in absurd (omega arith)
-  was-moved {b} {e} (moved {b = x} {e = y} l h) d = let z : x ≡ b = cc in let w : y ≡ e = cc in rw (z, w) at h
+  pub was_moved : {b e : ℕ} {r : Expansion} → Expanded f ms q a r → r ≡ Next b e → Between (open_graph f) ms q e b
+  was_moved (ended h) d = let z : ◌≡◌ {A = ℕ} 0 1 = cc in absurd (omega arith)
+  was_moved {b} {e} (moved {b = x} {e = y} l h) d = let z : x ≡ b = cc in let w : y ≡ e = cc in rw (z, w) at h
 
-  pub was-on : {b e : ℕ} {r : Expansion} → Expanded f ms q a r → r ≡ Next b e → a < b
-  was-on (ended h) d = let z : ◌≡◌ {A = ℕ} 0 1 = cc in absurd (omega arith)
-  was-on {b} (moved {b = x} l h) d = let z : x ≡ b = cc in rw z at l
+  pub was_on : {b e : ℕ} {r : Expansion} → Expanded f ms q a r → r ≡ Next b e → a < b
+  was_on (ended h) d = let z : ◌≡◌ {A = ℕ} 0 1 = cc in absurd (omega arith)
+  was_on {b} (moved {b = x} l h) d = let z : x ≡ b = cc in rw z at l
 
 -- What `explore` returns: at a goal,
-pub explore-goal : {f ms q : List ℕ} {a x : ℕ} {r : Expansion} → Expanded f ms q a r → r ≡ Ended x → Explored f q (Reached a x)
-explore-goal h e = reached (was-ended h e)
+pub explore_goal : {f ms q : List ℕ} {a x : ℕ} {r : Expansion} → Expanded f ms q a r → r ≡ Ended x → Explored f q (Reached a x)
+explore_goal h e = reached (was_ended h e)
 
 -- and with no group left.
-pub explore-end : {f ms q : List ℕ} {tail a : ℕ} → Laid f → Between (open_graph f) ms q tail a → tail ≤ a → Explored f q Exhausted
-explore-end laid s h = exhausted (no-goal s h)
+pub explore_end : {f ms q : List ℕ} {tail a : ℕ} → Laid f → Between (open_graph f) ms q tail a → tail ≤ a → Explored f q Exhausted
+explore_end laid s h = exhausted (no_goal s h)
 
 -- The next group starts later, so few are left.
-pub explore-less : {f ms q : List ℕ} {tail a b e : ℕ} {r : Expansion} → Expanded f ms q a r → r ≡ Next b e → a < tail
+pub explore_less : {f ms q : List ℕ} {tail a b e : ℕ} {r : Expansion} → Expanded f ms q a r → r ≡ Next b e → a < tail
     → tail ≤ pair_count f + 1 → pair_count f + 1 - b < pair_count f + 1 - a
-explore-less h d l k = let o = was-on h d in omega arith
+explore_less h d l k = let o = was_on h d in omega arith
 
-pub moved-few : {f ms q : List ℕ} {a b e : ℕ} {r : Expansion} → Laid f → Numbered f → Expanded f ms q a r → r ≡ Next b e → e ≤ pair_count f + 1
-moved-few laid n h d = tail-most laid n (was-moved h d).queue
+pub moved_few : {f ms q : List ℕ} {a b e : ℕ} {r : Expansion} → Laid f → Numbered f → Expanded f ms q a r → r ≡ Next b e → e ≤ pair_count f + 1
+moved_few laid n h d = tail_most laid n (was_moved h d).queue

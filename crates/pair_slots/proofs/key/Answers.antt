@@ -1,11 +1,11 @@
 -- `key` is the key of an entry: what `above_at` and `pair_at` take out, and the symbol of the higher place, which is a byte.
 use borrow.Author.Rules.{rules}
 use native.Mathlib.Omega.{arith}
-use Rattle.pair_slots.specs.Leaves.{high-carried, is_key}
+use Rattle.pair_slots.specs.Leaves.{high_carried, is_key}
 use Rattle.pair_slots.proofs.key.Goals as goal
 
 pub symbol-requires : goal.symbol-requires
-symbol-requires c = (search rules, search high-carried)
+symbol-requires c = (search rules, search high_carried)
 
 pub overflow_add-result : goal.overflow_add-result
 overflow_add-result c = omega (arith, c.symbol.ensures, c.shared_slice_known-1.given c.pair_at-pair.result.high)

@@ -8,37 +8,37 @@ use lib.Bits.{bit_and, and_mask}
 use Rattle.code.specs.Definitions.Sheets.{limits}
 use Rattle.pair_places.specs.Cells.{cell_of}
 use Rattle.pair_places.specs.Flat.{Laid, place_count, cell_count, cell}
-use Rattle.pair_places.specs.Nodes.{cell-inside, cells-most}
+use Rattle.pair_places.specs.Nodes.{cell_inside, cells_most}
 use Rattle.pair_storage.specs.Fields.{place_bits, place_room, mark_bits, mark_in}
 
 module _ {f : List ℕ} (laid : Laid f) (low : ℕ) {high n : ℕ} (l : low < place_count f) (h : high < place_count f) (e : n ≡ place_count f) where
   product : low * place_count f ≤ limits.total * limits.total
   product = mul-le-mul {n₂ = limits.total} {m₂ = limits.total} (omega (arith, laid.places)) laid.places
 
-  pub product-fits : low * n < 2 ^ 64
-  product-fits = rw e (omega (arith, product))
+  pub product_fits : low * n < 2 ^ 64
+  product_fits = rw e (omega (arith, product))
 
   pub sum_fits : low * n + high < 2 ^ 64
   sum_fits = rw e (omega (arith, product, h, laid.places))
 
-  pub is-cell : (low * n + high ≡ cell f low high) × (low * n + high < cell_count f)
+  pub is_cell : (low * n + high ≡ cell f low high) × (low * n + high < cell_count f)
   unfolding cell_of
-  is-cell = rw e (omega arith, cell-inside f low high h l)
+  is_cell = rw e (omega arith, cell_inside f low high h l)
 
 -- The square of the number of places fits, and is the number of cells.
 module _ {f : List ℕ} (laid : Laid f) {n : ℕ} (e : n ≡ place_count f) where
-  pub square-fits : n * n < 2 ^ 64
+  pub square_fits : n * n < 2 ^ 64
   unfolding cell_count
-  square-fits = let m = cells-most laid in rw e (omega arith)
+  square_fits = let m = cells_most laid in rw e (omega arith)
 
-  pub is-count : n * n ≡ cell_count f
+  pub is_count : n * n ≡ cell_count f
   unfolding cell_count
-  is-count = rw e
+  is_count = rw e
 
 -- A mask keeps the bits of one place, another those of a mark.
 pub masked : (k : ℕ) → bit_and k (2 ^ place_bits - 1) ≡ k % place_room
 masked k = and_mask k place_bits
 
-pub mark-masked : (e : ℕ) → bit_and e (2 ^ mark_bits - 1) ≡ mark_in e
+pub mark_masked : (e : ℕ) → bit_and e (2 ^ mark_bits - 1) ≡ mark_in e
 unfolding mark_in
-mark-masked e = and_mask e mark_bits
+mark_masked e = and_mask e mark_bits

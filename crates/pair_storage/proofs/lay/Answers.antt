@@ -2,7 +2,7 @@ use mathlib.Core.Path.{◌∙◌}
 use borrow.Author.Rules.{rules}
 use lib.ListN.{length-set}
 use native.Mathlib.Omega.{arith}
-use Rattle.pair_storage.proofs.Laws.Laying.{laid_none, laid_more, laid-all}
+use Rattle.pair_storage.proofs.Laws.Laying.{laid_none, laid_more, laid_all}
 use Rattle.pair_storage.proofs.lay.Goals as goal
 
 pub loop-i-init : goal.loop-i-init
@@ -21,7 +21,7 @@ pub returns : goal.returns
 returns c =
     let l = c.loop-i in
     let a = c.args in
-    l.invariant.2 ∙ laid-all a.marks.now a.work.now l.invariant.0 (omega arith)
+    l.invariant.2 ∙ laid_all a.marks.now a.work.now l.invariant.0 (omega arith)
 
 pub loop-i-smaller : goal.loop-i-smaller
 loop-i-smaller c = omega arith

@@ -23,46 +23,46 @@ module _ (n : ℕ) (large : 10 ≤ n) where
   below (suc i) f =
       rw (pow-suc 10 (suc i)) ((le-div_iff_mul-le {k = 10} {x = 10 ^ suc i} {y = n} (omega arith)).0 (rw (less_one (suc i)) at (f.2 (omega arith))))
 
-  more-digits : (j : ℕ) → IsDigitCount 10 1 (n / 10) j → IsDigitCount 10 1 n (suc j)
-  more-digits zero f = absurd (omega (arith, f.0))
-  more-digits (suc i) f = (omega arith, above (suc i) f, (λ g. rw (less_one (suc i)) (below i f)))
+  more_digits : (j : ℕ) → IsDigitCount 10 1 (n / 10) j → IsDigitCount 10 1 n (suc j)
+  more_digits zero f = absurd (omega (arith, f.0))
+  more_digits (suc i) f = (omega arith, above (suc i) f, (λ g. rw (less_one (suc i)) (below i f)))
 
-fewest-within : (k n : ℕ) → n ≤ k → IsDigitCount 10 1 n (places_within k n)
+fewest_within : (k n : ℕ) → n ≤ k → IsDigitCount 10 1 n (places_within k n)
 unfolding places_within
-fewest-within zero n h = (omega arith, omega arith, (λ g. absurd (omega arith)))
-fewest-within (suc k) n h = by_size (λ m i. fewest-within k m i) (dec_lt n 10)
+fewest_within zero n h = (omega arith, omega arith, (λ g. absurd (omega arith)))
+fewest_within (suc k) n h = by_size (λ m i. fewest_within k m i) (dec_lt n 10)
   where
     by_size : ((m : ℕ) → m ≤ k → IsDigitCount 10 1 m (places_within k m)) → Dec (n < 10) → IsDigitCount 10 1 n (places_within (suc k) n)
     by_size shorter (yes l) = rw (lt-ltb n 10 l) (omega arith, l, (λ g. absurd (omega arith)))
-    by_size shorter (no l) = rw (le-ltb n 10 (omega arith)) (more-digits n (omega arith) (places_within k (n / 10)) (shorter (n / 10) (omega arith)))
+    by_size shorter (no l) = rw (le-ltb n 10 (omega arith)) (more_digits n (omega arith) (places_within k (n / 10)) (shorter (n / 10) (omega arith)))
 
 -- No fewer digits hold n.
-pub places-fewest : (n : ℕ) → IsDigitCount 10 1 n (places n)
+pub places_fewest : (n : ℕ) → IsDigitCount 10 1 n (places n)
 unfolding places
-places-fewest n = fewest-within n n (omega arith)
+places_fewest n = fewest_within n n (omega arith)
 
 -- n below 10 ^ m has at most m digits.
-pub places-most : (n m : ℕ) → 1 ≤ m → n < 10 ^ m → places n ≤ m
-places-most n m one small = by_size (dec_lt m (places n))
+pub places_most : (n m : ℕ) → 1 ≤ m → n < 10 ^ m → places n ≤ m
+places_most n m one small = by_size (dec_lt m (places n))
   where
     by_size : Dec (m < places n) → places n ≤ m
     by_size (yes l) =
-        let f = places-fewest n in
+        let f = places_fewest n in
         absurd (omega (arith, f.2 (omega arith), pow-le-pow_right {n = 10} (omega arith) {i = m} {j = places n - 1} (omega arith)))
     by_size (no l) = omega arith
 
 -- There is one fewest number of digits, so digits that are the fewest are `decimal`.
-fewest-most : (n j k : ℕ) → IsDigitCount 10 1 n j → IsDigitCount 10 1 n k → k ≤ j
-fewest-most n j k f g = by_size (dec_lt j k)
+fewest_most : (n j k : ℕ) → IsDigitCount 10 1 n j → IsDigitCount 10 1 n k → k ≤ j
+fewest_most n j k f g = by_size (dec_lt j k)
   where
     by_size : Dec (j < k) → k ≤ j
     by_size (yes l) = absurd (omega (arith, f.1, g.2 (omega (arith, f.0)), pow-le-pow_right {n = 10} (omega arith) {i = j} {j = k - 1} (omega arith)))
     by_size (no l) = omega arith
 
-pub fewest-digits : (n k : ℕ) → IsDigitCount 10 1 n k → last_digits 10 k n ≡ decimal n
-fewest-digits n k f =
-    let p = places-fewest n in
-    let same : k ≡ places n = omega (arith, fewest-most n k (places n) f p, fewest-most n (places n) k p f) in
+pub fewest_digits : (n k : ℕ) → IsDigitCount 10 1 n k → last_digits 10 k n ≡ decimal n
+fewest_digits n k f =
+    let p = places_fewest n in
+    let same : k ≡ places n = omega (arith, fewest_most n k (places n) f p, fewest_most n (places n) k p f) in
     rw same
 
 pub length_digits : (b k n : ℕ) → length (last_digits b k n) ≡ k

@@ -9,7 +9,7 @@ use Rattle.io.specs.Counts.{IsPrefixLen}
 use Rattle.writing.specs.Puts.{Starts}
 
 -- Its bytes lie within the buffer.
-pub starts-counts : {r : ℕ} {text o p : List ℕ} → Starts text o p r → IsPrefixLen r p
-starts-counts {r} {text} {o} {p} s =
+pub starts_counts : {r : ℕ} {text o p : List ℕ} → Starts text o p r → IsPrefixLen r p
+starts_counts {r} {text} {o} {p} s =
     let within : r ≤ length p = omega (arith, s.count, ap length s.out, length-append text (drop (length text) o)) in
     (within, sym (length-take-le r p within))

@@ -2,8 +2,8 @@ use Prim.Native.Nat.{◌+◌, ◌<◌}
 use borrow.Author.Rules.{rules}
 use mathlib.Core.Path.{refl, sym, ◌∙◌}
 use native.Mathlib.Omega.{arith}
-use Rattle.bits.specs.Lowest.{lowest-below, left-above, left_less}
-use Rattle.read_choices.specs.Choices.{none_more, usable-lowest, none-lowest, none_left}
+use Rattle.bits.specs.Lowest.{lowest_below, left_above, left_less}
+use Rattle.read_choices.specs.Choices.{none_more, usable_lowest, none_lowest, none_left}
 use Rattle.read_choices.proofs.seek.Goals as goal
 use Rattle.read_choices.proofs.seek.Goals.{After-lowest-skipped}
 
@@ -11,7 +11,7 @@ use Rattle.read_choices.proofs.seek.Goals.{After-lowest-skipped}
 below : (c : After-lowest-skipped) → c.loop-left.x + c.lowest-skipped.result < c.args.n
 below c =
     let l = c.loop-left in
-    lowest-below _ l.x l.invariant.1 c.lowest-skipped.ensures c.requires.0.bound
+    lowest_below _ l.x l.invariant.1 c.lowest-skipped.ensures c.requires.0.bound
 
 pub loop-left-init : goal.loop-left-init
 loop-left-init c = (search rules, refl, λ z a b. absurd (omega arith))
@@ -38,8 +38,8 @@ returns-then-has c =
     record {
       low = omega (arith, l.invariant.0);
       high = omega (arith, below (goal.at.returns-then-has c).After-lowest-skipped);
-      is = λ k. usable-lowest a.work.now a.rows.now a.pos l.x _ _ l.invariant.1 f a.y ∙ sym c.has.ensures ∙ c.if-has.true;
-      none = none-lowest a.work.now a.rows.now a.pos l.x _ _ l.invariant.1 f a.y a.from l.invariant.2;
+      is = λ k. usable_lowest a.work.now a.rows.now a.pos l.x _ _ l.invariant.1 f a.y ∙ sym c.has.ensures ∙ c.if-has.true;
+      none = none_lowest a.work.now a.rows.now a.pos l.x _ _ l.invariant.1 f a.y a.from l.invariant.2;
     }
 
 pub overflow_shr-left-in-loop-left : goal.overflow_shr-left-in-loop-left
@@ -56,9 +56,9 @@ loop-left-preserved c =
     let a = c.args in
     let l = c.loop-left in
     let f = c.lowest-skipped.ensures in
-    let off = usable-lowest a.work.now a.rows.now a.pos l.x _ _ l.invariant.1 f a.y ∙ sym c.has.ensures ∙ c.if-has.false in
-    let none = none-lowest a.work.now a.rows.now a.pos l.x _ _ l.invariant.1 f a.y a.from l.invariant.2 in
-    (omega (arith, l.invariant.0), left-above _ l.x l.invariant.1 f, none_more _ _ _ _ _ _ none off)
+    let off = usable_lowest a.work.now a.rows.now a.pos l.x _ _ l.invariant.1 f a.y ∙ sym c.has.ensures ∙ c.if-has.false in
+    let none = none_lowest a.work.now a.rows.now a.pos l.x _ _ l.invariant.1 f a.y a.from l.invariant.2 in
+    (omega (arith, l.invariant.0), left_above _ l.x l.invariant.1 f, none_more _ _ _ _ _ _ none off)
 
 pub returns : goal.returns
 returns c =

@@ -4,8 +4,8 @@ use lib.ListN.{length, get_or}
 use mathlib.Core.Path.{◌≡◌, refl}
 use native.Mathlib.Omega.{arith}
 use Rattle.code.specs.Definitions.Sheets.{limits}
-use Rattle.read_sets.specs.Sets.{symbol_sets, block-symbol}
-use Rattle.read_sets.specs.Words.{Spread, spread_none, spread-more}
+use Rattle.read_sets.specs.Sets.{symbol_sets, block_symbol}
+use Rattle.read_sets.specs.Words.{Spread, spread_none, spread_more}
 use Rattle.read_sets.proofs.lay_word.Goals as goal
 use Rattle.read_sets.proofs.lay_word.Goals.{After-block_of-block}
 
@@ -14,7 +14,7 @@ room : (c : After-block_of-block) → c.block_of-block.result + limits.symbols <
 room c =
     let symbol = get_or c.args.w.symbols c.loop-j.j 0 in
     let low = c.requires.2.below c.loop-j.j in
-    omega (arith, c.block_of-block.ensures, block-symbol symbol low)
+    omega (arith, c.block_of-block.ensures, block_symbol symbol low)
 
 pub loop-j-init : goal.loop-j-init
 loop-j-init c = (omega arith, refl, spread_none _ _ _)
@@ -41,7 +41,7 @@ loop-j-preserved c =
     let l = c.loop-j in
     let placed = c.put.ensures in
     let h = room (goal.at.loop-j-preserved c).After-block_of-block in
-    let m = spread-more (c.block_of-block.result + l.j) (rw c.block_of-block.ensures) (omega arith) l.invariant.2 in
+    let m = spread_more (c.block_of-block.result + l.j) (rw c.block_of-block.ensures) (omega arith) l.invariant.2 in
     (omega arith, rw placed m.long, rw placed m)
 
 pub shape_of-having : goal.shape_of-having

@@ -5,8 +5,8 @@ use lib.ListN.{length, get_or}
 use mathlib.Core.Path.{◌≡◌, refl}
 use native.Mathlib.Omega.{arith}
 use Rattle.code.specs.Definitions.Sheets.{limits}
-use Rattle.read_sets.specs.Sets.{symbol_sets, block-symbol}
-use Rattle.read_sets.specs.Words.{Spread, spread_none, spread-more}
+use Rattle.read_sets.specs.Sets.{symbol_sets, block_symbol}
+use Rattle.read_sets.specs.Words.{Spread, spread_none, spread_more}
 use Rattle.read_sets.proofs.lay_word.Given as goal
 
 abbrev pub invariant-loop-j : goal.invariant-loop-j

@@ -5,7 +5,7 @@ use native.Mathlib.Omega.{arith}
 use Rattle.code.specs.Definitions.Tables.{no_word}
 use Rattle.code.specs.Definitions.Sheets.{limits}
 use Rattle.code.specs.Laws.WellFormed.{len_of, WordFits}
-use Rattle.read_sets.specs.Words.{LaidWords, words-none, words_more}
+use Rattle.read_sets.specs.Words.{LaidWords, words_none, words_more}
 use Rattle.read_sets.proofs.lay_words.Goals as goal
 use Rattle.read_sets.proofs.lay_words.Goals.{then-longest-w, else-longest-w, In-loop-x}
 
@@ -20,7 +20,7 @@ inside c = omega (arith, c.requires.0.most)
 pub loop-x-init : goal.loop-x-init
 loop-x-init c =
     let p = c.requires in
-    (omega arith, refl, refl, refl, words-none c.args.code p.1 p.2 p.3)
+    (omega arith, refl, refl, refl, words_none c.args.code p.1 p.2 p.3)
 
 pub offset_bounds-code-x : goal.offset_bounds-code-x
 offset_bounds-code-x c = omega (arith, inside c)
@@ -31,7 +31,7 @@ bounds-code-x c = omega (arith, inside c)
 pub lay_word-requires : goal.lay_word-requires
 lay_word-requires c =
     let w = fits (goal.at.lay_word-requires c).In-loop-x in
-    (c.loop-x.invariant.4.having-long, w.short, w.symbols, omega (arith, inside (goal.at.lay_word-requires c).In-loop-x))
+    (c.loop-x.invariant.4.having_long, w.short, w.symbols, omega (arith, inside (goal.at.lay_word-requires c).In-loop-x))
 
 pub overflow_sub-w : goal.overflow_sub-w
 overflow_sub-w c =
@@ -40,14 +40,14 @@ overflow_sub-w c =
 pub put-requires : goal.put-requires
 put-requires c =
     let w = fits (goal.at.put-requires c).In-loop-x in
-    (omega (arith, w.some c.loop-x-test.true, w.short, c.loop-x.invariant.4.ends-long), omega (arith, inside (goal.at.put-requires c).In-loop-x))
+    (omega (arith, w.some c.loop-x-test.true, w.short, c.loop-x.invariant.4.ends_long), omega (arith, inside (goal.at.put-requires c).In-loop-x))
 
 pub offset_bounds-lengths-x : goal.offset_bounds-lengths-x
 offset_bounds-lengths-x c = omega (arith, inside (goal.at.offset_bounds-lengths-x c).In-loop-x)
 
 pub bounds-lengths-x : goal.bounds-lengths-x
 bounds-lengths-x c =
-    omega (arith, inside (goal.at.bounds-lengths-x c).In-loop-x, c.loop-x.invariant.4.lengths-long)
+    omega (arith, inside (goal.at.bounds-lengths-x c).In-loop-x, c.loop-x.invariant.4.lengths_long)
 
 pub overflow_add-x : goal.overflow_add-x
 overflow_add-x c = omega (arith, inside (goal.at.overflow_add-x c).In-loop-x)

@@ -7,7 +7,7 @@ use native.Mathlib.Omega.{arith}
 use Rattle.code.specs.Definitions.Tables.{no_word}
 use Rattle.code.specs.Definitions.Sheets.{limits}
 use Rattle.code.specs.Laws.WellFormed.{len_of, WordFits}
-use Rattle.read_sets.specs.Words.{LaidWords, words-none, words_more}
+use Rattle.read_sets.specs.Words.{LaidWords, words_none, words_more}
 use Rattle.read_sets.proofs.lay_words.Given as goal
 
 abbrev pub invariant-loop-x : goal.invariant-loop-x

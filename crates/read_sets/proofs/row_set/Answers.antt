@@ -2,7 +2,7 @@ use Prim.Native.Nat.{◌-◌, ◌≤◌}
 use borrow.Author.Rules.{rules}
 use mathlib.Core.Path.{◌≡◌}
 use native.Mathlib.Omega.{arith}
-use Rattle.read_sets.specs.Rows.{RowSet, row-none, row_more}
+use Rattle.read_sets.specs.Rows.{RowSet, row_none, row_more}
 use Rattle.read_sets.proofs.row_set.Goals as goal
 
 pub overflow_shl-set : goal.overflow_shl-set
@@ -12,7 +12,7 @@ pub loop-y-init : goal.loop-y-init
 loop-y-init c =
     let p = c.requires in
     let e = c.wide.ensures in
-    (omega arith, rw e (row-none _ _ _ p.1 (omega arith)))
+    (omega arith, rw e (row_none _ _ _ p.1 (omega arith)))
 
 pub bounds-row-y : goal.bounds-row-y
 bounds-row-y c = omega arith

@@ -3,7 +3,7 @@ use Prim.Native.Nat.{◌-◌, ◌≤◌}
 use borrow.Author.Rules.{rules}
 use mathlib.Core.Path.{◌≡◌}
 use native.Mathlib.Omega.{arith}
-use Rattle.read_sets.specs.Rows.{RowSet, row-none, row_more}
+use Rattle.read_sets.specs.Rows.{RowSet, row_none, row_more}
 use Rattle.read_sets.proofs.row_set.Given as goal
 
 abbrev pub invariant-loop-y : goal.invariant-loop-y

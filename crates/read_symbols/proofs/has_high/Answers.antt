@@ -2,7 +2,7 @@ use Prim.Native.Nat.{ℕ, ◌-◌, ◌≤◌, ◌<◌}
 use borrow.Author.Count.{below_none, below_more}
 use lib.ListN.{length, get_or}
 use native.Mathlib.Omega.{arith}
-use Rattle.code.specs.Laws.Exactly.{exactly-true, exactly-false}
+use Rattle.code.specs.Laws.Exactly.{exactly_true, exactly_false}
 use Rattle.read_symbols.proofs.has_high.Goals as goal
 
 pub loop-i-init : goal.loop-i-init
@@ -13,7 +13,7 @@ bounds-message-i c = omega arith
 
 pub returns-then-message-i-ge-ALPHABET : goal.returns-then-message-i-ge-ALPHABET
 returns-then-message-i-ge-ALPHABET c =
-    exactly-true (record { at = c.loop-i.i; within = omega arith; high = omega arith })
+    exactly_true (record { at = c.loop-i.i; within = omega arith; high = omega arith })
 
 pub overflow_add-i : goal.overflow_add-i
 overflow_add-i c = omega arith
@@ -26,4 +26,4 @@ loop-i-preserved c =
     (omega arith, below_more _ _ c.loop-i.invariant.1 (omega arith))
 
 pub returns : goal.returns
-returns c = exactly-false λ h. omega (arith, h.within, h.high, c.loop-i.invariant.1 h.at (omega (arith, h.within)))
+returns c = exactly_false λ h. omega (arith, h.within, h.high, c.loop-i.invariant.1 h.at (omega (arith, h.within)))

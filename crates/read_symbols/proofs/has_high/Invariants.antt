@@ -3,7 +3,7 @@ use Prim.Native.Nat.{ℕ, ◌-◌, ◌≤◌, ◌<◌}
 use borrow.Author.Count.{below_none, below_more}
 use lib.ListN.{length, get_or}
 use native.Mathlib.Omega.{arith}
-use Rattle.code.specs.Laws.Exactly.{exactly-true, exactly-false}
+use Rattle.code.specs.Laws.Exactly.{exactly_true, exactly_false}
 use Rattle.read_symbols.proofs.has_high.Given as goal
 
 abbrev pub invariant-loop-i : goal.invariant-loop-i

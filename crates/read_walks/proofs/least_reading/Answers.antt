@@ -2,7 +2,7 @@ use borrow.Author.Rules.{rules}
 use lib.ListN.{length-set}
 use mathlib.Core.Path.{refl}
 use native.Mathlib.Omega.{arith}
-use Rattle.read_walks.specs.Steps.{Taken, walking_start, walking-end, sought-taken, walking_on}
+use Rattle.read_walks.specs.Steps.{Taken, walking_start, walking_end, sought_taken, walking_on}
 use Rattle.read_walks.proofs.least_reading.Goals as goal
 use Rattle.read_walks.proofs.least_reading.Goals.{After-seek-x}
 
@@ -11,7 +11,7 @@ taken : (c : After-seek-x)
     → Taken c.args.lengths.now c.args.n
     c.args.end c.loop-w.w.pos c.seek-x.result
 taken c =
-    sought-taken c.requires.0 c.loop-w-test.true c.loop-w.invariant.0.can c.seek-x.ensures
+    sought_taken c.requires.0 c.loop-w-test.true c.loop-w.invariant.0.can c.seek-x.ensures
 
 pub loop-w-init : goal.loop-w-init
 loop-w-init c =
@@ -57,4 +57,4 @@ pub returns : goal.returns
 returns c =
     let p = c.requires in
     let l = c.loop-w in
-    walking-end p.0.sure.bounded l.invariant.0 c.loop-w-test.false
+    walking_end p.0.sure.bounded l.invariant.0 c.loop-w-test.false

@@ -1,6 +1,6 @@
--- `read_walks::second_reading` meets its contract: the words stand in order by `second-written`.
+-- `read_walks::second_reading` meets its contract: the words stand in order by `second_written`.
 use native.Mathlib.Omega.{arith}
-use Rattle.read_walks.specs.Answers.{second-written}
+use Rattle.read_walks.specs.Answers.{second_written}
 use Rattle.read_walks.proofs.second_reading.Goals as goal
 
 pub bounds-lengths-other : goal.bounds-lengths-other
@@ -22,4 +22,4 @@ overflow_add-result-2 c =
 pub returns : goal.returns
 returns c =
     let a = c.args in
-    second-written a.first.now a.second.now a.w c.requires.3 (rw c.copy_branch.ensures at c.least_reading-v.ensures)
+    second_written a.first.now a.second.now a.w c.requires.3 (rw c.copy_branch.ensures at c.least_reading-v.ensures)

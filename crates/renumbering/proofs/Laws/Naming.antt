@@ -6,7 +6,7 @@ use native.Mathlib.Omega.{arith}
 use lib.ListN.{length, take, drop, get_or, set, length-map, get_or-map}
 use lib.Seq.{length-take-le, get_or-take, get_or_at, drop-cons}
 use Rattle.code.specs.Definitions.Lists.{tabulate}
-use Rattle.code.specs.Laws.Lists.{length-tabulate, tabulate-list}
+use Rattle.code.specs.Laws.Lists.{length-tabulate, tabulate_list}
 use Rattle.renumbering.specs.Reordering.{Filled, filled_more}
 
 -- the name of what stood at i
@@ -23,11 +23,11 @@ module _ (names : List ℕ) (n : ℕ) (was : List ℕ) (room : n ≤ length was)
   pub named_more : i < n → Filled (name_at names was) n was (set now i (name_at names now i)) (i + 1)
   named_more h = filled_more (name_at names was) n was filled h room (name_at names now i) (ap (λ (x : ℕ). get_or names x 0) (unnamed h))
 
-  pub named-all : n ≤ i → now ≡ map (λ (x : ℕ). get_or names x 0) (take n was) ++ drop n was
-  named-all h =
+  pub named_all : n ≤ i → now ≡ map (λ (x : ℕ). get_or names x 0) (take n was) ++ drop n was
+  named_all h =
       let name : ℕ → ℕ = λ x. get_or names x 0 in
       let end : i ≡ n = omega (arith, filled.upto) in
       let mapped : tabulate (name_at names was) n ≡ map name (take n was) =
-      tabulate-list (name_at names was) n (map name (take n was)) (name 0) (length-map (take n was) name ∙ length-take-le n was room)
+      tabulate_list (name_at names was) n (map name (take n was)) (name 0) (length-map (take n was) name ∙ length-take-le n was room)
       (λ k l. ap name (sym (get_or-take n was k 0 l)) ∙ sym (get_or-map name (take n was) k 0)) in
       filled.is ∙ rw (end, mapped)

@@ -1,7 +1,7 @@
 -- The table's words, rows and start marks are those that were put in order.
 use borrow.Author.Rules.{rules}
-use Rattle.renumbering.specs.Reordering.{renumbered-parts}
+use Rattle.renumbering.specs.Reordering.{renumbered_parts}
 use Rattle.renumbering.proofs.renumber.Goals as goal
 
 pub returns : goal.returns
-returns c = renumbered-parts _ _ _ c.reorder_words-next_words.ensures c.reorder_rows-next_rows.ensures c.reorder_entries-next_begins.ensures
+returns c = renumbered_parts _ _ _ c.reorder_words-next_words.ensures c.reorder_rows-next_rows.ensures c.reorder_entries-next_begins.ensures

@@ -1,7 +1,7 @@
 use borrow.Author.Rules.{rules}
 use native.Mathlib.Omega.{arith}
 use Prim.Native.Nat.{◌-◌}
-use Rattle.renumbering.specs.Reordering.{Filled, entry_from, filled_none, reordered-more, reordered-all}
+use Rattle.renumbering.specs.Reordering.{Filled, entry_from, filled_none, reordered_more, reordered_all}
 use Rattle.renumbering.proofs.reorder_entries.Goals as goal
 
 pub loop-i-init : goal.loop-i-init
@@ -11,7 +11,7 @@ pub bounds-entries-x : goal.bounds-entries-x
 bounds-entries-x c = omega (arith, c.requires.known c.loop-i.i (search rules))
 
 pub loop-i-preserved : goal.loop-i-preserved
-loop-i-preserved c = reordered-more _ _ 0 _ c.requires (search rules) c.loop-i.invariant (search rules)
+loop-i-preserved c = reordered_more _ _ 0 _ c.requires (search rules) c.loop-i.invariant (search rules)
 
 pub returns : goal.returns
-returns c = reordered-all _ _ 0 _ c.requires (search rules) c.loop-i.invariant (search rules)
+returns c = reordered_all _ _ 0 _ c.requires (search rules) c.loop-i.invariant (search rules)

@@ -2,7 +2,7 @@ use borrow.Author.Rules.{rules}
 use native.Mathlib.Omega.{arith}
 use Prim.Native.Nat.{◌-◌}
 use Rattle.code.specs.Definitions.Tables.{no_word}
-use Rattle.renumbering.specs.Reordering.{Filled, entry_from, filled_none, reordered-more, reordered-all}
+use Rattle.renumbering.specs.Reordering.{Filled, entry_from, filled_none, reordered_more, reordered_all}
 use Rattle.renumbering.proofs.reorder_words.Goals as goal
 
 pub loop-i-init : goal.loop-i-init
@@ -15,7 +15,7 @@ pub bounds-words-x : goal.bounds-words-x
 bounds-words-x c = omega (arith, c.requires.known c.loop-i.i (search rules))
 
 pub loop-i-preserved : goal.loop-i-preserved
-loop-i-preserved c = reordered-more _ _ no_word _ c.requires (search rules) c.loop-i.invariant (search rules)
+loop-i-preserved c = reordered_more _ _ no_word _ c.requires (search rules) c.loop-i.invariant (search rules)
 
 pub returns : goal.returns
-returns c = reordered-all _ _ no_word _ c.requires (search rules) c.loop-i.invariant (search rules)
+returns c = reordered_all _ _ no_word _ c.requires (search rules) c.loop-i.invariant (search rules)

@@ -18,14 +18,14 @@ use Rattle.sheet_survey.specs.declared.Survey.{Survey}
 use Rattle.sheet_survey.specs.Survey.{start, survey_records, marked, width_bad, row_bad, start_bad, answer_by, answer_of, bad_second, other_width, Rows, no_row, row, first}
 
 -- All records have k fields where the first has and no other has another number.
-not-or : (t u w : Bool) → not u ≡ w → not (not t || u) ≡ t && w
-not-or true u w e = e
-not-or false u w e = refl
+not_or : (t u w : Bool) → not u ≡ w → not (not t || u) ≡ t && w
+not_or true u w e = e
+not_or false u w e = refl
 
 none_other : (k : ℕ) (g : List (List (List ℕ))) → not (any (other_width k) g) ≡ all_wide k g
 unfolding any every
 none_other k [] = refl
-none_other k (r ∷ g) = not-or (eqb (length r) k) (any (other_width k) g) (all_wide k g) (none_other k g)
+none_other k (r ∷ g) = not_or (eqb (length r) k) (any (other_width k) g) (all_wide k g) (none_other k g)
 
 widths : (w k : ℕ) (g : List (List (List ℕ))) (t : Bool) → eqb w k ≡ t → not (any (other_width w) g) && eqb w k ≡ eqb w k && all_wide k g
 widths w k g true e = rw (eqb-true w k e, eq-eqb k k refl, and-true) (none_other k g)
@@ -37,31 +37,31 @@ exchange true b c d = refl
 exchange false true c d = rw or-true
 exchange false false c d = refl
 
-row-parts : (r : List (List ℕ)) → bad_second r || bad_row 2 r ≡ bad_row 1 r
+row_parts : (r : List (List ℕ)) → bad_second r || bad_row 2 r ≡ bad_row 1 r
 unfolding any
-row-parts [] = refl
-row-parts (f ∷ []) = refl
-row-parts (f ∷ h ∷ r) = rw or-false
+row_parts [] = refl
+row_parts (f ∷ []) = refl
+row_parts (f ∷ h ∷ r) = rw or-false
 
-rows-parts : (g : List (List (List ℕ))) → any bad_second g || any (bad_row 2) g ≡ any (bad_row 1) g
+rows_parts : (g : List (List (List ℕ))) → any bad_second g || any (bad_row 2) g ≡ any (bad_row 1) g
 unfolding any
-rows-parts [] = refl
-rows-parts (r ∷ g) =
-    exchange (bad_second r) (any bad_second g) (bad_row 2 r) (any (bad_row 2) g) ∙ rw (row-parts r, rows-parts g)
+rows_parts [] = refl
+rows_parts (r ∷ g) =
+    exchange (bad_second r) (any bad_second g) (bad_row 2 r) (any (bad_row 2) g) ∙ rw (row_parts r, rows_parts g)
 
 -- A second field that is a start field
-start-second : (r : List (List ℕ)) → 2 ≤ length r → bad_second r ≡ bad_entry (start_field r)
+start_second : (r : List (List ℕ)) → 2 ≤ length r → bad_second r ≡ bad_entry (start_field r)
 unfolding any
-start-second [] h = absurd (omega arith)
-start-second (f ∷ []) h = absurd (omega arith)
-start-second (f ∷ h ∷ r) l = rw or-false
+start_second [] h = absurd (omega arith)
+start_second (f ∷ []) h = absurd (omega arith)
+start_second (f ∷ h ∷ r) l = rw or-false
 
-starts-second : (k : ℕ) → 2 ≤ k → (g : List (List (List ℕ))) → all_wide k g ≡ true → any bad_second g ≡ any (λ r. bad_entry (start_field r)) g
+starts_second : (k : ℕ) → 2 ≤ k → (g : List (List (List ℕ))) → all_wide k g ≡ true → any bad_second g ≡ any (λ r. bad_entry (start_field r)) g
 unfolding any every
-starts-second k h [] e = refl
-starts-second k h (r ∷ g) e =
+starts_second k h [] e = refl
+starts_second k h (r ∷ g) e =
     let both = (and-eq-true_iff (eqb (length r) k) (all_wide k g)).0 e in
-    rw (start-second r (omega (arith, eqb-true (length r) k both.0)), starts-second k h g both.1)
+    rw (start_second r (omega (arith, eqb-true (length r) k both.0)), starts_second k h g both.1)
 
 pub record Flags (g : List (List (List ℕ))) (v : Survey) : Type 0 where
   pub records : v.records ≡ length g
@@ -77,9 +77,9 @@ flags f r {g} rs =
     let w : ℕ = length (f ∷ r) in
     rw (first f r rs) record { records = omega arith; symbols = refl; word = refl; wide = λ k. widths w k g (eqb w k) refl; second = refl; later = refl }
 
-pub survey-flags : {g : List (List (List ℕ))} → Rows g → 1 ≤ length g → Flags g (survey_records start g)
-survey-flags no_row h = absurd (omega arith)
-survey-flags (row {f} {r} rs) h = flags f r rs
+pub survey_flags : {g : List (List (List ℕ))} → Rows g → 1 ≤ length g → Flags g (survey_records start g)
+survey_flags no_row h = absurd (omega arith)
+survey_flags (row {f} {r} rs) h = flags f r rs
 
 -- The answer with its table.
 abbrev pub result_of : SheetAnswer → List (List (List ℕ)) → Taken
@@ -99,31 +99,31 @@ chain false false false false true f g = refl
 chain false false false false false true g = refl
 chain false false false false false false g = refl
 
-other_width-law : (b e : Bool) → not (not b && e) ≡ b || not e
-other_width-law true e = refl
-other_width-law false e = refl
+other_width_lem : (b e : Bool) → not (not b && e) ≡ b || not e
+other_width_lem true e = refl
+other_width_lem false e = refl
 
 module _ (g : List (List (List ℕ))) (v : Survey) (f : Flags g v) where
   pub starts : marked v ≡ has_starts g
   starts = rw f.records (f.wide (length g + 2))
 
-  width-told : (t : Bool) → has_starts g ≡ t → refused6 g ≡ width_bad v t
-  width-told true s = rw (s, or-true)
-  width-told false s =
-      rw (s, or-false, f.records) (ap not (sym (f.wide (length g + 1))) ∙ other_width-law v.badwidth (eqb v.width (length g + 1)))
+  width_told : (t : Bool) → has_starts g ≡ t → refused6 g ≡ width_bad v t
+  width_told true s = rw (s, or-true)
+  width_told false s =
+      rw (s, or-false, f.records) (ap not (sym (f.wide (length g + 1))) ∙ other_width_lem v.badwidth (eqb v.width (length g + 1)))
 
   row_told : (t : Bool) → has_starts g ≡ t → refused7 g ≡ row_bad v t
   row_told true s = rw s (sym f.later)
-  row_told false s = rw (s, f.second, f.later) (sym (rows-parts g))
+  row_told false s = rw (s, f.second, f.later) (sym (rows_parts g))
 
-  start-told : (t : Bool) → has_starts g ≡ t → refused15 g ≡ start_bad v t
-  start-told true s = rw s (sym (f.second ∙ starts-second (length g + 2) (omega arith) g s))
-  start-told false s = rw s
+  start_told : (t : Bool) → has_starts g ≡ t → refused15 g ≡ start_bad v t
+  start_told true s = rw s (sym (f.second ∙ starts_second (length g + 2) (omega arith) g s))
+  start_told false s = rw s
 
   -- The survey's answer is the definition's.
-  pub survey-answers : taken_grid limits g ≡ result_of (answer_of v (marked v)) g
+  pub survey_answers : taken_grid limits g ≡ result_of (answer_of v (marked v)) g
   unfolding taken_grid
-  survey-answers =
+  survey_answers =
       let t = marked v in
-      rw (width-told t (sym starts), row_told t (sym starts), start-told t (sym starts), ← f.word, ← f.symbols, ← f.records)
+      rw (width_told t (sym starts), row_told t (sym starts), start_told t (sym starts), ← f.word, ← f.symbols, ← f.records)
       (chain (ltb 32 v.records) v.badword (ltb 128 v.symbols) (width_bad v t) (row_bad v t) (start_bad v t) g)

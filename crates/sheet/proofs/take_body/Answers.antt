@@ -1,6 +1,6 @@
 -- The survey's answer decides, and its records and their width tell what to build.
 use mathlib.Core.Path.{sym, ◌∙◌}
-use Rattle.sheet.proofs.Laws.Taking.{way-refused, way-accepted, count-accepted, starts-accepted, fits-accepted}
+use Rattle.sheet.proofs.Laws.Taking.{way_refused, way_accepted, count_accepted, starts_accepted, fits_accepted}
 use borrow.Author.Rules.{rules}
 use Rattle.sheet.proofs.take_body.Goals as goal
 
@@ -10,16 +10,16 @@ build-requires c =
     let v = c.survey_all-v.ensures.0 in
     let t = c.has_starts-starts.ensures in
     let accepted = sym c.judge-answer.ensures ∙ c.in-Accepted.is in
-    (p.0, p.1, fits-accepted _ _ _ v t accepted, count-accepted _ _ _ v t, starts-accepted _ _ _ v t)
+    (p.0, p.1, fits_accepted _ _ _ v t accepted, count_accepted _ _ _ v t, starts_accepted _ _ _ v t)
 
 pub returns-in-Refused : goal.returns-in-Refused
 returns-in-Refused c =
     let v = c.survey_all-v.ensures.0 in
     let t = c.has_starts-starts.ensures in
-    c.refuse.ensures ∙ way-refused _ _ _ v t _ (sym c.judge-answer.ensures ∙ c.in-Refused.is)
+    c.refuse.ensures ∙ way_refused _ _ _ v t _ (sym c.judge-answer.ensures ∙ c.in-Refused.is)
 
 pub returns-in-Accepted : goal.returns-in-Accepted
 returns-in-Accepted c =
     let v = c.survey_all-v.ensures.0 in
     let t = c.has_starts-starts.ensures in
-    rw c.build.ensures (way-accepted _ _ _ v t (sym c.judge-answer.ensures ∙ c.in-Accepted.is))
+    rw c.build.ensures (way_accepted _ _ _ v t (sym c.judge-answer.ensures ∙ c.in-Accepted.is))

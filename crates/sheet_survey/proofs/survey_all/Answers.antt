@@ -6,11 +6,11 @@ use lib.ListN.{length, drop}
 use Rattle.code.specs.Laws.Clean.{Clean, record_fields}
 use Rattle.csv_records.specs.Front.{rest_of}
 use Rattle.sheet_survey.specs.Survey.{start, survey_records}
-use Rattle.sheet_survey.specs.Passing.{Bounded, passing-starts, passing-ends}
+use Rattle.sheet_survey.specs.Passing.{Bounded, passing_starts, passing_ends}
 use Rattle.sheet_survey.proofs.survey_all.Goals as goal
 
 pub loop-c-init : goal.loop-c-init
-loop-c-init c = (passing-starts _, λ h. c.requires.0, record { records = search rules; fields = search rules; symbols = search rules }, search rules)
+loop-c-init c = (passing_starts _, λ h. c.requires.0, record { records = search rules; fields = search rules; symbols = search rules }, search rules)
 
 pub next_field-c-requires : goal.next_field-c-requires
 next_field-c-requires c = let l = c.loop-c in (l.invariant.1 (search rules), search rules, search rules, l.invariant.2)
@@ -20,4 +20,4 @@ loop-c-preserved c = let l = c.loop-c in let r = c.next_field-c.ensures in (r.re
 
 pub returns : goal.returns
 returns c = let l = c.loop-c in
-    (sym (passing-ends c.args.s.now l.c.survey l.c.at (search rules)) ∙ l.invariant.0, omega (arith, l.invariant.2.records))
+    (sym (passing_ends c.args.s.now l.c.survey l.c.at (search rules)) ∙ l.invariant.0, omega (arith, l.invariant.2.records))

@@ -7,7 +7,7 @@ use lib.ListN.{length, drop}
 use Rattle.code.specs.Laws.Clean.{Clean, record_fields}
 use Rattle.csv_records.specs.Front.{rest_of}
 use Rattle.sheet_survey.specs.Survey.{start, survey_records}
-use Rattle.sheet_survey.specs.Passing.{Bounded, passing-starts, passing-ends}
+use Rattle.sheet_survey.specs.Passing.{Bounded, passing_starts, passing_ends}
 use Rattle.sheet_survey.proofs.survey_all.Given as goal
 
 abbrev pub invariant-loop-c : goal.invariant-loop-c

@@ -2,11 +2,11 @@ use borrow.Author.Rules.{rules}
 use native.Mathlib.Omega.{arith}
 use Prim.Native.Nat.{◌-◌}
 use Rattle.code.specs.Laws.Clean.{record_fields}
-use Rattle.sheet_table.specs.Building.{Built, built-none, few-records, word_next, row_next, built-more, built-all}
+use Rattle.sheet_table.specs.Building.{Built, built_none, few_records, word_next, row_next, built_more, built_all}
 use Rattle.sheet_table.proofs.build.Goals as goal
 
 pub loop-k-init : goal.loop-k-init
-loop-k-init c = let p = c.requires in built-none _ _ p.0 c.blank_code-code.ensures
+loop-k-init c = let p = c.requires in built_none _ _ p.0 c.blank_code-code.ensures
 
 pub field_end-e-requires : goal.field_end-e-requires
 field_end-e-requires c = let p = c.requires in c.loop-k.invariant.within (omega (arith, p.3))
@@ -31,31 +31,31 @@ read_row-row-requires c =
     rw c.row_start-first.ensures.0 (row_next _ _ _ _ _ _ _ _ p.2 l.invariant p.3 p.4 (search rules) c.field_end-e.ensures.0)
 
 pub offset_bounds-code-k : goal.offset_bounds-code-k
-offset_bounds-code-k c = let p = c.requires in omega (arith, p.3, few-records p.2)
+offset_bounds-code-k c = let p = c.requires in omega (arith, p.3, few_records p.2)
 
 pub bounds-code-k : goal.bounds-code-k
-bounds-code-k c = let p = c.requires in omega (arith, p.3, few-records p.2)
+bounds-code-k c = let p = c.requires in omega (arith, p.3, few_records p.2)
 
 pub offset_bounds-code-k-in-loop-k : goal.offset_bounds-code-k-in-loop-k
-offset_bounds-code-k-in-loop-k c = let p = c.requires in omega (arith, p.3, few-records p.2)
+offset_bounds-code-k-in-loop-k c = let p = c.requires in omega (arith, p.3, few_records p.2)
 
 pub bounds-code-k-in-loop-k : goal.bounds-code-k-in-loop-k
-bounds-code-k-in-loop-k c = let p = c.requires in omega (arith, p.3, few-records p.2)
+bounds-code-k-in-loop-k c = let p = c.requires in omega (arith, p.3, few_records p.2)
 
 pub bounds-code-k-in-loop-k-2 : goal.bounds-code-k-in-loop-k-2
-bounds-code-k-in-loop-k-2 c = let p = c.requires in omega (arith, c.loop-k.invariant.array, p.3, few-records p.2)
+bounds-code-k-in-loop-k-2 c = let p = c.requires in omega (arith, c.loop-k.invariant.array, p.3, few_records p.2)
 
 pub overflow_mul-at : goal.overflow_mul-at
-overflow_mul-at c = let p = c.requires in omega (arith, p.3, few-records p.2)
+overflow_mul-at c = let p = c.requires in omega (arith, p.3, few_records p.2)
 
 pub overflow_add-at : goal.overflow_add-at
-overflow_add-at c = let p = c.requires in omega (arith, p.1, c.row_start-first.ensures.1, p.3, few-records p.2)
+overflow_add-at c = let p = c.requires in omega (arith, p.1, c.row_start-first.ensures.1, p.3, few_records p.2)
 
 pub overflow_add-at-in-loop-k : goal.overflow_add-at-in-loop-k
-overflow_add-at-in-loop-k c = let p = c.requires in omega (arith, p.1, c.row_start-first.ensures.1, p.3, few-records p.2)
+overflow_add-at-in-loop-k c = let p = c.requires in omega (arith, p.1, c.row_start-first.ensures.1, p.3, few_records p.2)
 
 pub overflow_add-k : goal.overflow_add-k
-overflow_add-k c = let p = c.requires in omega (arith, p.3, few-records p.2)
+overflow_add-k c = let p = c.requires in omega (arith, p.3, few_records p.2)
 
 pub loop-k-preserved : goal.loop-k-preserved
 loop-k-preserved c =
@@ -63,11 +63,11 @@ loop-k-preserved c =
     let p = c.requires in
     let first = c.row_start-first.ensures.0 in
     rw first
-    (built-more _ _ _ _ _ _ _ _ p.2 l.invariant p.3 p.4 (search rules) c.field_end-e.ensures.0 _ _ _ c.read_word-word.ensures
+    (built_more _ _ _ _ _ _ _ _ p.2 l.invariant p.3 p.4 (search rules) c.field_end-e.ensures.0 _ _ _ c.read_word-word.ensures
     c.read_mark-mark.ensures (rw first at c.read_row-row.ensures))
 
 pub returns : goal.returns
 returns c =
     let l = c.loop-k in
     let p = c.requires in
-    built-all _ _ l.code l.at l.k _ p.2 l.invariant p.3 (search rules)
+    built_all _ _ l.code l.at l.k _ p.2 l.invariant p.3 (search rules)

@@ -6,8 +6,8 @@ use native.Mathlib.Omega.{arith}
 use lib.ListN.{length, drop, replicate, length-set}
 use Rattle.code.specs.declared.Row.{Row}
 use Rattle.code.specs.Definitions.Lists.{tabulate}
-use Rattle.code.specs.Laws.Filling.{fill-next}
-use Rattle.sheet_table.specs.Building.{row_byte, row-symbol, row-filled}
+use Rattle.code.specs.Laws.Filling.{fill_next}
+use Rattle.sheet_table.specs.Building.{row_byte, row_symbol, row_filled}
 use Rattle.sheet_table.proofs.read_row.Goals as goal
 
 pub loop-y-init : goal.loop-y-init
@@ -19,9 +19,9 @@ value_of-requires c = let l = c.loop-y in c.requires.digits l.y (search rules)
 
 pub loop-y-preserved : goal.loop-y-preserved
 loop-y-preserved c = let l = c.loop-y in let a = c.args in let p = c.requires in
-    let v = c.value_of.ensures ∙ row-symbol a.s.now a.at a.n l.y (search rules) p.within in
-    (search rules, simp length-set l.invariant.1, rw (l.invariant.2, v) (fill-next (row_byte a.s.now a.at a.n) (replicate 32 0) l.y (omega (arith, p.few))))
+    let v = c.value_of.ensures ∙ row_symbol a.s.now a.at a.n l.y (search rules) p.within in
+    (search rules, simp length-set l.invariant.1, rw (l.invariant.2, v) (fill_next (row_byte a.s.now a.at a.n) (replicate 32 0) l.y (omega (arith, p.few))))
 
 pub returns : goal.returns
 returns c = let l = c.loop-y in let a = c.args in let p = c.requires in
-    row-filled l.row a.s.now a.at a.n l.y l.invariant.2 (search rules) (omega (arith, p.few))
+    row_filled l.row a.s.now a.at a.n l.y l.invariant.2 (search rules) (omega (arith, p.few))

@@ -7,8 +7,8 @@ use native.Mathlib.Omega.{arith}
 use lib.ListN.{length, drop, replicate, length-set}
 use Rattle.code.specs.declared.Row.{Row}
 use Rattle.code.specs.Definitions.Lists.{tabulate}
-use Rattle.code.specs.Laws.Filling.{fill-next}
-use Rattle.sheet_table.specs.Building.{row_byte, row-symbol, row-filled}
+use Rattle.code.specs.Laws.Filling.{fill_next}
+use Rattle.sheet_table.specs.Building.{row_byte, row_symbol, row_filled}
 use Rattle.sheet_table.proofs.read_row.Given as goal
 
 abbrev pub invariant-loop-y : goal.invariant-loop-y

@@ -6,9 +6,9 @@ use native.Mathlib.Omega.{arith}
 use lib.ListN.{length, drop, replicate, length-set}
 use Rattle.code.specs.declared.Word.{Word}
 use Rattle.code.specs.Definitions.Lists.{tabulate}
-use Rattle.code.specs.Laws.Filling.{fill-next}
+use Rattle.code.specs.Laws.Filling.{fill_next}
 use Rattle.csv_records.specs.Fields.{leading}
-use Rattle.csv_records.specs.Symbols.{field_symbol, leading-digit, leading-symbol}
+use Rattle.csv_records.specs.Symbols.{field_symbol, leading_digit, leading_symbol}
 use Rattle.sheet_table.specs.Building.{word_read}
 use Rattle.sheet_table.proofs.read_word.Goals as goal
 
@@ -18,13 +18,13 @@ loop-k-init c = let e = ap (λ (w : Word). w.symbols) c.blank_word-word.ensures 
 
 pub value_of-requires : goal.value_of-requires
 value_of-requires c = let l = c.loop-k in let a = c.args in let p = c.requires in
-    leading-digit a.s.now a.at l.k (omega (arith, p.0))
+    leading_digit a.s.now a.at l.k (omega (arith, p.0))
 
 pub loop-k-preserved : goal.loop-k-preserved
 loop-k-preserved c = let l = c.loop-k in let a = c.args in let p = c.requires in
     let f = leading (drop a.at a.s.now) in
-    let v = c.value_of.ensures ∙ leading-symbol a.s.now a.at l.k (omega (arith, p.0)) in
-    (search rules, simp length-set l.invariant.1, rw (l.invariant.2, v) (fill-next (field_symbol f) (replicate 16 0) l.k (omega (arith, p.0, p.2))), l.invariant.3)
+    let v = c.value_of.ensures ∙ leading_symbol a.s.now a.at l.k (omega (arith, p.0)) in
+    (search rules, simp length-set l.invariant.1, rw (l.invariant.2, v) (fill_next (field_symbol f) (replicate 16 0) l.k (omega (arith, p.0, p.2))), l.invariant.3)
 
 pub returns : goal.returns
 returns c = let l = c.loop-k in let a = c.args in let p = c.requires in

@@ -7,9 +7,9 @@ use native.Mathlib.Omega.{arith}
 use lib.ListN.{length, drop, replicate, length-set}
 use Rattle.code.specs.declared.Word.{Word}
 use Rattle.code.specs.Definitions.Lists.{tabulate}
-use Rattle.code.specs.Laws.Filling.{fill-next}
+use Rattle.code.specs.Laws.Filling.{fill_next}
 use Rattle.csv_records.specs.Fields.{leading}
-use Rattle.csv_records.specs.Symbols.{field_symbol, leading-digit, leading-symbol}
+use Rattle.csv_records.specs.Symbols.{field_symbol, leading_digit, leading_symbol}
 use Rattle.sheet_table.specs.Building.{word_read}
 use Rattle.sheet_table.proofs.read_word.Given as goal
 

@@ -1,10 +1,10 @@
 -- The sheet is taken in where one is named; else the code is the built-in one.
 use borrow.Author.Rules.{rules}
-use Rattle.syllabify.proofs.Laws.Ways.{given-named, given-built-in}
+use Rattle.syllabify.proofs.Laws.Ways.{given_named, given_built_in}
 use Rattle.syllabify.proofs.give.Goals as goal
 
 pub returns-then-named : goal.returns-then-named
-returns-then-named c = let a = c.args in given-named a.named a.sheet.now c.if-named.true c.take_in.ensures
+returns-then-named c = let a = c.args in given_named a.named a.sheet.now c.if-named.true c.take_in.ensures
 
 pub returns : goal.returns
-returns c = let a = c.args in given-built-in a.named a.sheet.now c.if-named.false c.twelve-code.ensures
+returns c = let a = c.args in given_built_in a.named a.sheet.now c.if-named.false c.twelve-code.ensures

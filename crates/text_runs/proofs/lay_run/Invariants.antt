@@ -3,7 +3,7 @@ use Prim.Native.Nat.{◌-◌}
 use borrow.Author.Rules.{rules}
 use lib.ListN.{length}
 use native.Mathlib.Omega.{arith}
-use Rattle.text_runs.specs.Runs.{Laying, laying-none, laying-length, laying-more, run-stops, run_ends}
+use Rattle.text_runs.specs.Runs.{Laying, laying_none, laying_length, laying_more, run_stops, run_ends}
 use Rattle.text_runs.proofs.lay_run.Given as goal
 
 abbrev pub invariant-loop-i : goal.invariant-loop-i

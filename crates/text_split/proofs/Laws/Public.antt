@@ -16,14 +16,14 @@ use Rattle.code.specs.Definitions.Operations.{FromLists, zeroed}
 use Rattle.code.specs.Definitions.Sheets.{limits}
 use Rattle.code.specs.Definitions.Splitting.{SplitsText, refused, split}
 use Rattle.code.specs.Definitions.Tables.{table_of}
-use Rattle.well_enlarged.specs.Listed.{from-lists}
-use Rattle.well_enlarged.specs.Meaning.{value-covers}
+use Rattle.well_enlarged.specs.Listed.{from_lists}
+use Rattle.well_enlarged.specs.Meaning.{value_covers}
 use Rattle.code.specs.Laws.Exactly.{Exactly}
 use Rattle.code.specs.Laws.WellFormed.{WellFormed}
-use Rattle.text_theory.specs.Named.{named-splits}
+use Rattle.text_theory.specs.Named.{named_splits}
 use Rattle.text_words.specs.Outputs.{SplitsInto}
 use Rattle.text_words.specs.Rooms.{Rooms}
-use Rattle.text_split.specs.Rooms.{Short, enough-room}
+use Rattle.text_split.specs.Rooms.{Short, enough_room}
 
 -- A buffer that kept its length, and was then cleared.
 pub zero_same : (b : List ℕ) {b' : List ℕ} {n : ℕ} → b' ≡ replicate n 0 → n ≡ length b → b' ≡ zeroed b
@@ -39,30 +39,30 @@ module _ {e : Enlarged} {classes : Classes} {a k : Bool} (given : Exactly a (Fro
   neither (inl n) = n from
   neither (inr n) = n (classed.yes well)
 
-pub split-rooms : {e : Enlarged} {a : Bool} → Exactly a (FromLists limits e) → a ≡ true → {s b m f g w : List ℕ} {d : Bool} → length s ≤ limits.text
+pub split_rooms : {e : Enlarged} {a : Bool} → Exactly a (FromLists limits e) → a ≡ true → {s b m f g w : List ℕ} {d : Bool} → length s ≤ limits.text
     → Exactly d (Short (length s) (length b) (length m) (length f) (length g) (length w)) → d ≡ false → WellFormed limits e.code × Rooms s b m f g w
-split-rooms {a = a} given kept short shortage long = ((from-lists (given.yes kept)).code, enough-room short (shortage.no long))
+split_rooms {a = a} given kept short shortage long = ((from_lists (given.yes kept)).code, enough_room short (shortage.no long))
 
 module _ {e : Enlarged} {classes : Classes} {s b m f g w : List ℕ} {a : Bool} (given : Exactly a (FromLists limits e)) where
   -- Each refusal, where it is the first that holds.
-  pub way-8 : not a ≡ true → SplitsText limits e classes s b m f g w b m f g w (Refused NotFromSheet)
-  way-8 h = refused (inl (inl (given.no (not-true a h)), refl)) refl refl refl refl refl
+  pub way_8 : not a ≡ true → SplitsText limits e classes s b m f g w b m f g w (Refused NotFromSheet)
+  way_8 h = refused (inl (inl (given.no (not-true a h)), refl)) refl refl refl refl refl
 
   module _ (kept : a ≡ true) {k : Bool} (classed : Exactly k (FromClassSheet limits classes)) where
-    pub way-8-classes : not k ≡ true → SplitsText limits e classes s b m f g w b m f g w (Refused NotFromSheet)
-    way-8-classes h = refused (inl (inr (classed.no (not-true k h)), refl)) refl refl refl refl refl
+    pub way_8_classes : not k ≡ true → SplitsText limits e classes s b m f g w b m f g w (Refused NotFromSheet)
+    way_8_classes h = refused (inl (inr (classed.no (not-true k h)), refl)) refl refl refl refl refl
 
     module _ (well : k ≡ true) where
-      pub way-11 : limits.text < length s → SplitsText limits e classes s b m f g w b m f g w (Refused MessageLength)
-      way-11 h = refused (inr (neither given kept classed well, inl (h, refl))) refl refl refl refl refl
+      pub way_11 : limits.text < length s → SplitsText limits e classes s b m f g w b m f g w (Refused MessageLength)
+      way_11 h = refused (inr (neither given kept classed well, inl (h, refl))) refl refl refl refl refl
 
       module _ (short : length s ≤ limits.text) {d : Bool} (shortage : Exactly d (Short (length s) (length b) (length m) (length f) (length g) (length w))) where
-        pub way-13 : d ≡ true → SplitsText limits e classes s b m f g w b m f g w (Refused ShortBuffer)
-        way-13 h = refused (inr (neither given kept classed well, inr (λ n. omega arith, inl (shortage.yes h, refl)))) refl refl refl refl refl
+        pub way_13 : d ≡ true → SplitsText limits e classes s b m f g w b m f g w (Refused ShortBuffer)
+        way_13 h = refused (inr (neither given kept classed well, inr (λ n. omega arith, inl (shortage.yes h, refl)))) refl refl refl refl refl
 
         -- Where none holds: the output by the plain code is that by the table of original words, which it covers.
-        pub way-split : d ≡ false → {b' m' f' g' w' : List ℕ} {n : ℕ} → SplitsInto (table_of e.code) classes.entries s b b' n → m' ≡ zeroed m → f' ≡ zeroed f
+        pub way_split : d ≡ false → {b' m' f' g' w' : List ℕ} {n : ℕ} → SplitsInto (table_of e.code) classes.entries s b b' n → m' ≡ zeroed m → f' ≡ zeroed f
             → g' ≡ zeroed g → w' ≡ zeroed w → SplitsText limits e classes s b m f g w b' m' f' g' w' (Split (record { 0 = n }))
-        way-split long i p q r z =
-            split (neither given kept classed well, (λ n. omega arith, (shortage.no long, tt))) (named-splits (value-covers (from-lists (from given kept classed well))) i.splits)
+        way_split long i p q r z =
+            split (neither given kept classed well, (λ n. omega arith, (shortage.no long, tt))) (named_splits (value_covers (from_lists (from given kept classed well))) i.splits)
             i.starts.count i.starts.out p q r z

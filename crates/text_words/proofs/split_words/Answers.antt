@@ -1,6 +1,6 @@
 use mathlib.Core.Path.{refl, sym, ◌∙◌}
 use native.Mathlib.Omega.{arith}
-use Rattle.text_words.specs.Outputs.{going_start, word-showable, word_room, word_end, going-word, going-other, going_end}
+use Rattle.text_words.specs.Outputs.{going_start, word_showable, word_room, word_end, going_word, going_other, going_end}
 use Rattle.text_words.specs.Rooms.{rooms_same}
 use Rattle.text_words.proofs.split_words.Goals as goal
 
@@ -17,7 +17,7 @@ put_word-end-requires c =
     let letter = sym c.is_letter.ensures ∙ c.if-is_letter.true in
     let g = c.loop-pos.invariant.0 in
     let here = c.loop-pos-test.true in (
-      word-showable _ _ _ _ _ _ _ _ _ g here letter c.requires.0 c.word_at-word.ensures,
+      word_showable _ _ _ _ _ _ _ _ _ g here letter c.requires.0 c.word_at-word.ensures,
       word_room _ _ _ _ _ _ _ _ _ g here letter c.requires.0 c.word_at-word.ensures c.requires.1.output,
     )
 
@@ -35,14 +35,14 @@ loop-pos-smaller-then-is_letter c =
     let here = c.loop-pos-test.true in
     let r = c.word_at-word.ensures in
     omega
-    (arith, word_end _ _ _ _ _ _ _ _ _ g here letter c.requires.0 r, (word-showable _ _ _ _ _ _ _ _ _ g here letter c.requires.0 r).some)
+    (arith, word_end _ _ _ _ _ _ _ _ _ g here letter c.requires.0 r, (word_showable _ _ _ _ _ _ _ _ _ g here letter c.requires.0 r).some)
 
 pub loop-pos-preserved-then-is_letter : goal.loop-pos-preserved-then-is_letter
 loop-pos-preserved-then-is_letter c =
     let letter = sym c.is_letter.ensures ∙ c.if-is_letter.true in
     let g = c.loop-pos.invariant.0 in
     let here = c.loop-pos-test.true in (
-      going-word _ _ _ _ _ _ _ _ _ g here letter c.requires.0 c.word_at-word.ensures c.put_word-end.ensures,
+      going_word _ _ _ _ _ _ _ _ _ g here letter c.requires.0 c.word_at-word.ensures c.put_word-end.ensures,
       omega arith,
       omega arith,
       omega arith,
@@ -63,7 +63,7 @@ pub loop-pos-preserved : goal.loop-pos-preserved
 loop-pos-preserved c =
     let i = c.loop-pos.invariant in
     let other = sym c.is_letter.ensures ∙ c.if-is_letter.false in
-    (going-other _ _ _ _ _ _ _ _ _ i.0 c.loop-pos-test.true other, i.1, i.2, i.3, i.4)
+    (going_other _ _ _ _ _ _ _ _ _ i.0 c.loop-pos-test.true other, i.1, i.2, i.3, i.4)
 
 pub returns : goal.returns
 returns c =

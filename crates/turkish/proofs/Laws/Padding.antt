@@ -5,7 +5,7 @@ use Prim.Native.Nat.{ℕ, ◌+◌, ◌≤◌, ◌<◌}
 use native.Mathlib.Omega.{arith}
 use lib.ListN.{length, drop, get_or, set, replicate, length-set, length-replicate, get_or-eq_default}
 use Rattle.code.specs.Definitions.Lists.{tabulate}
-use Rattle.code.specs.Laws.Filling.{fill-next, fill_end}
+use Rattle.code.specs.Laws.Filling.{fill_next, fill_end}
 use Rattle.turkish.specs.Types.{padded}
 
 -- The first i entries of the array a, n entries long, are those of the list l; the others are still d.
@@ -14,16 +14,16 @@ pub record Padding {A : Type 0} (d : A) (l : List A) (n i : ℕ) (a : List A) : 
   pub entries : a ≡ tabulate (λ k. get_or l k d) i ++ drop i (replicate n d)
 
 module _ {A : Type 0} {d : A} {l : List A} {n : ℕ} where
-  pub padding-none : {a : List A} → a ≡ replicate n d → Padding d l n 0 a
+  pub padding_none : {a : List A} → a ≡ replicate n d → Padding d l n 0 a
   unfolding tabulate
-  padding-none e = record { array = ap length e ∙ length-replicate n d; entries = e }
+  padding_none e = record { array = ap length e ∙ length-replicate n d; entries = e }
 
-  pub padding-next : {i : ℕ} {a : List A} {v : A} → i < n → v ≡ get_or l i d → Padding d l n i a → Padding d l n (i + 1) (set a i v)
-  padding-next {i} h e p = record {
+  pub padding_next : {i : ℕ} {a : List A} {v : A} → i < n → v ≡ get_or l i d → Padding d l n i a → Padding d l n (i + 1) (set a i v)
+  padding_next {i} h e p = record {
     array = simp length-set p.array;
-    entries = rw (p.entries, e) (fill-next (λ k. get_or l k d) (replicate n d) i (omega (arith, length-replicate n d)));
+    entries = rw (p.entries, e) (fill_next (λ k. get_or l k d) (replicate n d) i (omega (arith, length-replicate n d)));
   }
 
-  pub padding-all : {i : ℕ} {a : List A} → length l ≤ i → i ≤ n → Padding d l n i a → a ≡ padded d l n
+  pub padding_all : {i : ℕ} {a : List A} → length l ≤ i → i ≤ n → Padding d l n i a → a ≡ padded d l n
   unfolding padded
-  padding-all {i} h m p = p.entries ∙ fill_end (λ k. get_or l k d) d i n (λ k j. get_or-eq_default l d {n = k} (omega arith)) m
+  padding_all {i} h m p = p.entries ∙ fill_end (λ k. get_or l k d) d i n (λ k j. get_or-eq_default l d {n = k} (omega arith)) m

@@ -4,7 +4,7 @@ use Prim.Native.Nat.{◌-◌, ◌≤◌}
 use lib.ListN.{length}
 use borrow.Author.Rules.{rules}
 use Rattle.code.specs.Definitions.Sheets.{limits}
-use Rattle.turkish.proofs.Laws.Padding.{Padding, padding-none, padding-next, padding-all}
+use Rattle.turkish.proofs.Laws.Padding.{Padding, padding_none, padding_next, padding_all}
 use Rattle.turkish.proofs.widen.Given as goal
 
 abbrev pub invariant-loop-y : goal.invariant-loop-y

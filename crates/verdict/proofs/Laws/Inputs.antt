@@ -17,31 +17,31 @@ use Rattle.code.specs.Definitions.Enlarged.{plain_of, blank_enlarged}
 use Rattle.code.specs.Definitions.Operations.{refused}
 use Rattle.code.specs.Definitions.Sheets.{limits, taken}
 use Rattle.sheet.proofs.Laws.Taking.{way_long}
-use Rattle.sheet.proofs.Laws.Either.{not-both}
-use Rattle.verdict.specs.Answers.{Gives, sheet-refused, sheet-accepted, RightOf, RightFor, Answers, AnswersInput}
-use Rattle.verdict.specs.Unique.{gives-unique}
+use Rattle.sheet.proofs.Laws.Either.{not_both}
+use Rattle.verdict.specs.Answers.{Gives, sheet_refused, sheet_accepted, RightOf, RightFor, Answers, AnswersInput}
+use Rattle.verdict.specs.Unique.{gives_unique}
 
 by_kind : (g : Enlargement) (x s u : List ℕ) (j : Judgement) {r : Refusal} → RightOf g x s u j → g.answer ≡ Refused r → j ≡ Not-judged r
-by_kind g x s u (Judged v) right answer = absurd (not-both right.0 answer)
+by_kind g x s u (Judged v) right answer = absurd (not_both right.0 answer)
 by_kind g x s u (Not-judged i) right answer = cc (right, answer)
 
 module _ {sheet list : List ℕ} where
   -- What is refused is answered by its refusal.
-  refusal-right : {g : Enlargement} {r : Refusal} → Gives sheet list g → g.answer ≡ Refused r → {x s u : List ℕ} {j : Judgement} → RightFor sheet list x s u j → j ≡ Not-judged r
-  refusal-right gives answer {x} {s} {u} {j} right =
-      by_kind right.given x s u j right.right (ap (λ (e : Enlargement). e.answer) (gives-unique right.gives gives) ∙ answer)
+  refusal_right : {g : Enlargement} {r : Refusal} → Gives sheet list g → g.answer ≡ Refused r → {x s u : List ℕ} {j : Judgement} → RightFor sheet list x s u j → j ≡ Not-judged r
+  refusal_right gives answer {x} {s} {u} {j} right =
+      by_kind right.given x s u j right.right (ap (λ (e : Enlargement). e.answer) (gives_unique right.gives gives) ∙ answer)
 
-  long-sheet : limits.bytes < length sheet → Gives sheet list (record { answer = Refused SheetLength; enlarged = plain_of limits (taken limits sheet).code })
-  long-sheet long = sheet-refused (sym (ap (λ (t : Taken). t.answer) (way_long sheet long))) refl
+  long_sheet : limits.bytes < length sheet → Gives sheet list (record { answer = Refused SheetLength; enlarged = plain_of limits (taken limits sheet).code })
+  long_sheet long = sheet_refused (sym (ap (λ (t : Taken). t.answer) (way_long sheet long))) refl
 
-  long-list : (taken limits sheet).answer ≡ Accepted → limits.bytes < length list → Gives sheet list (record { answer = Refused SheetLength; enlarged = blank_enlarged limits })
-  long-list accepted long = sheet-accepted accepted (refused (inl (long, refl)) refl)
+  long_list : (taken limits sheet).answer ≡ Accepted → limits.bytes < length list → Gives sheet list (record { answer = Refused SheetLength; enlarged = blank_enlarged limits })
+  long_list accepted long = sheet_accepted accepted (refused (inl (long, refl)) refl)
 
-pub input-answered : (input : List ℕ) (n : ℕ) (file : List ℕ) (k : ℕ) {o o' : List ℕ} {r : ℕ} → IsPrefixLen n input → IsPrefixLen k file → limits.bytes < length input → limits.bytes < length file → Answers (take n input) (take k file) o o' r
+pub input_answered : (input : List ℕ) (n : ℕ) (file : List ℕ) (k : ℕ) {o o' : List ℕ} {r : ℕ} → IsPrefixLen n input → IsPrefixLen k file → limits.bytes < length input → limits.bytes < length file → Answers (take n input) (take k file) o o' r
     → AnswersInput input n file k o o' r
-input-answered input n file k n-counts k-counts long file-long a =
+input_answered input n file k n-counts k-counts long file-long a =
     record {
       answers = a;
-      full = λ all. refusal-right (long-sheet (omega arith)) refl a.right;
-      list_full = λ accepted all. refusal-right (long-list accepted (omega arith)) refl a.right;
+      full = λ all. refusal_right (long_sheet (omega arith)) refl a.right;
+      list_full = λ accepted all. refusal_right (long_list accepted (omega arith)) refl a.right;
     }

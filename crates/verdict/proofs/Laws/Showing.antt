@@ -23,18 +23,18 @@ use Rattle.code.specs.Definitions.Enlarged.{plain_of, original_table}
 use Rattle.code.specs.Definitions.Operations.{Lowest, Enlarges, FromLists, verdict_room, verdict_work, verdict_conditions, written, Shown, Judges, refused, judged}
 use Rattle.code.specs.Definitions.Sheets.{limits, taken}
 use Rattle.code.specs.Laws.Buffers.{take-written}
-use Rattle.code.specs.Laws.Sequences.{permitted-linked, message-below}
+use Rattle.code.specs.Laws.Sequences.{permitted_linked, message_below_lem}
 use Rattle.well_formed.specs.Given.{well}
 use Rattle.pair_places.specs.Codes.{code_fits}
 use Rattle.printing.specs.Printed.{printed}
-use Rattle.printing.proofs.Laws.Starts.{starts-counts}
+use Rattle.printing.proofs.Laws.Starts.{starts_counts}
 use Rattle.writing.specs.Puts.{Starts}
 use Rattle.printing.specs.Prints.{lengths_of, Symbols, Printable, Prints, all, none, result_of}
 use Rattle.ban_meaning.specs.Alike.{same_reads}
 use Rattle.ban_meaning.specs.Given.{table_with}
-use Rattle.ban_meaning.proofs.Given.{lists-alike}
-use Rattle.sheet.proofs.Laws.Either.{not-both}
-use Rattle.verdict.specs.Answers.{output_room, Gives, sheet-refused, sheet-accepted, Answers, Shows}
+use Rattle.ban_meaning.proofs.Given.{lists_alike}
+use Rattle.sheet.proofs.Laws.Either.{not_both}
+use Rattle.verdict.specs.Answers.{output_room, Gives, sheet_refused, sheet_accepted, Answers, Shows}
 
 -- What shows nothing of the buffers can be printed.
 plain : (j : Judgement) → lengths_of j ≡ record { message = 0; first = 0; second = 0 } → (m f g : List ℕ) → Printable j m f g output_room
@@ -47,17 +47,17 @@ plain j nothing m f g = record {
 }
 
 -- What the sheet and the list give, in code: a refusal of the sheet, or what enlarging gives
-pub gives-refused : {t : Taken} {e : Enlarged} {x : Enlargement} (sheet list : List ℕ) {r : Refusal} → t ≡ taken limits sheet → e ≡ plain_of limits t.code → t.answer ≡ Refused r
+pub gives_refused : {t : Taken} {e : Enlarged} {x : Enlargement} (sheet list : List ℕ) {r : Refusal} → t ≡ taken limits sheet → e ≡ plain_of limits t.code → t.answer ≡ Refused r
     → x ≡ record { answer = t.answer; enlarged = e } → Gives sheet list x
-gives-refused sheet list came plain answer is = sheet-refused (rw came at answer) (is ∙ rw (answer, plain, came))
+gives_refused sheet list came plain answer is = sheet_refused (rw came at answer) (is ∙ rw (answer, plain, came))
 
-pub gives-accepted : {t : Taken} {e : Enlarged} {x : Enlargement} (sheet list : List ℕ) → t ≡ taken limits sheet → e ≡ plain_of limits t.code → t.answer ≡ Accepted
+pub gives_accepted : {t : Taken} {e : Enlarged} {x : Enlargement} (sheet list : List ℕ) → t ≡ taken limits sheet → e ≡ plain_of limits t.code → t.answer ≡ Accepted
     → Enlarges limits e list x → Gives sheet list x
-gives-accepted sheet list came plain answer enlarges = sheet-accepted (rw came at answer) (rw (plain, came) at enlarges)
+gives_accepted sheet list came plain answer enlarges = sheet_accepted (rw came at answer) (rw (plain, came) at enlarges)
 
 -- A refusal of the sheet or the list
-pub shows-refused : {g : Enlargement} {sheet list : List ℕ} (m f h : List ℕ) {r : Refusal} → Gives sheet list g → g.answer ≡ Refused r → Shows sheet list m f h (Not-judged r)
-shows-refused {g} m f h {r} gives answer = record {
+pub shows_refused : {g : Enlargement} {sheet list : List ℕ} (m f h : List ℕ) {r : Refusal} → Gives sheet list g → g.answer ≡ Refused r → Shows sheet list m f h (Not-judged r)
+shows_refused {g} m f h {r} gives answer = record {
   message = [];
   first = [];
   second = [];
@@ -67,19 +67,19 @@ shows-refused {g} m f h {r} gives answer = record {
 }
 
 -- A buffer has room for what was written to it.
-start-within : (x m b : List ℕ) (n : ℕ) → b ≡ written x m → length x ≡ n → n ≤ length b
-start-within x m b n e h = omega (arith, ap length e, length-append x (drop (length x) m))
+start_within : (x m b : List ℕ) (n : ℕ) → b ≡ written x m → length x ≡ n → n ≤ length b
+start_within x m b n e h = omega (arith, ap length e, length-append x (drop (length x) m))
 
 module _ {e : Enlarged} (lists : FromLists limits e) where
-  ambiguous-symbols : (x s u : List ℕ) → Ambiguous (original_table e) x s u → Symbols x
-  ambiguous-symbols x s u a =
-      let r = (same_reads (lists-alike lists)).0 a.readings.first in
-      rw r.joined at (message-below (table_with lists.table lists.list) (omega arith) (code_fits lists.table (well lists.given)).low (permitted-linked r.permitted))
+  ambiguous_symbols : (x s u : List ℕ) → Ambiguous (original_table e) x s u → Symbols x
+  ambiguous_symbols x s u a =
+      let r = (same_reads (lists_alike lists)).0 a.readings.first in
+      rw r.joined at (message_below_lem (table_with lists.table lists.list) (omega arith) (code_fits lists.table (well lists.given)).low (permitted_linked r.permitted))
 
 -- An accepted sheet and list give a code.
-gives-lists : {sheet list : List ℕ} {g : Enlargement} → Gives sheet list g → g.answer ≡ Accepted → FromLists limits g.enlarged
-gives-lists (sheet-refused a is) answer = absurd (not-both answer (ap (λ (y : Enlargement). y.answer) is))
-gives-lists {sheet} {list} {g} (sheet-accepted a enlarges) answer = record {
+gives_lists : {sheet list : List ℕ} {g : Enlargement} → Gives sheet list g → g.answer ≡ Accepted → FromLists limits g.enlarged
+gives_lists (sheet_refused a is) answer = absurd (not_both answer (ap (λ (y : Enlargement). y.answer) is))
+gives_lists {sheet} {list} {g} (sheet_accepted a enlarges) answer = record {
   table = (taken limits sheet).code;
   given = record { sheet = sheet; gives = λ i. record { answer = a i; code = (taken limits sheet).code } };
   list = list;
@@ -87,17 +87,17 @@ gives-lists {sheet} {list} {g} (sheet-accepted a enlarges) answer = record {
 }
 
 module _ {sheet list : List ℕ} {g : Enlargement} (gives : Gives sheet list g) (accepted : g.answer ≡ Accepted) where
-  from-lists : FromLists limits g.enlarged
-  from-lists = gives-lists gives accepted
+  from_lists : FromLists limits g.enlarged
+  from_lists = gives_lists gives accepted
 
   module _ (m f h m' f' h' x s u : List ℕ) (m-long : length m' ≡ verdict_room limits) (f-long : length f' ≡ verdict_room limits) (h-long : length h' ≡ verdict_room limits) where
-    shows-ambiguous : (a : SymbolCount) (b k : WordCount) → VerdictMeans (original_table g.enlarged) x s u (Two-ways a b k) → Shown m f h m' f' h' x s u (Two-ways a b k)
+    shows_ambiguous : (a : SymbolCount) (b k : WordCount) → VerdictMeans (original_table g.enlarged) x s u (Two-ways a b k) → Shown m f h m' f' h' x s u (Two-ways a b k)
         → Shows sheet list m' f' h' (Judged (Two-ways a b k))
-    shows-ambiguous a b k means shown =
+    shows_ambiguous a b k means shown =
         let m-start = take-written a.0 x m m' (sym means.1) shown.0 in
-        let m-within = start-within x m m' a.0 shown.0 means.1 in
-        let f-within = start-within s f f' b.0 shown.1 means.2 in
-        let h-within = start-within u h h' k.0 shown.2 means.3 in
+        let m-within = start_within x m m' a.0 shown.0 means.1 in
+        let f-within = start_within s f f' b.0 shown.1 means.2 in
+        let h-within = start_within u h h' k.0 shown.2 means.3 in
         record {
           message = x;
           first = s;
@@ -107,35 +107,35 @@ module _ {sheet list : List ℕ} {g : Enlargement} (gives : Gives sheet list g) 
             message = m-within;
             first = f-within;
             second = h-within;
-            symbols = rw m-start (ambiguous-symbols from-lists x s u means.0);
+            symbols = rw m-start (ambiguous_symbols from_lists x s u means.0);
             room = omega arith;
           };
           same = rw (m-start, take-written b.0 s f f' (sym means.2) shown.1, take-written k.0 u h h' (sym means.3) shown.2);
         }
 
     -- A verdict that is not ambiguous shows nothing of the buffers.
-    shows-plain : (v : Verdict) → VerdictMeans (original_table g.enlarged) x s u v → Printable (Judged v) m' f' h' output_room → result_of (Judged v) m' f' h' ≡ printed (Judged v) x s u
+    shows_plain : (v : Verdict) → VerdictMeans (original_table g.enlarged) x s u v → Printable (Judged v) m' f' h' output_room → result_of (Judged v) m' f' h' ≡ printed (Judged v) x s u
         → Shows sheet list m' f' h' (Judged v)
-    shows-plain v means printable same =
+    shows_plain v means printable same =
         record { message = x; first = s; second = u; right = record { given = g; gives = gives; right = (accepted, means) }; printable = printable; same = same }
 
-    shows-verdict : (v : Verdict) → VerdictMeans (original_table g.enlarged) x s u v → Shown m f h m' f' h' x s u v → Shows sheet list m' f' h' (Judged v)
-    shows-verdict (Two-ways a b k) means shown = shows-ambiguous a b k means shown
-    shows-verdict (Finite d) means shown = shows-plain (Finite d) means (plain (Judged (Finite d)) refl m' f' h') refl
-    shows-verdict Unbounded means shown = shows-plain Unbounded means (plain (Judged Unbounded) refl m' f' h') refl
+    shows_verdict : (v : Verdict) → VerdictMeans (original_table g.enlarged) x s u v → Shown m f h m' f' h' x s u v → Shows sheet list m' f' h' (Judged v)
+    shows_verdict (Two-ways a b k) means shown = shows_ambiguous a b k means shown
+    shows_verdict (Finite d) means shown = shows_plain (Finite d) means (plain (Judged (Finite d)) refl m' f' h') refl
+    shows_verdict Unbounded means shown = shows_plain Unbounded means (plain (Judged Unbounded) refl m' f' h') refl
 
   -- No refusal of the verdict holds: a sheet and a list give the code, and the buffers are long enough.
-  no-refusal : (m f h w : List ℕ) → length m ≡ verdict_room limits → length f ≡ verdict_room limits → length h ≡ verdict_room limits → length w ≡ verdict_work limits → {r : Refusal}
+  no_refusal : (m f h w : List ℕ) → length m ≡ verdict_room limits → length f ≡ verdict_room limits → length h ≡ verdict_room limits → length w ≡ verdict_work limits → {r : Refusal}
       → Lowest (verdict_conditions limits g.enlarged m f h w) r → ⊥
-  no-refusal m f h w a b c d lowest =
-      ⊎_elim (λ p. p.0 from-lists)
+  no_refusal m f h w a b c d lowest =
+      ⊎_elim (λ p. p.0 from_lists)
       (λ p. ⊎_elim (λ q. ⊎_elim (λ i. omega arith) (⊎_elim (λ i. omega arith) (⊎_elim (λ i. omega arith) (λ i. omega arith))) q.0) (λ q. q.1) p.1) lowest
 
   -- After a verdict, with buffers that are long enough
-  pub shows-judged : {m f h w m' f' h' w' : List ℕ} → length m ≡ verdict_room limits → length f ≡ verdict_room limits → length h ≡ verdict_room limits → length w ≡ verdict_work limits → length m' ≡ verdict_room limits → length f' ≡ verdict_room limits
+  pub shows_judged : {m f h w m' f' h' w' : List ℕ} → length m ≡ verdict_room limits → length f ≡ verdict_room limits → length h ≡ verdict_room limits → length w ≡ verdict_work limits → length m' ≡ verdict_room limits → length f' ≡ verdict_room limits
       → length h' ≡ verdict_room limits → {j : Judgement} → Judges limits g.enlarged m f h w m' f' h' w' j → Shows sheet list m' f' h' j
-  shows-judged {m} {f} {h} {w} a b c d a' b' c' (refused lowest e₁ e₂ e₃ e₄) = absurd (no-refusal m f h w a b c d lowest)
-  shows-judged {m} {f} {h} {w} {m'} {f'} {h'} a b c d a' b' c' (judged {v} x s u holds means shown e) = shows-verdict m f h m' f' h' x s u a' b' c' v means shown
+  shows_judged {m} {f} {h} {w} a b c d a' b' c' (refused lowest e₁ e₂ e₃ e₄) = absurd (no_refusal m f h w a b c d lowest)
+  shows_judged {m} {f} {h} {w} {m'} {f'} {h'} a b c d a' b' c' (judged {v} x s u holds means shown e) = shows_verdict m f h m' f' h' x s u a' b' c' v means shown
 
 -- What a judgement shows is printed.
 pub answers : (sheet list m f g o o' : List ℕ) (j : Judgement) → Shows sheet list m f g j → length o ≡ output_room → {r : ℕ} → Prints j m f g o o' r → Answers sheet list o o' r
@@ -151,7 +151,7 @@ answers sheet list m f g o o' j s long (all printable count out) = record {
 answers sheet list m f g o o' j s long (none unprintable out) = absurd (unprintable (rw long s.printable))
 
 -- The printed result lies within the output buffer.
-pub answer-counts : {sheet list o o' : List ℕ} {r : ℕ} → Answers sheet list o o' r → IsPrefixLen r o'
-answer-counts {o = o} {o' = o'} {r = r} a =
+pub answer_counts : {sheet list o o' : List ℕ} {r : ℕ} → Answers sheet list o o' r → IsPrefixLen r o'
+answer_counts {o = o} {o' = o'} {r = r} a =
     let whole : Starts (printed a.judgement a.message a.first a.second) o o' r = record { count = a.count; out = a.out } in
-    starts-counts whole
+    starts_counts whole

@@ -1,10 +1,10 @@
 -- The refusal of the sheet, or what enlarging its table gives.
-use Rattle.verdict.proofs.Laws.Showing.{gives-refused, gives-accepted}
+use Rattle.verdict.proofs.Laws.Showing.{gives_refused, gives_accepted}
 use borrow.Author.Rules.{rules}
 use Rattle.verdict.proofs.give.Goals as goal
 
 pub returns-in-Refused : goal.returns-in-Refused
-returns-in-Refused c = search gives-refused
+returns-in-Refused c = search gives_refused
 
 pub returns-in-Accepted : goal.returns-in-Accepted
-returns-in-Accepted c = search gives-accepted
+returns-in-Accepted c = search gives_accepted

@@ -1,7 +1,7 @@
 -- `some_sign_letter` looks at each of the signs.
 use borrow.Author.Rules.{rules}
 use Rattle.code.specs.Definitions.Texts.{is_letter}
-use Rattle.class_sheet.proofs.Laws.Signs.{signs-tested}
+use Rattle.class_sheet.proofs.Laws.Signs.{signs_tested}
 use Rattle.well_classed.proofs.some_sign_letter.Goals as goal
 
 pub returns : goal.returns
@@ -17,4 +17,4 @@ returns c =
       c.is_letter-2.ensures,
       c.is_letter.ensures,
     )
-    (signs-tested (is_letter c.args.classes.now))
+    (signs_tested (is_letter c.args.classes.now))

@@ -3,9 +3,9 @@ use mathlib.Core.Path.{◌≡◌}
 use lib.ListN.{length}
 use borrow.Author.Rules.{rules}
 use Rattle.code.specs.Definitions.ClassSheets.{different_bytes}
-use Rattle.code.specs.Laws.Exactly.{exactly-iff}
-use Rattle.well_classed.proofs.Laws.Tested.{classes-tested}
-use Rattle.well_classed.specs.Round.{well-classed}
+use Rattle.code.specs.Laws.Exactly.{exactly_iff}
+use Rattle.well_classed.proofs.Laws.Tested.{classes_tested}
+use Rattle.well_classed.specs.Round.{well_classed_lem}
 use Rattle.well_classed.proofs.well_classed.Goals as goal
 
 pub returns : goal.returns
@@ -13,4 +13,4 @@ returns c =
     let classes = c.args.classes in
     -- the type of the parameter says how long its array is
     let whole : length classes.entries ≡ different_bytes = search rules in
-    rw (c.and.ensures, c.some_sign_letter.ensures) (exactly-iff well-classed (classes-tested classes.entries whole c.entries_fit.ensures))
+    rw (c.and.ensures, c.some_sign_letter.ensures) (exactly_iff well_classed_lem (classes_tested classes.entries whole c.entries_fit.ensures))

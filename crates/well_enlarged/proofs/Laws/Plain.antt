@@ -12,41 +12,41 @@ use Rattle.code.specs.Definitions.Lists.{any, tabulate}
 use Rattle.code.specs.Definitions.Tables.{table_of}
 use Rattle.code.specs.Definitions.Bans.{has_copy, origin, stands_after}
 use Rattle.code.specs.Definitions.Enlarged.{plain_of, copies_in}
-use Rattle.code.specs.Laws.Filling.{fill-next, fill-rest}
+use Rattle.code.specs.Laws.Filling.{fill_next, fill_rest}
 use Rattle.code.specs.Laws.Lists.{length-tabulate, get_d_tabulate}
-use Rattle.ban_theory.specs.CopyLists.{origin-word, origin_copy, next-stands, next-itself}
+use Rattle.ban_theory.specs.CopyLists.{origin_word, origin_copy, next_stands, next_itself}
 use Rattle.ban_theory.specs.Enlargements.{Fair}
 use Rattle.code.specs.Laws.WellFormed.{WellFormed}
 use Rattle.well_enlarged.specs.WellEnlarged.{NumberFits, Numbered, WellEnlarged}
 use Rattle.well_enlarged.specs.Numbers.{copy_in}
 
 -- Where there are no copies, a word stands after every word, and every matrix is that of an enlarged code.
-pub none-stand : (n x y : ℕ) → x < n → stands_after n [] x y ≡ true
+pub none_stand : (n x y : ℕ) → x < n → stands_after n [] x y ≡ true
 unfolding has_copy any
-none-stand n x y h = rw (next-itself n [] y x refl) at (next-stands n [] y x h)
+none_stand n x y h = rw (next_itself n [] y x refl) at (next_stands n [] y x h)
 
-pub none-fair : (n : ℕ) (c : Code) → Fair n [] (table_of c).follow
-none-fair n c = record {
-  only = λ x y h k f. none-stand n x (origin n [] y) (omega arith);
-  base = λ x y h k f. rw (origin-word n [] y (omega arith)) f;
+pub none_fair : (n : ℕ) (c : Code) → Fair n [] (table_of c).follow
+none_fair n c = record {
+  only = λ x y h k f. none_stand n x (origin n [] y) (omega arith);
+  base = λ x y h k f. rw (origin_word n [] y (omega arith)) f;
 }
 
 pub no_copies : (e : Enlarged) → e.originals ≡ e.code.count → copies_in e ≡ []
 unfolding tabulate
 no_copies e h = let none : e.code.count - e.originals ≡ 0 = omega arith in rw none
 
-pub plain-fair : (e : Enlarged) → e.originals ≡ e.code.count → Fair e.originals (copies_in e) (table_of e.code).follow
-plain-fair e h = rw (no_copies e h) (none-fair e.originals e.code)
+pub plain_fair : (e : Enlarged) → e.originals ≡ e.code.count → Fair e.originals (copies_in e) (table_of e.code).follow
+plain_fair e h = rw (no_copies e h) (none_fair e.originals e.code)
 
 module _ {l : Limits} {c : Code} (given : WellFormed l c) where
   number_fits : (x : ℕ) → NumberFits c.count c.count x (origin c.count [] x) 0
   number_fits x = record {
-    of_word = origin-word c.count [] x;
-    of-copy = λ h k. absurd (omega arith);
-    of-past = λ h. origin_copy c.count [] x h;
-    behind-word = λ h. refl;
-    behind-copy = λ h k. absurd (omega arith);
-    behind-past = λ h. refl;
+    of_word = origin_word c.count [] x;
+    of_copy = λ h k. absurd (omega arith);
+    of_past = λ h. origin_copy c.count [] x h;
+    behind_word = λ h. refl;
+    behind_copy = λ h k. absurd (omega arith);
+    behind_past = λ h. refl;
     apart = λ h k. absurd (omega arith);
   }
 
@@ -61,14 +61,14 @@ module _ {l : Limits} {c : Code} (given : WellFormed l c) where
     number = λ x h. rw (get_d_tabulate (origin c.count []) l.words x 0 h, get_d_tabulate {A = ℕ} (λ x. 0) l.words x 0 h) (number_fits x);
   }
 
-  pub plain-well : WellEnlarged l (plain_of l c)
+  pub plain_well : WellEnlarged l (plain_of l c)
   unfolding plain_of
-  plain-well = record {
+  plain_well = record {
     code = given;
     numbers = numbers;
     once = λ y z i j a b. absurd (omega (arith, a.below, length-tabulate (copy_in (plain_of l c)) (c.count - c.count)));
     copy = λ x h k. absurd (omega arith);
-    fair = plain-fair (plain_of l c) refl;
+    fair = plain_fair (plain_of l c) refl;
   }
 
 -- Filling in the origins of a table without copies: the first x of them stand there.
@@ -76,15 +76,15 @@ module _ (l : Limits) (n : ℕ) where
   abbrev pub OwnTo : List ℕ → ℕ → Type 0
   OwnTo now x = (x ≤ l.words) × (length now ≡ l.words) × (now ≡ tabulate (origin n []) x ++ drop x (replicate l.words 0))
 
-  pub own-none : OwnTo (replicate l.words 0) 0
+  pub own_none : OwnTo (replicate l.words 0) 0
   unfolding tabulate
-  own-none = (omega arith, length-replicate {A = ℕ} l.words 0, refl)
+  own_none = (omega arith, length-replicate {A = ℕ} l.words 0, refl)
 
-  pub own-more : {now : List ℕ} {x : ℕ} → OwnTo now x → x < l.words → (v : ℕ) → v ≡ origin n [] x → OwnTo (set now x v) (x + 1)
-  own-more {now} {x} own h v e =
+  pub own_more : {now : List ℕ} {x : ℕ} → OwnTo now x → x < l.words → (v : ℕ) → v ≡ origin n [] x → OwnTo (set now x v) (x + 1)
+  own_more {now} {x} own h v e =
       let zeros = length-replicate {A = ℕ} l.words 0 in
-      (omega arith, length-set now x v ∙ own.1, rw (own.2, e) (fill-next (origin n []) (replicate l.words 0) x (omega arith)))
+      (omega arith, length-set now x v ∙ own.1, rw (own.2, e) (fill_next (origin n []) (replicate l.words 0) x (omega arith)))
 
-  pub own-all : {now : List ℕ} {x : ℕ} → OwnTo now x → l.words ≤ x → now ≡ tabulate (origin n []) l.words
-  own-all {now} {x} own h =
-      own.2 ∙ fill-rest (origin n []) (replicate l.words 0) 0 x l.words (length-replicate {A = ℕ} l.words 0) (λ k a b. absurd (omega arith)) own.0
+  pub own_all : {now : List ℕ} {x : ℕ} → OwnTo now x → l.words ≤ x → now ≡ tabulate (origin n []) l.words
+  own_all {now} {x} own h =
+      own.2 ∙ fill_rest (origin n []) (replicate l.words 0) 0 x l.words (length-replicate {A = ℕ} l.words 0) (λ k a b. absurd (omega arith)) own.0

@@ -17,265 +17,265 @@ use Rattle.code.specs.Definitions.Bans.{Copy, no_copy, is_copy, has_copy, copy_i
 use Rattle.code.specs.Definitions.Enlarged.{copies_in}
 use Rattle.code.specs.Laws.Below.{Some}
 use Rattle.code.specs.Laws.Lists.{length-tabulate, get_d_tabulate, any-tabulate}
-use Rattle.ban_theory.specs.CopyLists.{CopyAt, Once, has-copy, origin-known, next-copy, next-itself, next-stands, copy-index, stands-next}
+use Rattle.ban_theory.specs.CopyLists.{CopyAt, Once, has_copy_lem, origin_known, next_copy, next_itself, next_stands, copy_index_lem, stands_next}
 use Rattle.ban_theory.specs.Enlargements.{Fair}
-use Rattle.code.specs.Laws.Exactly.{Exactly, exactly-true, exactly-false, exactly-iff, exactly-and, exactly-not, exactly-same, exactly-lt, exactly-eq}
-use Rattle.well_formed.specs.Round.{word-is}
+use Rattle.code.specs.Laws.Exactly.{Exactly, exactly_true, exactly_false, exactly_iff, exactly_and, exactly_not, exactly_same, exactly_lt, exactly_eq}
+use Rattle.well_formed.specs.Round.{word_is}
 use Rattle.code.specs.Laws.WellFormed.{WellFormed}
 use Rattle.well_enlarged.specs.WellEnlarged.{NumberFits, Numbered, barred, CopyFits, WellEnlarged}
-use Rattle.well_enlarged.specs.Numbers.{count-copies, copy-in, all-numbers, number_at, copy-number, origin-number, next-within, numbers-once}
+use Rattle.well_enlarged.specs.Numbers.{count_copies, copy_in_lem, all_numbers, number_at, copy_number, origin_number, next_within, numbers_once}
 use Rattle.well_enlarged.specs.Tests.{number_of, copies_at, NumbersFit, Lent, AtOwnPlace, IfCopyFits, CopiesFit, EntryFits, MatrixFits}
-use Rattle.well_enlarged.proofs.Laws.Plain.{plain-fair}
+use Rattle.well_enlarged.proofs.Laws.Plain.{plain_fair}
 
 -- A number
 
 module _ (n count x of behind : ℕ) (most : n ≤ count) where
   pub number_word : x < n → Exactly (eqb of x && eqb behind 0) (NumberFits n count x of behind)
   number_word h =
-      exactly-iff (
+      exactly_iff (
         (λ p. record {
           of_word = λ i. p.0;
-          of-copy = λ i j. absurd (omega arith);
-          of-past = λ i. absurd (omega arith);
-          behind-word = λ i. p.1;
-          behind-copy = λ i j. absurd (omega arith);
-          behind-past = λ i. p.1;
+          of_copy = λ i j. absurd (omega arith);
+          of_past = λ i. absurd (omega arith);
+          behind_word = λ i. p.1;
+          behind_copy = λ i j. absurd (omega arith);
+          behind_past = λ i. p.1;
           apart = λ i j. absurd (omega arith);
         }),
-        (λ f. (f.of_word h, f.behind-word h)),
+        (λ f. (f.of_word h, f.behind_word h)),
       )
-      (exactly-and (exactly-eq of x) (exactly-eq behind 0))
+      (exactly_and (exactly_eq of x) (exactly_eq behind 0))
 
-  pub number-copy : n ≤ x → x < count → Exactly (ltb of n && ltb behind n && not (eqb behind of)) (NumberFits n count x of behind)
-  number-copy h k =
-      exactly-iff (
+  pub number_copy : n ≤ x → x < count → Exactly (ltb of n && ltb behind n && not (eqb behind of)) (NumberFits n count x of behind)
+  number_copy h k =
+      exactly_iff (
         (λ p. record {
           of_word = λ i. absurd (omega arith);
-          of-copy = λ i j. p.0.0;
-          of-past = λ i. absurd (omega arith);
-          behind-word = λ i. absurd (omega arith);
-          behind-copy = λ i j. p.0.1;
-          behind-past = λ i. absurd (omega arith);
+          of_copy = λ i j. p.0.0;
+          of_past = λ i. absurd (omega arith);
+          behind_word = λ i. absurd (omega arith);
+          behind_copy = λ i j. p.0.1;
+          behind_past = λ i. absurd (omega arith);
           apart = λ i j. p.1;
         }),
-        (λ f. ((f.of-copy h k, f.behind-copy h k), f.apart h k)),
+        (λ f. ((f.of_copy h k, f.behind_copy h k), f.apart h k)),
       )
-      (exactly-and (exactly-and (exactly-lt of n) (exactly-lt behind n)) (exactly-not (exactly-eq behind of)))
+      (exactly_and (exactly_and (exactly_lt of n) (exactly_lt behind n)) (exactly_not (exactly_eq behind of)))
 
   pub number_past : count ≤ x → Exactly (eqb of 0 && eqb behind 0) (NumberFits n count x of behind)
   number_past h =
-      exactly-iff (
+      exactly_iff (
         (λ p. record {
           of_word = λ i. absurd (omega arith);
-          of-copy = λ i j. absurd (omega arith);
-          of-past = λ i. p.0;
-          behind-word = λ i. p.1;
-          behind-copy = λ i j. absurd (omega arith);
-          behind-past = λ i. p.1;
+          of_copy = λ i j. absurd (omega arith);
+          of_past = λ i. p.0;
+          behind_word = λ i. p.1;
+          behind_copy = λ i j. absurd (omega arith);
+          behind_past = λ i. p.1;
           apart = λ i j. absurd (omega arith);
         }),
-        (λ f. (f.of-past h, f.behind-past h)),
+        (λ f. (f.of_past h, f.behind_past h)),
       )
-      (exactly-and (exactly-eq of 0) (exactly-eq behind 0))
+      (exactly_and (exactly_eq of 0) (exactly_eq behind 0))
 
 -- All numbers
 
 module _ {n count : ℕ} {P : Type 0} where
-  pub none-original : n < 1 → Exactly false ((1 ≤ n) × ((n ≤ count) × P))
-  none-original h = exactly-false (λ p. omega (arith, p.0))
+  pub none_original : n < 1 → Exactly false ((1 ≤ n) × ((n ≤ count) × P))
+  none_original h = exactly_false (λ p. omega (arith, p.0))
 
   pub few_words : count < n → Exactly false ((1 ≤ n) × ((n ≤ count) × P))
-  few_words h = exactly-false (λ p. omega (arith, p.1.0))
+  few_words h = exactly_false (λ p. omega (arith, p.1.0))
 
   pub bounded : {t : Bool} → 1 ≤ n → n ≤ count → Exactly t P → Exactly t ((1 ≤ n) × ((n ≤ count) × P))
-  bounded h k = exactly-iff ((λ f. (h, (k, f))), (λ p. p.1.1))
+  bounded h k = exactly_iff ((λ f. (h, (k, f))), (λ p. p.1.1))
 
 -- The number of a word after another
 
 -- The first copy of z after y is the one that is looked for.
-first-index : (y z : ℕ) (cs : List Copy) (i : ℕ) → i < length cs → is_copy y z (get_or cs i no_copy) ≡ true
+first_index : (y z : ℕ) (cs : List Copy) (i : ℕ) → i < length cs → is_copy y z (get_or cs i no_copy) ≡ true
     → ((k : ℕ) → k < i → is_copy y z (get_or cs k no_copy) ≡ false) → copy_index cs y z ≡ i
 unfolding copy_index
-first-index y z [] i h here before = absurd (omega arith)
-first-index y z (c ∷ cs) zero h here before = rw here
-first-index y z (c ∷ cs) (suc i) h here before =
-    rw (before 0 (omega arith)) (ap suc (first-index y z cs i (omega arith) here (λ k l. before (suc k) (omega arith))))
+first_index y z [] i h here before = absurd (omega arith)
+first_index y z (c ∷ cs) zero h here before = rw here
+first_index y z (c ∷ cs) (suc i) h here before =
+    rw (before 0 (omega arith)) (ap suc (first_index y z cs i (omega arith) here (λ k l. before (suc k) (omega arith))))
 
 module _ (origins behind : List ℕ) (n count y x : ℕ) where
   -- Number i is no copy of x after y.
   abbrev pub Other : ℕ → Type 0
   Other i = n ≤ i → is_copy y x (number_of origins behind i) ≡ false
 
-  copy-there : (i : ℕ) → n ≤ i → i < count → get_or (copies_at origins behind n count) (i - n) no_copy ≡ number_of origins behind i
-  copy-there i h k =
+  copy_there : (i : ℕ) → n ≤ i → i < count → get_or (copies_at origins behind n count) (i - n) no_copy ≡ number_of origins behind i
+  copy_there i h k =
       let at : n + (i - n) ≡ i = omega arith in
       get_d_tabulate (λ j. number_of origins behind (n + j)) (count - n) (i - n) no_copy (omega arith) ∙ rw at
 
-  pub next-found : (i : ℕ) → n ≤ i → i < count → is_copy y x (number_of origins behind i) ≡ true → ((k : ℕ) → k < i → Other k)
+  pub next_found : (i : ℕ) → n ≤ i → i < count → is_copy y x (number_of origins behind i) ≡ true → ((k : ℕ) → k < i → Other k)
       → i ≡ number_after n (copies_at origins behind n count) y x
-  next-found i h k here before =
+  next_found i h k here before =
       let cs = copies_at origins behind n count in
       let long = length-tabulate (λ j. number_of origins behind (n + j)) (count - n) in
-      let at : is_copy y x (get_or cs (i - n) no_copy) ≡ true = rw (copy-there i h k) here in
-      let index = first-index y x cs (i - n) (omega arith) at (λ j l.
+      let at : is_copy y x (get_or cs (i - n) no_copy) ≡ true = rw (copy_there i h k) here in
+      let index = first_index y x cs (i - n) (omega arith) at (λ j l.
       let back : n + j - n ≡ j = omega arith in
-      let there : get_or cs j no_copy ≡ number_of origins behind (n + j) = rw back at (copy-there (n + j) (omega arith) (omega arith)) in
+      let there : get_or cs j no_copy ≡ number_of origins behind (n + j) = rw back at (copy_there (n + j) (omega arith) (omega arith)) in
       rw there (before (n + j) (omega arith) (omega arith))) in
-      let has = is-copy cs (i - n) (omega arith) at in
-      sym (next-copy n cs y x has ∙ omega arith)
+      let has = is_copy_lem cs (i - n) (omega arith) at in
+      sym (next_copy n cs y x has ∙ omega arith)
     where
-      is-copy : (cs : List Copy) (j : ℕ) → j < length cs → is_copy y x (get_or cs j no_copy) ≡ true → has_copy cs y x ≡ true
-      is-copy cs j l e =
+      is_copy_lem : (cs : List Copy) (j : ℕ) → j < length cs → is_copy y x (get_or cs j no_copy) ≡ true → has_copy cs y x ≡ true
+      is_copy_lem cs j l e =
           let a = (and-eq-true_iff (eqb (get_or cs j no_copy).behind y) (eqb (get_or cs j no_copy).of x)).0 e in
-          has-copy (record { below = l; behind = eqb-true _ _ a.0; of = eqb-true _ _ a.1 })
+          has_copy_lem (record { below = l; behind = eqb-true _ _ a.0; of = eqb-true _ _ a.1 })
 
-  pub next-none : ((k : ℕ) → k < count → Other k) → x ≡ number_after n (copies_at origins behind n count) y x
+  pub next_none : ((k : ℕ) → k < count → Other k) → x ≡ number_after n (copies_at origins behind n count) y x
   unfolding has_copy
-  next-none before =
+  next_none before =
       let cs = copies_at origins behind n count in
-      sym (next-itself n cs y x (any-tabulate (is_copy y x) (λ j. number_of origins behind (n + j)) (count - n) (λ j l. before (n + j) (omega arith) (omega arith))))
+      sym (next_itself n cs y x (any-tabulate (is_copy y x) (λ j. number_of origins behind (n + j)) (count - n) (λ j l. before (n + j) (omega arith) (omega arith))))
 
 -- A copy
 
 pub words_same : (a b : Word) {t : Bool} → Exactly t (a.symbols ≡ b.symbols) → Exactly (eqb a.len b.len && t) (a ≡ b)
 words_same a b symbols =
-    exactly-iff ((λ p. word-is b a.symbols a.len p.1 p.0), (λ e. (ap (λ (w : Word). w.len) e, ap (λ (w : Word). w.symbols) e)))
-    (exactly-and (exactly-eq a.len b.len) symbols)
+    exactly_iff ((λ p. word_is b a.symbols a.len p.1 p.0), (λ e. (ap (λ (w : Word). w.len) e, ap (λ (w : Word). w.symbols) e)))
+    (exactly_and (exactly_eq a.len b.len) symbols)
 
 module _ (e : Enlarged) (x : ℕ) where
   -- A word may not come behind a copy where its number there has no 1.
-  pub barred-entry : (w : ℕ) {next of : ℕ} {t : Bool} → of ≡ get_or e.origins x 0 → next ≡ number_after e.originals (copies_in e) of w → Exactly t (entry_of e.code next x ≡ 1)
+  pub barred_entry : (w : ℕ) {next of : ℕ} {t : Bool} → of ≡ get_or e.origins x 0 → next ≡ number_after e.originals (copies_in e) of w → Exactly t (entry_of e.code next x ≡ 1)
       → barred e x w ≡ not t
-  barred-entry w {next} p q one =
-      let same = exactly-same (exactly-eq (entry_of e.code next x) 1) one in
+  barred_entry w {next} p q one =
+      let same = exactly_same (exactly_eq (entry_of e.code next x) 1) one in
       sym (ap not (sym same) ∙ rw (q, p))
 
-  pub ban-found : (w : ℕ) → w < e.originals → barred e x w ≡ true → Exactly true (Some (barred e x) e.originals)
-  ban-found w h k = exactly-true (record { x = w; below = h; passes = k })
+  pub ban_found : (w : ℕ) → w < e.originals → barred e x w ≡ true → Exactly true (Some (barred e x) e.originals)
+  ban_found w h k = exactly_true (record { x = w; below = h; passes = k })
 
-  pub ban-none : ((w : ℕ) → w < e.originals → barred e x w ≡ false) → Exactly false (Some (barred e x) e.originals)
-  ban-none none = exactly-false (λ s. true≢false (sym s.passes ∙ none s.x s.below))
+  pub ban_none : ((w : ℕ) → w < e.originals → barred e x w ≡ false) → Exactly false (Some (barred e x) e.originals)
+  ban_none none = exactly_false (λ s. true≢false (sym s.passes ∙ none s.x s.below))
 
   pub copy_tested : {place mark : ℕ} {t b : Bool} → place ≡ number_after e.originals (copies_in e) (get_or e.behind x 0) (get_or e.origins x 0) → mark ≡ get_or e.code.begins x 0
       → Exactly t (get_or e.code.words x no_word ≡ get_or e.code.words (get_or e.origins x 0) no_word) → Exactly b (Some (barred e x) e.originals)
       → Exactly (eqb place x && (t && (eqb mark 0 && b))) (AtOwnPlace e x × CopyFits e x)
   copy_tested {place} {mark} p m word ban =
-      exactly-iff (
+      exactly_iff (
         (λ q. (sym p ∙ q.0, record { word = q.1.0; mark = sym m ∙ q.1.1.0; ban = q.1.1.1 })),
         (λ q. (p ∙ q.0, (q.1.word, (m ∙ q.1.mark, q.1.ban)))),
       )
-      (exactly-and (exactly-eq place x) (exactly-and word (exactly-and (exactly-eq mark 0) ban)))
+      (exactly_and (exactly_eq place x) (exactly_and word (exactly_and (exactly_eq mark 0) ban)))
 
-  pub copy-if : {t : Bool} → e.originals ≤ x → Exactly t (AtOwnPlace e x × CopyFits e x) → Exactly t (IfCopyFits e x)
-  copy-if h = exactly-iff ((λ p i. p), (λ f. f h))
+  pub copy_if : {t : Bool} → e.originals ≤ x → Exactly t (AtOwnPlace e x × CopyFits e x) → Exactly t (IfCopyFits e x)
+  copy_if h = exactly_iff ((λ p i. p), (λ f. f h))
 
 -- An entry
 
 module _ (row : Row) (origins behind : List ℕ) (n count x y : ℕ) where
   pub entry_zero : (get_or row.entries y 0 ≡ 1 → ⊥) → Exactly true (EntryFits row origins behind n count x y)
-  entry_zero none = exactly-true (record { base = λ e. absurd (none e); only = λ e. absurd (none e) })
+  entry_zero none = exactly_true (record { base = λ e. absurd (none e); only = λ e. absurd (none e) })
 
   pub entry_new : get_or row.entries y 0 ≡ 1 → (get_or row.entries (get_or origins y 0) 0 ≡ 1 → ⊥) → Exactly false (EntryFits row origins behind n count x y)
-  entry_new one none = exactly-false (λ f. none (f.base one))
+  entry_new one none = exactly_false (λ f. none (f.base one))
 
-  pub entry-one : {next : ℕ} → get_or row.entries y 0 ≡ 1 → get_or row.entries (get_or origins y 0) 0 ≡ 1
+  pub entry_one : {next : ℕ} → get_or row.entries y 0 ≡ 1 → get_or row.entries (get_or origins y 0) 0 ≡ 1
       → next ≡ number_after n (copies_at origins behind n count) (get_or origins y 0) (get_or origins x 0) → Exactly (eqb next x) (EntryFits row origins behind n count x y)
-  entry-one {next} one base e =
-      exactly-iff ((λ q. record { base = λ i. base; only = λ i. sym e ∙ q }), (λ f. e ∙ f.only one)) (exactly-eq next x)
+  entry_one {next} one base e =
+      exactly_iff ((λ q. record { base = λ i. base; only = λ i. sym e ∙ q }), (λ f. e ∙ f.only one)) (exactly_eq next x)
 
 -- The whole value
 
 module _ {l : Limits} {e : Enlarged} (v : Numbered l e) where
-  known-case : (y : ℕ) → Dec (y < e.originals) → Dec (y < e.code.count) → get_or e.origins y 0 < l.words
-  known-case y (yes h) k = omega (arith, (number_at v y).of_word h, v.most, v.room)
-  known-case y (no h) (yes k) = omega (arith, (number_at v y).of-copy (omega arith) k, v.most, v.room)
-  known-case y (no h) (no k) = omega (arith, (number_at v y).of-past (omega arith), v.one, v.most, v.room)
+  known_case : (y : ℕ) → Dec (y < e.originals) → Dec (y < e.code.count) → get_or e.origins y 0 < l.words
+  known_case y (yes h) k = omega (arith, (number_at v y).of_word h, v.most, v.room)
+  known_case y (no h) (yes k) = omega (arith, (number_at v y).of_copy (omega arith) k, v.most, v.room)
+  known_case y (no h) (no k) = omega (arith, (number_at v y).of_past (omega arith), v.one, v.most, v.room)
 
   pub lent : Lent l e.origins e.behind e.originals e.code.count
   lent = record {
     most = v.most;
     room = v.room;
-    all-origins = v.origins;
-    all-behind = v.behind;
-    known = λ y. known-case y (dec_lt y e.originals) (dec_lt y e.code.count);
+    all_origins = v.origins;
+    all_behind = v.behind;
+    known = λ y. known_case y (dec_lt y e.originals) (dec_lt y e.code.count);
   }
 
   pub next_low : (y x : ℕ) {next : ℕ} → next ≡ number_after e.originals (copies_in e) y x → x < e.originals → next < l.words
-  next_low y x p h = omega (arith, next-within v y x h, v.room)
+  next_low y x p h = omega (arith, next_within v y x h, v.room)
 
   -- Copies that stand at their own places are each there once,
   placed : ((x : ℕ) → x < e.code.count → e.originals ≤ x → AtOwnPlace e x) → (y z i : ℕ) → CopyAt (copies_in e) y z i
       → number_after e.originals (copies_in e) y z ≡ e.originals + i
   placed at y z i c =
-      let copy = copy-in e i c.below in
+      let copy = copy_in_lem e i c.below in
       let behind : get_or e.behind (e.originals + i) 0 ≡ y = ap (λ (d : Copy). d.behind) (sym copy) ∙ c.behind in
       let of : get_or e.origins (e.originals + i) 0 ≡ z = ap (λ (d : Copy). d.of) (sym copy) ∙ c.of in
-      rw (behind, of) at (at (e.originals + i) (omega (arith, all-numbers v, c.below)) (omega arith))
+      rw (behind, of) at (at (e.originals + i) (omega (arith, all_numbers v, c.below)) (omega arith))
 
-  placed-once : ((x : ℕ) → x < e.code.count → e.originals ≤ x → AtOwnPlace e x)
+  placed_once : ((x : ℕ) → x < e.code.count → e.originals ≤ x → AtOwnPlace e x)
       → (y z i j : ℕ) → CopyAt (copies_in e) y z i → CopyAt (copies_in e) y z j → i ≡ j
-  placed-once at y z i j a b = omega (arith, placed at y z i a, placed at y z j b)
+  placed_once at y z i j a b = omega (arith, placed at y z i a, placed at y z j b)
 
   -- and the other way round.
-  once-placed : Once e.originals (copies_in e) → (x : ℕ) → x < e.code.count → e.originals ≤ x → AtOwnPlace e x
-  once-placed once x h k =
-      let at = copy-index e.originals (copies_in e) once x (omega (arith, all-numbers v)) k in
-      rw (copy-number v x k, origin-number v x) at (next-copy e.originals (copies_in e) (copy_at e.originals (copies_in e) x).behind (origin e.originals (copies_in e) x) at.0 ∙ at.1)
+  once_placed : Once e.originals (copies_in e) → (x : ℕ) → x < e.code.count → e.originals ≤ x → AtOwnPlace e x
+  once_placed once x h k =
+      let at = copy_index_lem e.originals (copies_in e) once x (omega (arith, all_numbers v)) k in
+      rw (copy_number v x k, origin_number v x) at (next_copy e.originals (copies_in e) (copy_at e.originals (copies_in e) x).behind (origin e.originals (copies_in e) x) at.0 ∙ at.1)
 
   -- The matrix
 
   module _ (once : Once e.originals (copies_in e)) where
-    fits-fair : MatrixFits e → Fair e.originals (copies_in e) (table_of e.code).follow
-    fits-fair fits = record {
+    fits_fair : MatrixFits e → Fair e.originals (copies_in e) (table_of e.code).follow
+    fits_fair fits = record {
       only = λ x y h k f.
-          let all = all-numbers v in
-          let known = origin-known e.originals (copies_in e) once x h in
-          let next = rw (← origin-number v x, ← origin-number v y) at ((fits x (omega arith) y (omega arith)).only (eqb-true (entry_of e.code x y) 1 f)) in
-          rw next at (next-stands e.originals (copies_in e) (origin e.originals (copies_in e) y) (origin e.originals (copies_in e) x) known);
+          let all = all_numbers v in
+          let known = origin_known e.originals (copies_in e) once x h in
+          let next = rw (← origin_number v x, ← origin_number v y) at ((fits x (omega arith) y (omega arith)).only (eqb-true (entry_of e.code x y) 1 f)) in
+          rw next at (next_stands e.originals (copies_in e) (origin e.originals (copies_in e) y) (origin e.originals (copies_in e) x) known);
       base = λ x y h k f.
-          let all = all-numbers v in
-          rw (origin-number v y) (eq-eqb (entry_of e.code x (get_or e.origins y 0)) 1 ((fits x (omega arith) y (omega arith)).base (eqb-true (entry_of e.code x y) 1 f)));
+          let all = all_numbers v in
+          rw (origin_number v y) (eq-eqb (entry_of e.code x (get_or e.origins y 0)) 1 ((fits x (omega arith) y (omega arith)).base (eqb-true (entry_of e.code x y) 1 f)));
     }
 
     fair_fits : Fair e.originals (copies_in e) (table_of e.code).follow → MatrixFits e
     fair_fits fair x h y k =
-        let all = all-numbers v in
+        let all = all_numbers v in
         record {
           base = λ one.
-              eqb-true (entry_of e.code x (get_or e.origins y 0)) 1 (rw (origin-number v y) at (fair.base x y (omega arith) (omega arith) (eq-eqb (entry_of e.code x y) 1 one)));
+              eqb-true (entry_of e.code x (get_or e.origins y 0)) 1 (rw (origin_number v y) at (fair.base x y (omega arith) (omega arith) (eq-eqb (entry_of e.code x y) 1 one)));
           only = λ one.
               let stands = fair.only x y (omega arith) (omega arith) (eq-eqb (entry_of e.code x y) 1 one) in
-              rw (← origin-number v x, ← origin-number v y) (sym (stands-next e.originals (copies_in e) once x (origin e.originals (copies_in e) y) (omega arith) stands));
+              rw (← origin_number v x, ← origin_number v y) (sym (stands_next e.originals (copies_in e) once x (origin e.originals (copies_in e) y) (omega arith) stands));
         }
 
   -- A value of a well-formed code and fitting numbers is well-enlarged where it has no copies,
-  pub none-tested : WellFormed l e.code → e.originals ≡ e.code.count → Exactly true (WellEnlarged l e)
-  none-tested code same =
-      exactly-true (record {
+  pub none_tested : WellFormed l e.code → e.originals ≡ e.code.count → Exactly true (WellEnlarged l e)
+  none_tested code same =
+      exactly_true (record {
         code = code;
         numbers = v;
-        once = λ y z i j a b. absurd (omega (arith, a.below, count-copies e));
+        once = λ y z i j a b. absurd (omega (arith, a.below, count_copies e));
         copy = λ x h k. absurd (omega arith);
-        fair = plain-fair e same;
+        fair = plain_fair e same;
       })
 
   -- and else where its copies and its matrix fit.
-  pub value-tested : WellFormed l e.code → {a b : Bool} → Exactly a (CopiesFit e) → Exactly b (MatrixFits e) → Exactly (a && b) (WellEnlarged l e)
-  value-tested code copies matrix =
-      exactly-iff (
+  pub value_tested : WellFormed l e.code → {a b : Bool} → Exactly a (CopiesFit e) → Exactly b (MatrixFits e) → Exactly (a && b) (WellEnlarged l e)
+  value_tested code copies matrix =
+      exactly_iff (
         (λ p.
-            let once = placed-once (λ x h k. (p.0 x h k).0) in
-            record { code = code; numbers = v; once = once; copy = λ x h k. (p.0 x k h).1; fair = fits-fair (numbers-once v once) p.1 }),
+            let once = placed_once (λ x h k. (p.0 x h k).0) in
+            record { code = code; numbers = v; once = once; copy = λ x h k. (p.0 x k h).1; fair = fits_fair (numbers_once v once) p.1 }),
         (λ w.
-            let once = numbers-once v w.once in
-            ((λ x h k. (once-placed once x h k, w.copy x k h)), fair_fits once w.fair)),
+            let once = numbers_once v w.once in
+            ((λ x h k. (once_placed once x h k, w.copy x k h)), fair_fits once w.fair)),
       )
-      (exactly-and copies matrix)
+      (exactly_and copies matrix)
 
 -- A value of another code or of other numbers is not.
 module _ {l : Limits} {e : Enlarged} where
   pub not_code : (WellFormed l e.code → ⊥) → Exactly false (WellEnlarged l e)
-  not_code n = exactly-false (λ w. n w.code)
+  not_code n = exactly_false (λ w. n w.code)
 
-  pub not-numbered : ((1 ≤ e.originals) × ((e.originals ≤ e.code.count) × NumbersFit l e.originals e.code.count e.origins e.behind) → ⊥) → Exactly false (WellEnlarged l e)
-  not-numbered n = exactly-false (λ w. n (w.numbers.one, (w.numbers.most, w.numbers.number)))
+  pub not_numbered : ((1 ≤ e.originals) × ((e.originals ≤ e.code.count) × NumbersFit l e.originals e.code.count e.origins e.behind) → ⊥) → Exactly false (WellEnlarged l e)
+  not_numbered n = exactly_false (λ w. n (w.numbers.one, (w.numbers.most, w.numbers.number)))

@@ -2,7 +2,7 @@
 use native.Mathlib.Omega.{arith}
 use borrow.Author.Rules.{rules}
 use borrow.Author.Tests.{not-true, not-false}
-use Rattle.well_enlarged.proofs.Laws.Tested.{entry_zero, entry_new, entry-one}
+use Rattle.well_enlarged.proofs.Laws.Tested.{entry_zero, entry_new, entry_one}
 use Rattle.well_enlarged.proofs.entry_fits.Goals as goal
 
 pub returns-then-not-is_one : goal.returns-then-not-is_one
@@ -26,5 +26,5 @@ returns c =
     let a = c.args in
     let one = c.is_one.ensures.yes c.if-not-is_one.false in
     let base = rw c.wide-after.ensures at (c.is_one-2.ensures.yes c.if-not-is_one-2.false) in
-    entry-one a.row a.origins.now a.behind.now a.n a.count a.x a.y one base
+    entry_one a.row a.origins.now a.behind.now a.n a.count a.x a.y one base
     (rw (c.wide-after.ensures, c.wide-of.ensures) at c.number_after.ensures)

@@ -8,7 +8,7 @@ use borrow.Author.Rules.{rules}
 use Rattle.code.specs.Definitions.Sheets.{limits}
 use Rattle.well_enlarged.specs.WellEnlarged.{barred}
 use Rattle.well_enlarged.specs.Tests.{value_of}
-use Rattle.well_enlarged.proofs.Laws.Tested.{barred-entry, ban-found, ban-none, next_low}
+use Rattle.well_enlarged.proofs.Laws.Tested.{barred_entry, ban_found, ban_none, next_low}
 use Rattle.well_enlarged.proofs.has_ban.Goals as goal
 use Rattle.well_enlarged.proofs.has_ban.Goals.{After-number_after-next}
 
@@ -25,8 +25,8 @@ returns-then-not-is_one c =
     let a = c.args in
     let l = c.loop-w in
     let e = value_of a.code a.n a.origins.now a.behind.now in
-    ban-found e a.x l.w c.loop-w-test.true
-    (barred-entry e a.x l.w c.wide-of.ensures c.number_after-next.ensures c.is_one.ensures ∙ ap not c.if-not-is_one.true)
+    ban_found e a.x l.w c.loop-w-test.true
+    (barred_entry e a.x l.w c.wide-of.ensures c.number_after-next.ensures c.is_one.ensures ∙ ap not c.if-not-is_one.true)
 
 pub loop-w-preserved : goal.loop-w-preserved
 loop-w-preserved c =
@@ -35,7 +35,7 @@ loop-w-preserved c =
     let e = value_of a.code a.n a.origins.now a.behind.now in (
       omega arith,
       below_more (λ k. barred e a.x k ≡ false) l.w l.invariant.1
-          (barred-entry e a.x l.w c.wide-of.ensures c.number_after-next.ensures c.is_one.ensures ∙ ap not c.if-not-is_one.false),
+          (barred_entry e a.x l.w c.wide-of.ensures c.number_after-next.ensures c.is_one.ensures ∙ ap not c.if-not-is_one.false),
     )
 
 pub returns : goal.returns
@@ -43,7 +43,7 @@ returns c =
     let l = c.loop-w in
     let a = c.args in
     let end : l.w ≡ a.n = omega arith in
-    ban-none (value_of a.code a.n a.origins.now a.behind.now) a.x (rw end at l.invariant.1)
+    ban_none (value_of a.code a.n a.origins.now a.behind.now) a.x (rw end at l.invariant.1)
 
 pub loop-w-init : goal.loop-w-init
 loop-w-init c = (omega arith, λ k h. absurd (omega arith))

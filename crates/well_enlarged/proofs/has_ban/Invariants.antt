@@ -8,7 +8,7 @@ use borrow.Author.Rules.{rules}
 use Rattle.code.specs.Definitions.Sheets.{limits}
 use Rattle.well_enlarged.specs.WellEnlarged.{barred}
 use Rattle.well_enlarged.specs.Tests.{value_of}
-use Rattle.well_enlarged.proofs.Laws.Tested.{barred-entry, ban-found, ban-none, next_low}
+use Rattle.well_enlarged.proofs.Laws.Tested.{barred_entry, ban_found, ban_none, next_low}
 use Rattle.well_enlarged.proofs.has_ban.Given as goal
 
 abbrev pub invariant-loop-w : goal.invariant-loop-w

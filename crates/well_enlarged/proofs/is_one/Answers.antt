@@ -1,7 +1,7 @@
 -- `is_one` is one test of a number.
 use borrow.Author.Rules.{rules}
-use Rattle.code.specs.Laws.Exactly.{exactly-eq}
+use Rattle.code.specs.Laws.Exactly.{exactly_eq}
 use Rattle.well_enlarged.proofs.is_one.Goals as goal
 
 pub returns : goal.returns
-returns c = exactly-eq _ 1
+returns c = exactly_eq _ 1

@@ -2,13 +2,13 @@ use mathlib.Core.Path.{◌≡◌}
 use Prim.Native.Nat.{ℕ, ◌≤◌, ◌<◌, ◌-◌}
 use native.Mathlib.Omega.{arith}
 use borrow.Author.Rules.{rules}
-use Rattle.code.specs.Laws.Exactly.{Exactly, exactly-none, exactly-more}
+use Rattle.code.specs.Laws.Exactly.{Exactly, exactly_none, exactly_more}
 use Rattle.well_enlarged.specs.Tests.{value_of, RowFits}
 use Rattle.well_enlarged.proofs.Laws.Tested.{lent}
 use Rattle.well_enlarged.proofs.matrix_fits.Goals as goal
 
 pub loop-x-init : goal.loop-x-init
-loop-x-init c = let a = c.args in (omega arith, exactly-none (RowFits (value_of a.code a.n a.origins.now a.behind.now)))
+loop-x-init c = let a = c.args in (omega arith, exactly_none (RowFits (value_of a.code a.n a.origins.now a.behind.now)))
 
 pub row_fits-requires : goal.row_fits-requires
 row_fits-requires c = (lent c.requires, c.loop-x-test.true)
@@ -18,7 +18,7 @@ loop-x-preserved c =
     let l = c.loop-x in
     let a = c.args in (
       omega arith,
-      rw c.and-ok.ensures (exactly-more (RowFits (value_of a.code a.n a.origins.now a.behind.now)) l.x c.row_fits.ensures l.invariant.1),
+      rw c.and-ok.ensures (exactly_more (RowFits (value_of a.code a.n a.origins.now a.behind.now)) l.x c.row_fits.ensures l.invariant.1),
     )
 
 pub returns : goal.returns

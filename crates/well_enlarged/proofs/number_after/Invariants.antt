@@ -4,7 +4,7 @@ use Prim.Native.Nat.{ℕ, ◌≤◌, ◌<◌, ◌-◌}
 use native.Mathlib.Omega.{arith}
 use borrow.Author.Count.{below_more}
 use borrow.Author.Rules.{rules}
-use Rattle.well_enlarged.proofs.Laws.Tested.{Other, next-found, next-none}
+use Rattle.well_enlarged.proofs.Laws.Tested.{Other, next_found, next_none}
 use Rattle.well_enlarged.proofs.number_after.Given as goal
 
 abbrev pub invariant-loop-i : goal.invariant-loop-i

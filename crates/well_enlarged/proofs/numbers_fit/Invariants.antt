@@ -6,7 +6,7 @@ use native.Mathlib.Omega.{arith}
 use lib.ListN.{get_or}
 use borrow.Author.Rules.{rules}
 use Rattle.code.specs.Definitions.Sheets.{limits}
-use Rattle.code.specs.Laws.Exactly.{Exactly, exactly-none, exactly-more}
+use Rattle.code.specs.Laws.Exactly.{Exactly, exactly_none, exactly_more}
 use Rattle.well_enlarged.specs.WellEnlarged.{NumberFits}
 use Rattle.well_enlarged.proofs.numbers_fit.Given as goal
 

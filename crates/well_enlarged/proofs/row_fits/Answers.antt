@@ -2,19 +2,19 @@ use mathlib.Core.Path.{◌≡◌}
 use Prim.Native.Nat.{ℕ, ◌≤◌, ◌<◌, ◌-◌}
 use native.Mathlib.Omega.{arith}
 use borrow.Author.Rules.{rules}
-use Rattle.code.specs.Laws.Exactly.{Exactly, exactly-none, exactly-more}
+use Rattle.code.specs.Laws.Exactly.{Exactly, exactly_none, exactly_more}
 use Rattle.well_enlarged.specs.Tests.{EntryFits}
 use Rattle.well_enlarged.proofs.row_fits.Goals as goal
 
 pub loop-y-init : goal.loop-y-init
-loop-y-init c = let a = c.args in (omega arith, exactly-none (EntryFits a.row a.origins.now a.behind.now a.n a.count a.x))
+loop-y-init c = let a = c.args in (omega arith, exactly_none (EntryFits a.row a.origins.now a.behind.now a.n a.count a.x))
 
 pub loop-y-preserved : goal.loop-y-preserved
 loop-y-preserved c =
     let l = c.loop-y in
     let a = c.args in (
       omega arith,
-      rw c.and-ok.ensures (exactly-more (EntryFits a.row a.origins.now a.behind.now a.n a.count a.x) l.y c.entry_fits.ensures l.invariant.1),
+      rw c.and-ok.ensures (exactly_more (EntryFits a.row a.origins.now a.behind.now a.n a.count a.x) l.y c.entry_fits.ensures l.invariant.1),
     )
 
 pub returns : goal.returns

@@ -6,7 +6,7 @@ use native.Mathlib.Omega.{arith}
 use lib.ListN.{length, get_or}
 use lib.Seq.{ext_get_or}
 use borrow.Author.Rules.{rules}
-use Rattle.code.specs.Laws.Exactly.{Exactly, exactly-iff, exactly-eq, exactly-none, exactly-more}
+use Rattle.code.specs.Laws.Exactly.{Exactly, exactly_iff, exactly_eq, exactly_none, exactly_more}
 use Rattle.well_enlarged.proofs.same_symbols.Given as goal
 
 abbrev pub Alike : List ℕ → List ℕ → ℕ → Type 0

@@ -11,40 +11,40 @@ use Rattle.code.specs.declared.Code.{Code}
 use Rattle.code.specs.declared.Limits.{Limits}
 use Rattle.code.specs.Definitions.Lists.{tabulate, sum}
 use Rattle.code.specs.Laws.Lists.{sum_more}
-use Rattle.code.specs.Laws.Exactly.{Exactly, exactly-false, exactly-iff, exactly-and, exactly-lt, exactly-le, exactly-eq}
+use Rattle.code.specs.Laws.Exactly.{Exactly, exactly_false, exactly_iff, exactly_and, exactly_lt, exactly_le, exactly_eq}
 use Rattle.code.specs.Laws.WellFormed.{len_of, WordFits, RowFits, RecordAt, WellFormed}
-use Rattle.well_formed.specs.AtMost.{AtMost, greatest-fit, greatest_entries, greatest_symbols}
+use Rattle.well_formed.specs.AtMost.{AtMost, greatest_fit, greatest_entries, greatest_symbols}
 
 module _ (l : Limits) (n : ℕ) where
   module _ (k : ℕ) (w : Word) (array : length w.symbols ≡ l.symbols) {t : Bool} where
-    pub word-used : k < n → w.len ≤ l.symbols → Exactly t (AtMost w.symbols (greatest_symbols l w.len)) → Exactly (leb 1 w.len && t) (WordFits l n k w)
-    word-used h short symbols =
-        exactly-iff (
+    pub word_used : k < n → w.len ≤ l.symbols → Exactly t (AtMost w.symbols (greatest_symbols l w.len)) → Exactly (leb 1 w.len && t) (WordFits l n k w)
+    word_used h short symbols =
+        exactly_iff (
           (λ p. record { array = array; some = λ i. p.0; short = short; unused = λ i. absurd (omega arith); symbols = p.1 }),
           (λ f. (f.some h, f.symbols)),
         )
-        (exactly-and (exactly-le 1 w.len) (exactly-iff (greatest-fit 15 w.len l.symbols w.symbols array) symbols))
+        (exactly_and (exactly_le 1 w.len) (exactly_iff (greatest_fit 15 w.len l.symbols w.symbols array) symbols))
 
-    pub word-unused : n ≤ k → Exactly t (AtMost w.symbols (greatest_symbols l 0)) → Exactly (eqb w.len 0 && t) (WordFits l n k w)
-    word-unused h symbols =
-        exactly-iff (
+    pub word_unused : n ≤ k → Exactly t (AtMost w.symbols (greatest_symbols l 0)) → Exactly (eqb w.len 0 && t) (WordFits l n k w)
+    word_unused h symbols =
+        exactly_iff (
           (λ p. record { array = array; some = λ i. absurd (omega arith); short = omega (arith, p.0); unused = λ i. p.0; symbols = rw p.0 p.1 }),
           (λ f. (f.unused h, rw (f.unused h) at f.symbols)),
         )
-        (exactly-and (exactly-eq w.len 0) (exactly-iff (greatest-fit 15 0 l.symbols w.symbols array) symbols))
+        (exactly_and (exactly_eq w.len 0) (exactly_iff (greatest_fit 15 0 l.symbols w.symbols array) symbols))
 
-  pub word-long : (k : ℕ) (w : Word) → l.symbols < w.len → Exactly false (WordFits l n k w)
-  word-long k w h = exactly-false (λ f. omega (arith, f.short))
+  pub word_long : (k : ℕ) (w : Word) → l.symbols < w.len → Exactly false (WordFits l n k w)
+  word_long k w h = exactly_false (λ f. omega (arith, f.short))
 
   module _ (x : ℕ) (r : Row) (array : length r.entries ≡ l.words) {t : Bool} where
-    pub row-used : x < n → Exactly t (AtMost r.entries (greatest_entries l n)) → Exactly t (RowFits l n x r)
-    row-used h entries =
-        exactly-iff ((λ p. record { array = array; entries = p; unused = λ i. absurd (omega arith) }), (λ f. f.entries))
-        (exactly-iff (greatest-fit 1 n l.words r.entries array) entries)
+    pub row_used : x < n → Exactly t (AtMost r.entries (greatest_entries l n)) → Exactly t (RowFits l n x r)
+    row_used h entries =
+        exactly_iff ((λ p. record { array = array; entries = p; unused = λ i. absurd (omega arith) }), (λ f. f.entries))
+        (exactly_iff (greatest_fit 1 n l.words r.entries array) entries)
 
-    pub row-unused : n ≤ x → Exactly t (AtMost r.entries (greatest_entries l 0)) → Exactly t (RowFits l n x r)
-    row-unused h entries =
-        exactly-iff (
+    pub row_unused : n ≤ x → Exactly t (AtMost r.entries (greatest_entries l 0)) → Exactly t (RowFits l n x r)
+    row_unused h entries =
+        exactly_iff (
           (λ p. record {
             array = array;
             entries = record { below = p.below; zero = λ y i. p.zero y (omega arith) };
@@ -52,23 +52,23 @@ module _ (l : Limits) (n : ℕ) where
           }),
           (λ f. record { below = f.entries.below; zero = λ y i. f.unused h y }),
         )
-        (exactly-iff (greatest-fit 1 0 l.words r.entries array) entries)
+        (exactly_iff (greatest_fit 1 0 l.words r.entries array) entries)
 
 -- The room that the symbols of the first k words leave of one more than the limit: none is left where they are over the limit.
 module _ (c : Code) (limit k room : ℕ) (left : room ≡ limit + 1 - sum (tabulate (len_of c) k)) where
-  pub room-more : room - len_of c k ≡ limit + 1 - sum (tabulate (len_of c) (k + 1))
-  room-more = omega (arith, sum_more (len_of c) k)
+  pub room_more : room - len_of c k ≡ limit + 1 - sum (tabulate (len_of c) (k + 1))
+  room_more = omega (arith, sum_more (len_of c) k)
 
-  pub room-left : Exactly (ltb 0 room) (sum (tabulate (len_of c) k) ≤ limit)
-  room-left = exactly-iff ((λ h. omega arith), (λ h. omega arith)) (exactly-lt 0 room)
+  pub room_left : Exactly (ltb 0 room) (sum (tabulate (len_of c) k) ≤ limit)
+  room_left = exactly_iff ((λ h. omega arith), (λ h. omega arith)) (exactly_lt 0 room)
 
 module _ (l : Limits) (c : Code) (words : length c.words ≡ l.words) (rows : length c.rows ≡ l.words) (begins : length c.begins ≡ l.words)
     {m t u : Bool} where
-  pub table-tested : Exactly m (AtMost c.begins (greatest_entries l c.count)) → Exactly t ((k : ℕ) → k < l.words → RecordAt l c k)
+  pub table_tested : Exactly m (AtMost c.begins (greatest_entries l c.count)) → Exactly t ((k : ℕ) → k < l.words → RecordAt l c k)
       → Exactly u (sum (tabulate (len_of c) l.words) ≤ l.total)
       → Exactly (leb 1 c.count && leb c.count l.words && m && (t && u)) (WellFormed l c)
-  table-tested marks records total =
-      exactly-iff (
+  table_tested marks records total =
+      exactly_iff (
         (λ p. record {
           one = p.0.0.0;
           most = p.0.0.1;
@@ -82,4 +82,4 @@ module _ (l : Limits) (c : Code) (words : length c.words ≡ l.words) (rows : le
         }),
         (λ w. (((w.one, w.most), w.marks), ((λ k h. (w.word k h, w.row k h)), w.total))),
       )
-      (exactly-and (exactly-and (exactly-and (exactly-le 1 c.count) (exactly-le c.count l.words)) (exactly-iff (greatest-fit 1 c.count l.words c.begins begins) marks)) (exactly-and records total))
+      (exactly_and (exactly_and (exactly_and (exactly_le 1 c.count) (exactly_le c.count l.words)) (exactly_iff (greatest_fit 1 c.count l.words c.begins begins) marks)) (exactly_and records total))

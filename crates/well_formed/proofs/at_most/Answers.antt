@@ -3,12 +3,12 @@ use Prim.Native.Nat.{◌≤◌, ◌-◌}
 use native.Mathlib.Omega.{arith}
 use lib.ListN.{length}
 use borrow.Author.Rules.{rules}
-use Rattle.code.specs.Laws.Exactly.{exactly-iff, exactly-eq}
-use Rattle.well_formed.specs.AtMost.{NoExcess, excess-none, excess-more}
+use Rattle.code.specs.Laws.Exactly.{exactly_iff, exactly_eq}
+use Rattle.well_formed.specs.AtMost.{NoExcess, excess_none, excess_more}
 use Rattle.well_formed.proofs.at_most.Goals as goal
 
 pub loop-p-init : goal.loop-p-init
-loop-p-init c = let args = c.args in (omega arith, excess-none args.a.now args.most.now)
+loop-p-init c = let args = c.args in (omega arith, excess_none args.a.now args.most.now)
 
 pub overflow_add-p : goal.overflow_add-p
 overflow_add-p c = omega arith
@@ -20,10 +20,10 @@ pub loop-p-preserved : goal.loop-p-preserved
 loop-p-preserved c =
     let l = c.loop-p in
     let args = c.args in
-    (omega arith, rw (c.greater-over.ensures, c.excess.ensures) (excess-more args.a.now args.most.now l.p l.over l.invariant.1))
+    (omega arith, rw (c.greater-over.ensures, c.excess.ensures) (excess_more args.a.now args.most.now l.p l.over l.invariant.1))
 
 pub returns : goal.returns
 returns c =
     let l = c.loop-p in
     let end : l.p ≡ length c.args.a.now = omega arith in
-    exactly-iff (rw end at l.invariant.1) (exactly-eq l.over 0)
+    exactly_iff (rw end at l.invariant.1) (exactly_eq l.over 0)

@@ -4,8 +4,8 @@ use Prim.Native.Nat.{◌≤◌, ◌-◌}
 use native.Mathlib.Omega.{arith}
 use lib.ListN.{length}
 use borrow.Author.Rules.{rules}
-use Rattle.code.specs.Laws.Exactly.{exactly-iff, exactly-eq}
-use Rattle.well_formed.specs.AtMost.{NoExcess, excess-none, excess-more}
+use Rattle.code.specs.Laws.Exactly.{exactly_iff, exactly_eq}
+use Rattle.well_formed.specs.AtMost.{NoExcess, excess_none, excess_more}
 use Rattle.well_formed.proofs.at_most.Given as goal
 
 abbrev pub invariant-loop-p : goal.invariant-loop-p

@@ -3,7 +3,7 @@ use mathlib.Core.Logic.{⊎_elim}
 use Prim.Native.Nat.{◌-◌}
 use lib.ListN.{length}
 use borrow.Author.Rules.{rules}
-use Rattle.well_formed.specs.AtMost.{FilledTo, filled_none, filled_more, filled-past, filled-all}
+use Rattle.well_formed.specs.AtMost.{FilledTo, filled_none, filled_more, filled_past, filled_all}
 use Rattle.well_formed.proofs.fill.Given as goal
 
 abbrev pub invariant-loop-p : goal.invariant-loop-p

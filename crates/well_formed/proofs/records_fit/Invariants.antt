@@ -4,7 +4,7 @@ use Prim.Native.Nat.{ℕ, ◌-◌, ◌≤◌, ◌<◌}
 use native.Mathlib.Omega.{arith}
 use borrow.Author.Rules.{rules}
 use Rattle.code.specs.Definitions.Sheets.{limits}
-use Rattle.code.specs.Laws.Exactly.{Exactly, exactly-and, exactly-none, exactly-more}
+use Rattle.code.specs.Laws.Exactly.{Exactly, exactly_and, exactly_none, exactly_more}
 use Rattle.code.specs.Laws.WellFormed.{RecordAt}
 use Rattle.well_formed.proofs.records_fit.Given as goal
 

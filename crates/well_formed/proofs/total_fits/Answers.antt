@@ -4,7 +4,7 @@ use native.Mathlib.Omega.{arith}
 use borrow.Author.Rules.{rules}
 use Rattle.code.specs.Definitions.Lists.{tabulate, sum}
 use Rattle.code.specs.Laws.WellFormed.{len_of}
-use Rattle.well_formed.proofs.Laws.Tested.{room-more, room-left}
+use Rattle.well_formed.proofs.Laws.Tested.{room_more, room_left}
 use Rattle.well_formed.proofs.total_fits.Goals as goal
 
 pub loop-k-init : goal.loop-k-init
@@ -20,10 +20,10 @@ loop-k-smaller c = omega arith
 pub loop-k-preserved : goal.loop-k-preserved
 loop-k-preserved c =
     let l = c.loop-k in
-    (omega arith, c.minus-room.ensures ∙ room-more c.args.code 128 l.k l.room l.invariant.1)
+    (omega arith, c.minus-room.ensures ∙ room_more c.args.code 128 l.k l.room l.invariant.1)
 
 pub returns : goal.returns
 returns c =
     let l = c.loop-k in
     let end : l.k ≡ 32 = omega arith in
-    rw end at (room-left c.args.code 128 l.k l.room l.invariant.1)
+    rw end at (room_left c.args.code 128 l.k l.room l.invariant.1)

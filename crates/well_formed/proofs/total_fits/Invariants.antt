@@ -6,7 +6,7 @@ use native.Mathlib.Omega.{arith}
 use borrow.Author.Rules.{rules}
 use Rattle.code.specs.Definitions.Lists.{tabulate, sum}
 use Rattle.code.specs.Laws.WellFormed.{len_of}
-use Rattle.well_formed.proofs.Laws.Tested.{room-more, room-left}
+use Rattle.well_formed.proofs.Laws.Tested.{room_more, room_left}
 use Rattle.well_formed.proofs.total_fits.Given as goal
 
 abbrev pub invariant-loop-k : goal.invariant-loop-k

@@ -4,9 +4,9 @@ use native.Mathlib.Omega.{arith}
 use lib.ListN.{length, length-map}
 use borrow.Author.Rules.{rules}
 use Rattle.code.specs.Definitions.Sheets.{limits}
-use Rattle.code.specs.Laws.Exactly.{exactly-iff}
-use Rattle.well_formed.proofs.Laws.Tested.{table-tested}
-use Rattle.well_formed.specs.Round.{well-formed}
+use Rattle.code.specs.Laws.Exactly.{exactly_iff}
+use Rattle.well_formed.proofs.Laws.Tested.{table_tested}
+use Rattle.well_formed.specs.Round.{well_formed_lem}
 use Rattle.well_formed.proofs.well_formed.Goals as goal
 
 pub at_most-requires : goal.at_most-requires
@@ -28,4 +28,4 @@ returns c =
     let records = c.records_fit.ensures in
     let total = c.total_fits.ensures in
     rw (c.and-4.ensures, c.and-3.ensures, c.and-2.ensures, c.and.ensures)
-    (exactly-iff (well-formed (omega arith)) (table-tested limits code words rows begins marks records total))
+    (exactly_iff (well_formed_lem (omega arith)) (table_tested limits code words rows begins marks records total))

@@ -3,7 +3,7 @@ use native.Mathlib.Omega.{arith}
 use lib.ListN.{length-append}
 use borrow.Author.Rules.{rules}
 use borrow.Author.Tests.{eq-eqb, ne_eqb}
-use Rattle.writing.specs.Puts.{puts_then, puts-length}
+use Rattle.writing.specs.Puts.{puts_then, puts_length}
 use Rattle.writing.proofs.put_field.Goals as goal
 
 pub put-requires : goal.put-requires
@@ -21,7 +21,7 @@ pub put-requires-2 : goal.put-requires-2
 put-requires-2 c =
     let f = c.put-next.ensures in
     let room = rw (ne_eqb _ 0 c.if-i-eq0.false) at c.requires in
-    omega (arith, f.end, puts-length f, length-append c.args.sep.now c.args.field.now)
+    omega (arith, f.end, puts_length f, length-append c.args.sep.now c.args.field.now)
 
 pub returns : goal.returns
 returns c = rw (ne_eqb _ 0 c.if-i-eq0.false) (puts_then c.put-next.ensures c.put-2.ensures)

@@ -5,7 +5,7 @@ use lib.ListN.{length, drop, replicate, length-set}
 use Rattle.code.specs.Definitions.Bans.{origin}
 use Rattle.code.specs.Definitions.Lists.{tabulate}
 use Rattle.code.specs.Definitions.Sheets.{limits}
-use Rattle.ban_copies.specs.Adding.{own-next, start}
+use Rattle.ban_copies.specs.Adding.{own_next, start}
 use borrow.Author.Rules.{rules}
 use Rattle.ban_copies.proofs.adding.no_copies.Goals as goal
 
@@ -17,7 +17,7 @@ pub loop-x-preserved : goal.loop-x-preserved
 loop-x-preserved c =
     let l = c.loop-x in
     let n = c.args.n in
-    (search rules, simp length-set l.invariant.1, rw l.invariant.2 (own-next n l.x (search rules) (search rules)))
+    (search rules, simp length-set l.invariant.1, rw l.invariant.2 (own_next n l.x (search rules) (search rules)))
 
 pub returns : goal.returns
 returns c = let l = c.loop-x in let a = c.args in start a.n a.symbols l.x l.invariant.2 (search rules) (search rules)

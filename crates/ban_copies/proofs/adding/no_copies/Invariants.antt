@@ -6,7 +6,7 @@ use lib.ListN.{length, drop, replicate, length-set}
 use Rattle.code.specs.Definitions.Bans.{origin}
 use Rattle.code.specs.Definitions.Lists.{tabulate}
 use Rattle.code.specs.Definitions.Sheets.{limits}
-use Rattle.ban_copies.specs.Adding.{own-next, start}
+use Rattle.ban_copies.specs.Adding.{own_next, start}
 use borrow.Author.Rules.{rules}
 use Rattle.ban_copies.proofs.adding.no_copies.Given as goal
 

@@ -2,8 +2,8 @@ use Prim.Native.Nat.{◌-◌, ◌≤◌}
 use native.Mathlib.Omega.{arith}
 use Rattle.code.specs.Definitions.Sheets.{limits}
 use Rattle.ban_theory.specs.Triples.{bans_from}
-use Rattle.ban_copies.specs.Held.{held-own, held-again}
-use Rattle.ban_copies.proofs.Laws.Filling.{Filled, filled_none, filled_more, filled-all}
+use Rattle.ban_copies.specs.Held.{held_own, held_again}
+use Rattle.ban_copies.proofs.Laws.Filling.{Filled, filled_none, filled_more, filled_all}
 use borrow.Author.Rules.{rules}
 use Rattle.ban_copies.proofs.filling.fill.Goals as goal
 
@@ -13,10 +13,10 @@ loop-x-init c =
     (search rules, omega (arith, held.originals, held.number, held.most), filled_none c.args.code (bans_from c.args.numbers.now c.args.bans))
 
 pub origin_of-origin-requires : goal.origin_of-origin-requires
-origin_of-origin-requires c = (held-again c.requires.2, search rules)
+origin_of-origin-requires c = (held_again c.requires.2, search rules)
 
 pub fill_row-row-requires : goal.fill_row-row-requires
-fill_row-row-requires c = let p = c.requires in (held-own p.2, p.1, search rules)
+fill_row-row-requires c = let p = c.requires in (held_own p.2, p.1, search rules)
 
 pub loop-x-preserved : goal.loop-x-preserved
 loop-x-preserved c =
@@ -29,4 +29,4 @@ pub returns : goal.returns
 returns c =
     let a = c.args in
     let p = c.requires in
-    filled-all a.code (bans_from a.numbers.now a.bans) p.0 p.2 c.loop-x.invariant.2 (search rules)
+    filled_all a.code (bans_from a.numbers.now a.bans) p.0 p.2 c.loop-x.invariant.2 (search rules)

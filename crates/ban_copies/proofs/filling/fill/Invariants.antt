@@ -3,8 +3,8 @@ use Prim.Native.Nat.{◌-◌, ◌≤◌}
 use native.Mathlib.Omega.{arith}
 use Rattle.code.specs.Definitions.Sheets.{limits}
 use Rattle.ban_theory.specs.Triples.{bans_from}
-use Rattle.ban_copies.specs.Held.{held-own, held-again}
-use Rattle.ban_copies.proofs.Laws.Filling.{Filled, filled_none, filled_more, filled-all}
+use Rattle.ban_copies.specs.Held.{held_own, held_again}
+use Rattle.ban_copies.proofs.Laws.Filling.{Filled, filled_none, filled_more, filled_all}
 use borrow.Author.Rules.{rules}
 use Rattle.ban_copies.proofs.filling.fill.Given as goal
 

@@ -5,10 +5,10 @@ use native.Mathlib.Omega.{arith}
 use lib.ListN.{length, drop, replicate, length-set}
 use Rattle.code.specs.Definitions.Lists.{tabulate}
 use Rattle.code.specs.Definitions.Sheets.{limits}
-use Rattle.code.specs.Laws.Filling.{fill-next}
+use Rattle.code.specs.Laws.Filling.{fill_next}
 use Rattle.ban_theory.specs.Triples.{bans_from}
 use Rattle.ban_copies.specs.Coming.{entry_by, asked}
-use Rattle.ban_copies.proofs.Laws.Filling.{entry_next, row-filled}
+use Rattle.ban_copies.proofs.Laws.Filling.{entry_next, row_filled}
 use borrow.Author.Rules.{rules}
 use Rattle.ban_copies.proofs.filling.fill_row.Goals as goal
 
@@ -26,11 +26,11 @@ loop-y-preserved c =
     let p = c.requires in
     let bs = bans_from a.numbers.now a.bans in
     let v = entry_next a.row.entries a.copies.originals bs a.x l.y (omega (arith, p.0.number)) c.may_come.ensures c.bit.ensures in
-    (search rules, simp length-set l.invariant.1, rw (l.invariant.2, v) (fill-next (entry_by a.row.entries a.copies.originals bs a.x) (replicate limits.words 0) l.y (omega (arith, p.0.number, p.0.most))))
+    (search rules, simp length-set l.invariant.1, rw (l.invariant.2, v) (fill_next (entry_by a.row.entries a.copies.originals bs a.x) (replicate limits.words 0) l.y (omega (arith, p.0.number, p.0.most))))
 
 pub returns : goal.returns
 returns c =
     let l = c.loop-y in
     let a = c.args in
     let p = c.requires in
-    row-filled a.row.entries a.copies.originals (bans_from a.numbers.now a.bans) a.x l.y l.invariant.2 (omega (arith, p.0.number)) (omega (arith, p.0.number, p.0.most))
+    row_filled a.row.entries a.copies.originals (bans_from a.numbers.now a.bans) a.x l.y l.invariant.2 (omega (arith, p.0.number)) (omega (arith, p.0.number, p.0.most))

@@ -6,10 +6,10 @@ use native.Mathlib.Omega.{arith}
 use lib.ListN.{length, drop, replicate, length-set}
 use Rattle.code.specs.Definitions.Lists.{tabulate}
 use Rattle.code.specs.Definitions.Sheets.{limits}
-use Rattle.code.specs.Laws.Filling.{fill-next}
+use Rattle.code.specs.Laws.Filling.{fill_next}
 use Rattle.ban_theory.specs.Triples.{bans_from}
 use Rattle.ban_copies.specs.Coming.{entry_by, asked}
-use Rattle.ban_copies.proofs.Laws.Filling.{entry_next, row-filled}
+use Rattle.ban_copies.proofs.Laws.Filling.{entry_next, row_filled}
 use borrow.Author.Rules.{rules}
 use Rattle.ban_copies.proofs.filling.fill_row.Given as goal
 

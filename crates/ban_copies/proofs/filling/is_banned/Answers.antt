@@ -1,6 +1,6 @@
 use Prim.Native.Nat.{◌-◌, ◌≤◌}
 use native.Mathlib.Omega.{arith}
-use Rattle.ban_copies.specs.Coming.{NoBan, ban-found, ban-passed, ban-none}
+use Rattle.ban_copies.specs.Coming.{NoBan, ban_found, ban_passed, ban_none}
 use borrow.Author.Rules.{rules}
 use Rattle.ban_copies.proofs.filling.is_banned.Goals as goal
 
@@ -10,16 +10,16 @@ loop-i-init c = (search rules, λ j h. absurd (omega arith))
 pub returns-then-is_ban : goal.returns-then-is_ban
 returns-then-is_ban c =
     let a = c.args in
-    ban-found a.numbers.now a.x a.y a.z c.loop-i.i c.is_ban.ensures a.bans (search rules) c.if-is_ban.true
+    ban_found a.numbers.now a.x a.y a.z c.loop-i.i c.is_ban.ensures a.bans (search rules) c.if-is_ban.true
 
 pub loop-i-preserved : goal.loop-i-preserved
 loop-i-preserved c =
     let a = c.args in
     let l = c.loop-i in
-    (search rules, ban-passed a.numbers.now a.x a.y a.z l.i c.is_ban.ensures l.invariant.1 c.if-is_ban.false)
+    (search rules, ban_passed a.numbers.now a.x a.y a.z l.i c.is_ban.ensures l.invariant.1 c.if-is_ban.false)
 
 pub returns : goal.returns
 returns c =
     let a = c.args in
     let l = c.loop-i in
-    ban-none a.numbers.now a.bans a.x a.y a.z l.i l.invariant.1 (search rules)
+    ban_none a.numbers.now a.bans a.x a.y a.z l.i l.invariant.1 (search rules)

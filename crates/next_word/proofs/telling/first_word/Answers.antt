@@ -2,7 +2,7 @@
 use mathlib.Core.Path.{refl, sym}
 use native.Mathlib.Omega.{arith}
 use lib.Seq.{length-take-le}
-use Rattle.next_word.proofs.Laws.Telling.{picked-laid}
+use Rattle.next_word.proofs.Laws.Telling.{picked_laid}
 use Rattle.next_word.proofs.telling.first_word.Goals as goal
 
 pub lay-longest-requires : goal.lay-longest-requires
@@ -18,4 +18,4 @@ find_word-requires c =
 
 pub returns : goal.returns
 returns c =
-    picked-laid c.lay-longest.ensures c.find_word.ensures
+    picked_laid c.lay-longest.ensures c.find_word.ensures

@@ -1,13 +1,13 @@
 -- `expand_member` by whether the member turns.
 use borrow.Author.Rules.{rules}
-use Rattle.pair_groups.specs.Carrying.{member-high, member-number, member-turns, member-straight}
+use Rattle.pair_groups.specs.Carrying.{member_high, member_number, member_turns, member_straight}
 use Rattle.pair_groups.proofs.members.expand_member.Goals as goal
 
 pub turning-y-requires : goal.turning-y-requires
-turning-y-requires c = (search rules, search member-high)
+turning-y-requires c = (search rules, search member_high)
 
 pub expand_words-requires : goal.expand_words-requires
-expand_words-requires c = (search rules, search member-turns)
+expand_words-requires c = (search rules, search member_turns)
 
 pub expand_slots-requires : goal.expand_slots-requires
-expand_slots-requires c = (search rules, search member-number, search member-straight)
+expand_slots-requires c = (search rules, search member_number, search member_straight)

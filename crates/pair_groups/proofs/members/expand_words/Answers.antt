@@ -1,6 +1,6 @@
 use borrow.Author.Rules.{rules}
-use Rattle.pair_groups.specs.Parts.{goal-again, expanding-next}
-use Rattle.pair_groups.proofs.Laws.Words.{words-ended}
+use Rattle.pair_groups.specs.Parts.{goal_again, expanding_next}
+use Rattle.pair_groups.proofs.Laws.Words.{words_ended}
 use Rattle.pair_groups.proofs.members.expand_words.Goals as goal
 
 pub loop-x-init : goal.loop-x-init
@@ -10,13 +10,13 @@ pub expand_word-requires : goal.expand_word-requires
 expand_word-requires c = (search rules, search rules, search rules)
 
 pub returns-in-Goal : goal.returns-in-Goal
-returns-in-Goal c = search goal-again
+returns-in-Goal c = search goal_again
 
 pub loop-x-preserved : goal.loop-x-preserved
-loop-x-preserved c = (search expanding-next, search rules, cc)
+loop-x-preserved c = (search expanding_next, search rules, cc)
 
 pub returns : goal.returns
-returns c = search words-ended
+returns c = search words_ended
 
 pub shape_of-work-in-Goal : goal.shape_of-work-in-Goal
 shape_of-work-in-Goal c = cc

@@ -3,7 +3,7 @@ use mathlib.Core.Path.{refl, sym, ◌∙◌}
 use mathlib.Core.List.{map}
 use lib.ListN.{length-set, length-map, get_or-map}
 use lib.Seq.{take_all}
-use Rattle.copying.specs.Runs.{sets-next}
+use Rattle.copying.specs.Runs.{sets_next}
 use Rattle.csv_records.specs.Digits.{digit_of}
 use Rattle.printing.proofs.puts.put_digits.Goals as goal
 
@@ -18,7 +18,7 @@ loop-i-preserved c = let l = c.loop-i in
     let a = c.args in
     let m = a.message.now in
     let d = c.digit.ensures ∙ sym (get_or-map digit_of m l.i 0) in
-    (omega arith, simp length-set l.invariant.1, rw (d, l.invariant.2) (sets-next (map digit_of m) a.out.now a.at l.i (digit_of 0) (omega (arith, length-map m digit_of))))
+    (omega arith, simp length-set l.invariant.1, rw (d, l.invariant.2) (sets_next (map digit_of m) a.out.now a.at l.i (digit_of 0) (omega (arith, length-map m digit_of))))
 
 pub shape_of-out : goal.shape_of-out
 shape_of-out c = c.loop-i.invariant.1

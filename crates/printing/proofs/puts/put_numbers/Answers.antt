@@ -4,12 +4,12 @@ use mathlib.Core.Path.{refl}
 use mathlib.Core.List.{map}
 use lib.ListN.{length-map}
 use Rattle.printing.specs.Printed.{decimal}
-use Rattle.writing.specs.Fields.{none-put, field_fits, field_put, all-put}
+use Rattle.writing.specs.Fields.{none_put, field_fits, field_put, all_put}
 use Rattle.printing.proofs.Laws.Numbers.{number_at}
 use Rattle.printing.proofs.puts.put_numbers.Goals as goal
 
 pub loop-i-init : goal.loop-i-init
-loop-i-init c = let a = c.args in (omega arith, refl, none-put a.sep.now (map decimal a.numbers.now) _ _)
+loop-i-init c = let a = c.args in (omega arith, refl, none_put a.sep.now (map decimal a.numbers.now) _ _)
 
 pub put_number-next-requires : goal.put_number-next-requires
 put_number-next-requires c =
@@ -35,4 +35,4 @@ returns c =
     let l = c.loop-i in
     let a = c.args in
     let n = a.numbers.now in
-    all-put a.sep.now (map decimal n) l.i l.invariant.2 (omega (arith, length-map n decimal))
+    all_put a.sep.now (map decimal n) l.i l.invariant.2 (omega (arith, length-map n decimal))

@@ -3,12 +3,12 @@ use Prim.Native.Nat.{◌-◌}
 use native.Mathlib.Omega.{arith}
 use Rattle.code.specs.Definitions.Sheets.{limits}
 use Rattle.code.specs.Laws.Cells.{zeros}
-use Rattle.renumbering.specs.Listing.{listed-none}
-use Rattle.renumbering.specs.Origins.{ListedTo, word_room, word-listed, word-done, by-origin}
+use Rattle.renumbering.specs.Listing.{listed_none}
+use Rattle.renumbering.specs.Origins.{ListedTo, word_room, word_listed, word_done, by_origin_lem}
 use Rattle.renumbering.proofs.origins.by_origin.Goals as goal
 
 pub loop-z-init : goal.loop-z-init
-loop-z-init c = listed-none _ _ _ (zeros limits.words) (search rules)
+loop-z-init c = listed_none _ _ _ (zeros limits.words) (search rules)
 
 pub bounds-numbers-at : goal.bounds-numbers-at
 bounds-numbers-at c = omega (arith, word_room c.requires _ (search rules) c.loop-z.invariant)
@@ -20,10 +20,10 @@ pub list_copies-at-requires : goal.list_copies-at-requires
 list_copies-at-requires c =
     let p = c.requires in
     let l = c.loop-z in
-    (p, word-listed p l.z (search rules) l.invariant)
+    (p, word_listed p l.z (search rules) l.invariant)
 
 pub loop-z-preserved : goal.loop-z-preserved
-loop-z-preserved c = word-done c.requires _ c.list_copies-at.ensures
+loop-z-preserved c = word_done c.requires _ c.list_copies-at.ensures
 
 pub returns : goal.returns
-returns c = by-origin c.requires c.loop-z.invariant (search rules)
+returns c = by_origin_lem c.requires c.loop-z.invariant (search rules)

@@ -4,8 +4,8 @@ use Prim.Native.Nat.{◌-◌}
 use native.Mathlib.Omega.{arith}
 use Rattle.code.specs.Definitions.Sheets.{limits}
 use Rattle.code.specs.Laws.Cells.{zeros}
-use Rattle.renumbering.specs.Listing.{listed-none}
-use Rattle.renumbering.specs.Origins.{ListedTo, word_room, word-listed, word-done, by-origin}
+use Rattle.renumbering.specs.Listing.{listed_none}
+use Rattle.renumbering.specs.Origins.{ListedTo, word_room, word_listed, word_done, by_origin_lem}
 use Rattle.renumbering.proofs.origins.by_origin.Given as goal
 
 abbrev pub invariant-loop-z : goal.invariant-loop-z

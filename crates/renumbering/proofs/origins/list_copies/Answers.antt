@@ -3,7 +3,7 @@ use mathlib.Core.Path.{◌≡◌}
 use Prim.Native.Nat.{◌-◌, ◌≤◌}
 use native.Mathlib.Omega.{arith}
 use Rattle.code.specs.Definitions.Sheets.{limits}
-use Rattle.renumbering.specs.Origins.{ListedTo, number-room, number-listed, copy_passed}
+use Rattle.renumbering.specs.Origins.{ListedTo, number_room, number_listed, copy_passed}
 use Rattle.renumbering.proofs.origins.list_copies.Goals as goal
 use Rattle.renumbering.proofs.origins.list_copies.Goals.{then-origins-x, else-origins-x}
 
@@ -16,18 +16,18 @@ overflow_cast-origins c = omega (arith, c.shared_slice_known-1.given c.loop-x.x)
 pub bounds-numbers-end : goal.bounds-numbers-end
 bounds-numbers-end c =
     let l = c.loop-x in
-    omega (arith, number-room c.requires.0 _ _ l.invariant.1 (search rules) c.if-origins-x.true)
+    omega (arith, number_room c.requires.0 _ _ l.invariant.1 (search rules) c.if-origins-x.true)
 
 pub overflow_add-end : goal.overflow_add-end
 overflow_add-end c =
     let l = c.loop-x in
-    omega (arith, number-room c.requires.0 _ _ l.invariant.1 (search rules) c.if-origins-x.true)
+    omega (arith, number_room c.requires.0 _ _ l.invariant.1 (search rules) c.if-origins-x.true)
 
 pub loop-x-preserved : goal.loop-x-preserved
 loop-x-preserved c =
     let l = c.loop-x in (
       search rules,
-      elim c.if-origins-x.branch [ then-origins-x w ↦ rw (w.numbers-is, w.end-is) (number-listed c.requires.0 c.args.z l.x l.invariant.1 (search rules) w.if-origins-x.true) | else-origins-x w ↦ rw (w.numbers-is, w.end-is) (copy_passed c.requires.0 c.args.z l.x l.invariant.1 (search rules) w.if-origins-x.false) ],
+      elim c.if-origins-x.branch [ then-origins-x w ↦ rw (w.numbers-is, w.end-is) (number_listed c.requires.0 c.args.z l.x l.invariant.1 (search rules) w.if-origins-x.true) | else-origins-x w ↦ rw (w.numbers-is, w.end-is) (copy_passed c.requires.0 c.args.z l.x l.invariant.1 (search rules) w.if-origins-x.false) ],
     )
 
 pub returns : goal.returns

@@ -5,7 +5,7 @@ use mathlib.Core.Logic.{⊎_elim}
 use Prim.Native.Nat.{◌-◌, ◌≤◌}
 use native.Mathlib.Omega.{arith}
 use Rattle.code.specs.Definitions.Sheets.{limits}
-use Rattle.renumbering.specs.Origins.{ListedTo, number-room, number-listed, copy_passed}
+use Rattle.renumbering.specs.Origins.{ListedTo, number_room, number_listed, copy_passed}
 use Rattle.renumbering.proofs.origins.list_copies.Given as goal
 
 abbrev pub invariant-loop-x : goal.invariant-loop-x

@@ -2,7 +2,7 @@ use borrow.Author.Rules.{rules}
 use Prim.Native.Nat.{◌-◌}
 use native.Mathlib.Omega.{arith}
 use Rattle.renumbering.specs.Reordering.{Filled, filled_none}
-use Rattle.renumbering.proofs.Laws.Naming.{name_at, unnamed, named_more, named-all}
+use Rattle.renumbering.proofs.Laws.Naming.{name_at, unnamed, named_more, named_all}
 use Rattle.renumbering.proofs.origins.rename.Goals as goal
 
 pub loop-i-init : goal.loop-i-init
@@ -21,4 +21,4 @@ pub loop-i-preserved : goal.loop-i-preserved
 loop-i-preserved c = named_more c.args.names.now _ _ c.requires.0 c.loop-i.invariant (search rules)
 
 pub returns : goal.returns
-returns c = named-all c.args.names.now _ _ c.requires.0 c.loop-i.invariant (search rules)
+returns c = named_all c.args.names.now _ _ c.requires.0 c.loop-i.invariant (search rules)

@@ -1,6 +1,6 @@
 -- One of the rules forbids, or none does.
 use Rattle.code.specs.Definitions.Tables.{symbols_of}
-use Rattle.turkish_matrix.specs.Rules.{entry_zero, entry-one}
+use Rattle.turkish_matrix.specs.Rules.{entry_zero, entry_one}
 use Rattle.turkish_matrix.proofs.rules.entry_for.Goals as goal
 
 pub returns-then-or : goal.returns-then-or
@@ -13,4 +13,4 @@ pub returns-else-or : goal.returns-else-or
 returns-else-or c =
     let a = c.args in
     let by-vowel = c.vowel_rule-by_vowel.ensures in
-    entry-one (symbols_of a.x) (symbols_of a.y) by-vowel c.consonant_rule-by_consonants.ensures c.or.ensures c.if-or.false
+    entry_one (symbols_of a.x) (symbols_of a.y) by-vowel c.consonant_rule-by_consonants.ensures c.or.ensures c.if-or.false

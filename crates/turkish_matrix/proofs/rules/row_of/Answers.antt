@@ -1,24 +1,24 @@
 use mathlib.Core.Path.{refl}
-use Rattle.turkish.proofs.Laws.Padding.{padding-none, padding-next}
-use Rattle.turkish_matrix.proofs.Laws.Rows.{word-spelt, entry-is, row-filled}
+use Rattle.turkish.proofs.Laws.Padding.{padding_none, padding_next}
+use Rattle.turkish_matrix.proofs.Laws.Rows.{word_spelt, entry_is, row_filled}
 use borrow.Author.Rules.{rules}
 use Rattle.turkish_matrix.proofs.rules.row_of.Goals as goal
 
 pub loop-y-init : goal.loop-y-init
-loop-y-init c = (search rules, padding-none refl)
+loop-y-init c = (search rules, padding_none refl)
 
 pub entry_for-requires : goal.entry_for-requires
 entry_for-requires c =
     let w = c.words-words.ensures in
-    let row = word-spelt c.args.x c.requires w in
-    let column = word-spelt c.loop-y.y (search rules) w in
+    let row = word_spelt c.args.x c.requires w in
+    let column = word_spelt c.loop-y.y (search rules) w in
     search (row, column)
 
 pub loop-y-preserved : goal.loop-y-preserved
 loop-y-preserved c =
     let l = c.loop-y in
-    let e = entry-is c.args.x l.y c.requires (search rules) c.words-words.ensures c.entry_for.ensures in
-    (search rules, padding-next (search rules) e l.invariant.1)
+    let e = entry_is c.args.x l.y c.requires (search rules) c.words-words.ensures c.entry_for.ensures in
+    (search rules, padding_next (search rules) e l.invariant.1)
 
 pub returns : goal.returns
-returns c = row-filled c.args.x c.requires (search rules) (search rules) c.loop-y.invariant.1
+returns c = row_filled c.args.x c.requires (search rules) (search rules) c.loop-y.invariant.1
