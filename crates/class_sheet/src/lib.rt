@@ -138,6 +138,7 @@ fn take_body(s: &[u8]) -> TakenClasses
 
 // Takes in a class sheet of any bytes. The answer is the lowest refusal that holds, of 1 and 18 to 20, with the classes without any letter; or that the sheet is
 // accepted, with its classes.
+#[tactic(auto, using(crate::proofs::Laws::Taking::way_long))]
 pub fn take_classes(sheet: &[u8]) -> TakenClasses
     ensures { result ≡ taken_classes limits sheet.now }
 {

@@ -12,6 +12,7 @@ use code::Code;
 use pair_places::{Layout, Pair, first_pair, may_come, no_pair, word_count};
 
 // Whether words `x` and `y` may both come behind `z`, which ends a permitted sequence or is the start.
+#[tactic(auto, using(crate::specs::Rivals::behind_none))]
 fn both_behind(places: &[u8], x: usize, y: usize, z: usize) -> bool
     requires { Laid places.now × (x < limits.words) × (y < limits.words) × (z ≤ limits.words) }
     ensures { result ≡ both_behind places.now x y z }

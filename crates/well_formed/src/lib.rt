@@ -80,6 +80,7 @@ fn greatest_symbols(n: usize) -> [u8; Word::SYMBOLS]
 }
 
 // Word k of a code of n words.
+#[tactic(auto, using(crate::proofs::Laws::Tested::word_long))]
 fn word_fits(w: Word, k: usize, n: usize) -> bool
     ensures { Exactly result (WordFits limits n k w) }
 {

@@ -2,19 +2,17 @@
 use mathlib.Core.Path.{sym, ◌∙◌}
 use lib.Seq.{length-take-le}
 use Rattle.code.specs.Laws.Clean.{clean_body}
-use Rattle.class_sheet.proofs.Laws.Taking.{way_empty, way_long, way_bytes, way_records}
+use Rattle.class_sheet.proofs.Laws.Taking.{way_empty, way_bytes, way_records}
+use native.Mathlib.Omega.{arith}
 use Rattle.class_sheet.proofs.take_classes.Goals as goal
 
 pub returns-then-n-eq0 : goal.returns-then-n-eq0
 returns-then-n-eq0 c = c.refuse.ensures ∙ way_empty _ c.if-n-eq0.true
 
-pub returns-then-n-gt-BYTES : goal.returns-then-n-gt-BYTES
-returns-then-n-gt-BYTES c = c.refuse-then-n-gt-BYTES.ensures ∙ way_long _ c.if-n-gt-BYTES.true
-
 pub returns-then-bad_bytes : goal.returns-then-bad_bytes
 returns-then-bad_bytes c =
     c.refuse-then-bad_bytes.ensures
-    ∙ way_bytes _ c.if-n-eq0.false c.if-n-gt-BYTES.false (sym c.bad_bytes.ensures ∙ c.if-bad_bytes.true)
+    ∙ way_bytes _ c.if-n-eq0.false (omega arith) (sym c.bad_bytes.ensures ∙ c.if-bad_bytes.true)
 
 pub slice_bounds-take_body-end : goal.slice_bounds-take_body-end
 slice_bounds-take_body-end c = sym (length-take-le _ c.before.before.before.before.before.before.before.args.sheet.now c.body_len-e.ensures.1)
@@ -28,5 +26,5 @@ pub returns : goal.returns
 returns c =
     c.take_body.ensures
     ∙ rw c.body_len-e.ensures.0
-    (way_records _ c.if-n-eq0.false c.if-n-gt-BYTES.false
+    (way_records _ c.if-n-eq0.false (omega arith)
     (sym c.bad_bytes.ensures ∙ c.if-bad_bytes.false))

@@ -7,7 +7,7 @@ use Rattle.code.specs.Definitions.Sheets.{limits}
 use Rattle.code.specs.Laws.WellFormed.{len_of, WordFits}
 use Rattle.read_sets.specs.Words.{LaidWords, words_none, words_more}
 use Rattle.read_sets.proofs.lay_words.Goals as goal
-use Rattle.read_sets.proofs.lay_words.Goals.{then-longest-w, else-longest-w, In-loop-x}
+use Rattle.read_sets.proofs.lay_words.Goals.{In-loop-x}
 
 -- The next word fits, and is one that the arrays have.
 fits : (c : In-loop-x)
@@ -62,11 +62,7 @@ loop-x-preserved c =
     let w = fits (goal.at.loop-x-preserved c).In-loop-x in
     let s = c.lay_word.ensures in
     let placed = c.put.ensures in
-    let kept : l.longest ≤ c.if-longest-w.longest = elim c.if-longest-w.branch [ then-longest-w o ↦ omega arith | else-longest-w o ↦ omega arith ] in
-    let own : len_of code l.x ≤ c.if-longest-w.longest = elim c.if-longest-w.branch [ then-longest-w o ↦ omega arith | else-longest-w o ↦ omega arith ] in
-    let short : c.if-longest-w.longest ≤ limits.symbols = elim c.if-longest-w.branch [ then-longest-w o ↦ omega (arith, w.short) | else-longest-w o ↦ omega (arith, l.invariant.4.short) ] in
-    let m = words_more l.invariant.4 w c.loop-x-test.true (inside (goal.at.loop-x-preserved c).In-loop-x) s kept own short in
-    (omega arith, s.long ∙ l.invariant.1, rw placed (simp length-set l.invariant.2), simp length-set l.invariant.3, rw placed m)
+    (omega arith, s.long ∙ l.invariant.1, rw placed (simp length-set l.invariant.2), simp length-set l.invariant.3, rw placed (words_more l.invariant.4 w c.loop-x-test.true (inside (goal.at.loop-x-preserved c).In-loop-x) s (grind arith) (grind arith) (grind (arith, w.short, l.invariant.4.short))))
 
 pub shape_of-having : goal.shape_of-having
 shape_of-having c = c.loop-x.invariant.1

@@ -5,7 +5,7 @@ use native.Mathlib.Omega.{arith}
 use lib.ListN.{length}
 use borrow.Author.Rules.{rules}
 use Rattle.code.specs.Definitions.Sheets.{limits}
-use Rattle.well_formed.proofs.Laws.Tested.{word_unused, word_long, word_used}
+use Rattle.well_formed.proofs.Laws.Tested.{word_unused, word_used}
 use Rattle.well_formed.proofs.word_fits.Goals as goal
 
 pub at_most-requires : goal.at_most-requires
@@ -20,9 +20,6 @@ returns-then-n-k c =
     let tested = rw c.greatest_symbols-none.ensures at c.at_most.ensures in
     rw c.and.ensures (word_unused limits args.n args.k args.w array c.if-n-k.true tested)
 
-pub returns-then-w-gt-SYMBOLS : goal.returns-then-w-gt-SYMBOLS
-returns-then-w-gt-SYMBOLS c = let args = c.args in word_long limits args.n args.k args.w c.if-w-gt-SYMBOLS.true
-
 pub at_most-requires-2 : goal.at_most-requires-2
 at_most-requires-2 c =
     let array : length c.args.w.symbols ≡ limits.symbols = search rules in
@@ -33,4 +30,4 @@ returns c =
     let args = c.args in
     let array : length args.w.symbols ≡ limits.symbols = search rules in
     let tested = rw c.greatest_symbols-most.ensures at c.at_most-2.ensures in
-    rw c.and-2.ensures (word_used limits args.n args.k args.w array c.if-n-k.false c.if-w-gt-SYMBOLS.false tested)
+    rw c.and-2.ensures (word_used limits args.n args.k args.w array c.if-n-k.false (omega arith) tested)
