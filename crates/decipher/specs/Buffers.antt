@@ -38,6 +38,9 @@ module _ {m f g w : ℕ} where
       back (inr (inr (inl h))) = absurd (omega arith)
       back (inr (inr (inr h))) = h
 
+  -- What `is_short` returns at each of its four ways out.
+  pub ruleset short_ways = (short_message, short_first, short_second, short_work)
+
   pub room_not_short : Room m f g w → Short m f g w → ⊥
   room_not_short r (inl h) = omega (arith, r.message)
   room_not_short r (inr (inl h)) = omega (arith, r.first)

@@ -18,7 +18,7 @@ use pair_shortest::Search;
 use well_enlarged::well_enlarged;
 
 // Whether a buffer is too short for a verdict, by the lengths of the four.
-#[tactic(auto, using(crate::specs::Buffers::short_message, crate::specs::Buffers::short_first, crate::specs::Buffers::short_second, crate::specs::Buffers::short_work))]
+#[tactic(auto, using(crate::specs::Buffers::short_ways))]
 fn is_short(message: usize, first: usize, second: usize, work: usize) -> bool
     ensures { Exactly result (Short message first second work) }
 {
