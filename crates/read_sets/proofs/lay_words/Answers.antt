@@ -61,8 +61,15 @@ loop-x-preserved c =
     let code = c.args.code in
     let w = fits (goal.at.loop-x-preserved c).In-loop-x in
     let s = c.lay_word.ensures in
-    let placed = c.put.ensures in
-    (omega arith, s.long ∙ l.invariant.1, rw placed (simp length-set l.invariant.2), simp length-set l.invariant.3, rw placed (words_more l.invariant.4 w c.loop-x-test.true (inside (goal.at.loop-x-preserved c).In-loop-x) s (grind arith) (grind arith) (grind (arith, w.short, l.invariant.4.short))))
+    let placed = c.put.ensures in (
+      omega arith,
+      s.long ∙ l.invariant.1,
+      rw placed (simp length-set l.invariant.2),
+      simp length-set l.invariant.3,
+      rw placed
+          (words_more l.invariant.4 w c.loop-x-test.true (inside (goal.at.loop-x-preserved c).In-loop-x) s
+          (grind arith) (grind arith) (grind (arith, w.short, l.invariant.4.short))),
+    )
 
 pub shape_of-having : goal.shape_of-having
 shape_of-having c = c.loop-x.invariant.1
