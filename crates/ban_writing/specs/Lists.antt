@@ -10,7 +10,7 @@ use native.Mathlib.Omega.{arith}
 use Rattle.std.proofs.Math.Dec.{eqb}
 use borrow.Author.Tests.{eq-eqb, ne_eqb}
 use Rattle.code.specs.Definitions.Lists.{any, every, sum}
-use Rattle.code.specs.Definitions.Sheets.{is_digit, fields, bad_bytes}
+use Rattle.code.specs.Definitions.Sheets.{is_digit, bad_bytes}
 use Rattle.code.specs.Definitions.Bans.{Ban, is_ban, banned_by}
 use Rattle.code.specs.Definitions.BanLists.{ban_of, bad_ban, ban_records, refused16, bans_of}
 use Rattle.code.specs.Laws.Lists.{or_neither}

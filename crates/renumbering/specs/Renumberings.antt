@@ -9,7 +9,6 @@ use Rattle.code.specs.declared.Word.{Word}
 use Rattle.code.specs.declared.Row.{Row}
 use Rattle.code.specs.declared.Code.{Code}
 use Rattle.code.specs.declared.Limits.{Limits}
-use Rattle.code.specs.Definitions.Lists.{tabulate}
 use Rattle.code.specs.Definitions.Tables.{size, word, symbols_of, no_word, no_row, entry_of, table_of}
 use Rattle.code.specs.Definitions.Renumbering.{number_at, old_number, reordered, reordered_row, renumbered_code}
 use Rattle.code.specs.Laws.Lists.{length-tabulate, get_d_tabulate, tabulate_cell}

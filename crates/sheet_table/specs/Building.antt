@@ -13,7 +13,7 @@ use Rattle.code.specs.Laws.Filling.{fill_next, fill_end}
 use Rattle.code.specs.Laws.Clean.{Clean, record_fields}
 use Rattle.code.specs.Laws.Fits.{Fits}
 use Rattle.code.specs.Laws.Records.{begins_past}
-use Rattle.csv_records.specs.Fields.{leading, leading_at}
+use Rattle.csv_records.specs.Fields.{leading}
 use Rattle.csv_records.specs.Symbols.{field_symbol}
 use Rattle.sheet_table.specs.Rows.{Entries}
 use Rattle.sheet_table.specs.Standing.{entry_of, row_from, row_start, mark_at, RecordAt, record_at, entry_digit, entry_symbol, next_record}

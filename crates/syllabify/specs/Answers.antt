@@ -1,5 +1,5 @@
 -- What the program answers for a text, whole: the refusal of the code sheet, that of the class sheet, that of the text, or the text split into syllables.
-use Rattle.std.specs.Prelude.{◌≡◌, Bool, true, List, [], ℕ, ◌+◌, ◌*◌, ◌≤◌, ◌<◌, length, take, if◌then◌else◌}
+use Rattle.std.specs.Prelude.{◌≡◌, Bool, true, List, ℕ, ◌+◌, ◌*◌, ◌≤◌, ◌<◌, length, take, if◌then◌else◌}
 use Rattle.code.specs.declared.ByteCount.{ByteCount}
 use Rattle.code.specs.declared.Refusal.{Refusal}
 use Rattle.code.specs.declared.Refusal.TheVariants.{SheetLength, MessageLength}

@@ -6,7 +6,7 @@ use mathlib.Core.List.{List, map}
 use Prim.Native.Nat.{ℕ, ◌+◌, ◌*◌, ◌/◌, ◌%◌, ◌≤◌, ◌<◌}
 use Rattle.std.proofs.Math.ListN.{length}
 use Rattle.code.specs.Definitions.Lists.{any, every, tabulate, sum, join}
-use Rattle.code.specs.Definitions.Sheets.{is_digit, fields, grid, bad_bytes}
+use Rattle.code.specs.Definitions.Sheets.{is_digit, grid, bad_bytes}
 use Rattle.code.specs.Definitions.ClassSheets.{range_of, ranges_of, malformed, different_bytes}
 use Rattle.code.specs.Definitions.Texts.{other, class_of, is_letter}
 use Rattle.code.specs.Laws.Lists.{length-tabulate, tabulate_same, tabulate-map, map-tabulate, any-tabulate, sum_past, sum_bound}

@@ -11,7 +11,7 @@ use Rattle.code.specs.declared.Code.{Code}
 use Rattle.code.specs.declared.Limits.{Limits}
 use Rattle.code.specs.Definitions.Lists.{every, tabulate, sum}
 use Rattle.code.specs.Definitions.Tables.{no_word, symbols_of, entry_of}
-use Rattle.code.specs.Definitions.Sheets.{is_digit, grid, fields, bad_bytes}
+use Rattle.code.specs.Definitions.Sheets.{is_digit, grid, bad_bytes}
 use Rattle.code.specs.Laws.Lists.{length-tabulate, map-tabulate, every_all, every-tabulate, sum_past, sum_bound}
 use Rattle.code.specs.Laws.WellFormed.{len_of, WellFormed}
 use Rattle.csv_records.specs.Digits.{digit_of, digit_digit}

@@ -3,7 +3,6 @@ use Rattle.code.specs.Definitions.Lists.{tabulate}
 use Rattle.code.specs.Definitions.Bans.{origin}
 use Rattle.code.specs.Definitions.Enlarged.{plain_of, blank_enlarged}
 use Rattle.code.specs.Definitions.Sheets.{blank_code, code_of}
-use borrow.Author.Rules.{rules}
 use Rattle.ban_copies.proofs.blank_enlarged.Goals as goal
 
 pub returns : goal.returns

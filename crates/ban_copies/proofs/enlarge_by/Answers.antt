@@ -1,7 +1,6 @@
 -- Where the copies are within the limits the result is the enlarged code, else refusal 17.
 use Rattle.ban_theory.specs.Triples.{bans_from}
 use Rattle.ban_copies.proofs.Laws.Answers.{accepted, refused}
-use borrow.Author.Rules.{rules}
 use Rattle.ban_copies.proofs.enlarge_by.Goals as goal
 
 pub with_copies-enlarged-requires : goal.with_copies-enlarged-requires

@@ -1,7 +1,6 @@
 -- The filled code and the arrays are the enlarged code.
 use Rattle.ban_theory.specs.Triples.{bans_from}
 use Rattle.ban_copies.proofs.Laws.Answers.{enlarged_whole}
-use borrow.Author.Rules.{rules}
 use Rattle.ban_copies.proofs.with_copies.Goals as goal
 
 pub returns : goal.returns

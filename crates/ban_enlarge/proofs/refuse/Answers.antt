@@ -1,5 +1,4 @@
 -- A refused list gives the blank table.
-use borrow.Author.Rules.{rules}
 use Rattle.ban_enlarge.proofs.refuse.Goals as goal
 
 pub returns : goal.returns

@@ -1,6 +1,5 @@
 -- `without_copies` says exactly whether a well-enlarged value has originals alone: those are the tables without copies.
 use native.Mathlib.Omega.{arith}
-use borrow.Author.Rules.{rules}
 use Rattle.well_enlarged.specs.Listed.{limits_lists}
 use Rattle.ban_enlarge.proofs.Laws.Without.{tested_all, tested_not}
 use Rattle.ban_enlarge.proofs.without_copies.Goals as goal

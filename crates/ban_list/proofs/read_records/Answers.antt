@@ -1,9 +1,6 @@
 use borrow.Author.Rules.{rules}
-use mathlib.Core.Path.{◌≡◌}
-use Prim.Native.Nat.{◌+◌, ◌-◌}
-use lib.ListN.{length}
 use Rattle.ban_list.specs.Ensured.{wrong}
-use Rattle.ban_list.proofs.Laws.Passing.{Passed, passing_starts, passing_clean, passing_room, passing_stops, passing_on, passing_less, passing_ends}
+use Rattle.ban_list.proofs.Laws.Passing.{passing_starts, passing_clean, passing_room, passing_stops, passing_on, passing_less, passing_ends}
 use Rattle.ban_list.proofs.read_records.Goals as goal
 
 pub loop-at-init : goal.loop-at-init

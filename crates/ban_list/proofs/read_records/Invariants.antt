@@ -1,10 +1,8 @@
 -- The loop keeps that the bans stored and the records to come are the list's.
-use borrow.Author.Rules.{rules}
 use mathlib.Core.Path.{◌≡◌}
 use Prim.Native.Nat.{◌+◌, ◌-◌}
 use lib.ListN.{length}
-use Rattle.ban_list.specs.Ensured.{wrong}
-use Rattle.ban_list.proofs.Laws.Passing.{Passed, passing_starts, passing_clean, passing_room, passing_stops, passing_on, passing_less, passing_ends}
+use Rattle.ban_list.proofs.Laws.Passing.{Passed}
 use Rattle.ban_list.proofs.read_records.Given as goal
 
 abbrev pub invariant-loop-at : goal.invariant-loop-at

@@ -1,5 +1,4 @@
 -- `bits::has` meets its contract: what the mask leaves of the set, shifted down, is the remainder of the definition.
-use borrow.Author.Rules.{rules}
 use mathlib.Core.Path.{ap}
 use Prim.Native.Nat.{ℕ, ◌/◌, ◌^◌}
 use lib.Bits.{and_mask}

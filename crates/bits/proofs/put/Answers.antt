@@ -1,5 +1,4 @@
 -- `bits::put` meets its contract: 1 shifted is a power of two.
-use borrow.Author.Rules.{rules}
 use Rattle.bits.specs.Bits.{shift_one}
 use Rattle.bits.proofs.put.Goals as goal
 

@@ -1,10 +1,10 @@
-use Prim.Native.Nat.{◌+◌, ◌/◌, ◌^◌, ◌<◌}
+use Prim.Native.Nat.{◌+◌, ◌<◌}
 use borrow.Author.Rules.{rules}
 use lib.ListN.{length}
 use mathlib.Core.Path.{◌≡◌, sym, ◌∙◌}
 use native.Mathlib.Omega.{arith}
 use Rattle.bits.specs.Lowest.{lowest_below, left_above, left_less}
-use Rattle.bits.specs.Unions.{UnionOf, union_none, union_more, union_all}
+use Rattle.bits.specs.Unions.{union_none, union_more, union_all}
 use Rattle.bits.proofs.union_of.Goals as goal
 use Rattle.bits.proofs.union_of.Goals.{After-lowest-skipped}
 

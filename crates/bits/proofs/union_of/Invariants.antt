@@ -1,12 +1,8 @@
 -- `bits::union_of` meets its contract. The loop's invariant: the sets of the members below `z` are joined, and `left` holds the members from `z` on. The
 -- measure is `left`.
-use Prim.Native.Nat.{◌+◌, ◌/◌, ◌^◌, ◌<◌}
-use borrow.Author.Rules.{rules}
-use lib.ListN.{length}
-use mathlib.Core.Path.{◌≡◌, sym, ◌∙◌}
-use native.Mathlib.Omega.{arith}
-use Rattle.bits.specs.Lowest.{lowest_below, left_above, left_less}
-use Rattle.bits.specs.Unions.{UnionOf, union_none, union_more, union_all}
+use Prim.Native.Nat.{◌/◌, ◌^◌}
+use mathlib.Core.Path.{◌≡◌}
+use Rattle.bits.specs.Unions.{UnionOf}
 use Rattle.bits.proofs.union_of.Given as goal
 
 abbrev pub invariant-loop-left : goal.invariant-loop-left

@@ -1,7 +1,6 @@
 -- Each way out is refusal 2 at one byte, by the tests that led there.
 use Rattle.csv_records.specs.Fields.{bad_plain, bad_comma, bad_other}
 use mathlib.Core.Path.{sym, ◌∙◌}
-use borrow.Author.Rules.{rules}
 use Rattle.csv_records.proofs.bad_byte.Goals as goal
 
 pub returns-then-cr : goal.returns-then-cr

@@ -1,9 +1,5 @@
 use borrow.Author.Rules.{rules}
-use mathlib.Core.Path.{◌≡◌, sym, ◌∙◌}
-use mathlib.Core.Bool.{◌||◌, false}
-use Prim.Native.Nat.{◌≤◌, ◌-◌}
-use lib.ListN.{length, drop}
-use Rattle.code.specs.Definitions.Sheets.{bad_bytes}
+use mathlib.Core.Path.{sym, ◌∙◌}
 use Rattle.csv_records.specs.Fields.{bad_on, bad_end}
 use Rattle.csv_records.proofs.bad_bytes.Goals as goal
 

@@ -1,11 +1,9 @@
 -- The loop keeps that what was bad so far, or is bad in the rest, is what refusal 2 says of the whole.
-use borrow.Author.Rules.{rules}
-use mathlib.Core.Path.{◌≡◌, sym, ◌∙◌}
+use mathlib.Core.Path.{◌≡◌}
 use mathlib.Core.Bool.{◌||◌, false}
 use Prim.Native.Nat.{◌≤◌, ◌-◌}
 use lib.ListN.{length, drop}
 use Rattle.code.specs.Definitions.Sheets.{bad_bytes}
-use Rattle.csv_records.specs.Fields.{bad_on, bad_end}
 use Rattle.csv_records.proofs.bad_bytes.Given as goal
 
 abbrev pub invariant-loop-i : goal.invariant-loop-i

@@ -1,9 +1,7 @@
 use borrow.Author.Rules.{rules}
-use mathlib.Core.Path.{◌≡◌, sym, ◌∙◌}
-use Prim.Native.Nat.{◌+◌, ◌≤◌, ◌-◌}
+use mathlib.Core.Path.{sym, ◌∙◌}
 use native.Mathlib.Omega.{arith}
-use lib.ListN.{length, drop}
-use Rattle.csv_records.specs.Fields.{leading, leading_on, leading_stop, leading_end}
+use Rattle.csv_records.specs.Fields.{leading_on, leading_stop, leading_end}
 use Rattle.csv_records.proofs.field_end.Goals as goal
 
 pub loop-i-preserved : goal.loop-i-preserved

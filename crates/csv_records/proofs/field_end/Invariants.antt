@@ -1,10 +1,8 @@
 -- The loop keeps where the digits end: the place reached, and the digits from there on.
-use borrow.Author.Rules.{rules}
-use mathlib.Core.Path.{◌≡◌, sym, ◌∙◌}
+use mathlib.Core.Path.{◌≡◌}
 use Prim.Native.Nat.{◌+◌, ◌≤◌, ◌-◌}
-use native.Mathlib.Omega.{arith}
 use lib.ListN.{length, drop}
-use Rattle.csv_records.specs.Fields.{leading, leading_on, leading_stop, leading_end}
+use Rattle.csv_records.specs.Fields.{leading}
 use Rattle.csv_records.proofs.field_end.Given as goal
 
 abbrev pub invariant-loop-i : goal.invariant-loop-i

@@ -1,6 +1,5 @@
 -- The two ranges of digits, each with its own offset.
 use Rattle.csv_records.specs.Fields.{digit_from, value_low, value_high}
-use borrow.Author.Rules.{rules}
 use Rattle.csv_records.proofs.value_of.Goals as goal
 
 pub overflow_sub-result : goal.overflow_sub-result

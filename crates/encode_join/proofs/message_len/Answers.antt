@@ -1,10 +1,7 @@
-use mathlib.Core.Path.{◌≡◌}
-use Prim.Native.Nat.{◌≤◌, ◌-◌}
 use native.Mathlib.Omega.{arith}
-use lib.ListN.{length}
 use borrow.Author.Rules.{rules}
 use Rattle.code.specs.Definitions.Sheets.{limits}
-use Rattle.encode_join.specs.Passes.{message_below, known_number, known_short, length_more, length_over, length_whole}
+use Rattle.encode_join.specs.Passes.{known_number, known_short, length_more, length_over, length_whole}
 use Rattle.encode_join.proofs.message_len.Goals as goal
 
 pub overflow_cast-w : goal.overflow_cast-w

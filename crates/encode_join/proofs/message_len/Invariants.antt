@@ -1,11 +1,9 @@
 -- The loop keeps that the sum is the length of the message of the entries passed, and within the limit.
 use mathlib.Core.Path.{◌≡◌}
 use Prim.Native.Nat.{◌≤◌, ◌-◌}
-use native.Mathlib.Omega.{arith}
 use lib.ListN.{length}
-use borrow.Author.Rules.{rules}
 use Rattle.code.specs.Definitions.Sheets.{limits}
-use Rattle.encode_join.specs.Passes.{message_below, known_number, known_short, length_more, length_over, length_whole}
+use Rattle.encode_join.specs.Passes.{message_below}
 use Rattle.encode_join.proofs.message_len.Given as goal
 
 abbrev pub invariant-loop-i : goal.invariant-loop-i

@@ -1,11 +1,10 @@
-use mathlib.Core.Path.{◌≡◌, ◌∙◌}
-use Prim.Native.Nat.{◌≤◌, ◌<◌, ◌-◌}
+use mathlib.Core.Path.{◌∙◌}
+use Prim.Native.Nat.{◌<◌}
 use native.Mathlib.Omega.{arith}
 use lib.ListN.{length}
 use borrow.Author.Rules.{rules}
 use Rattle.code.specs.Definitions.Sheets.{limits}
-use Rattle.code.specs.Definitions.Operations.{written}
-use Rattle.encode_join.specs.Passes.{message_below, known_number, known_short, length_more, write_room, write_more, write_whole}
+use Rattle.encode_join.specs.Passes.{known_number, known_short, length_more, write_room, write_more, write_whole}
 use Rattle.encode_join.proofs.write_message.Goals as goal
 
 pub overflow_cast-w : goal.overflow_cast-w

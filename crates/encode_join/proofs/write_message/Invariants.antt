@@ -1,12 +1,9 @@
 -- The loop keeps that the message of the entries passed is written, and that `at` is its length.
-use mathlib.Core.Path.{◌≡◌, ◌∙◌}
-use Prim.Native.Nat.{◌≤◌, ◌<◌, ◌-◌}
-use native.Mathlib.Omega.{arith}
+use mathlib.Core.Path.{◌≡◌}
+use Prim.Native.Nat.{◌≤◌, ◌-◌}
 use lib.ListN.{length}
-use borrow.Author.Rules.{rules}
-use Rattle.code.specs.Definitions.Sheets.{limits}
 use Rattle.code.specs.Definitions.Operations.{written}
-use Rattle.encode_join.specs.Passes.{message_below, known_number, known_short, length_more, write_room, write_more, write_whole}
+use Rattle.encode_join.specs.Passes.{message_below}
 use Rattle.encode_join.proofs.write_message.Given as goal
 
 abbrev pub invariant-loop-i : goal.invariant-loop-i

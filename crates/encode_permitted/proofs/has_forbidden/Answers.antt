@@ -1,9 +1,8 @@
-use Prim.Native.Nat.{◌+◌, ◌<◌, ◌-◌}
+use Prim.Native.Nat.{◌+◌, ◌<◌}
 use native.Mathlib.Omega.{arith}
 use lib.ListN.{length}
-use borrow.Author.Rules.{rules}
 use Rattle.code.specs.Definitions.Sheets.{limits}
-use Rattle.encode_permitted.proofs.Laws.Walk.{Walked, walk_begins, number_low, held_low, next_low, forbidden_empty, forbidden_opening, forbidden_here, walked_on, forbidden_nowhere}
+use Rattle.encode_permitted.proofs.Laws.Walk.{walk_begins, number_low, held_low, next_low, forbidden_empty, forbidden_opening, forbidden_here, walked_on, forbidden_nowhere}
 use Rattle.encode_permitted.proofs.has_forbidden.Goals as goal
 use Rattle.encode_permitted.proofs.has_forbidden.Goals.{After-number_after-next, At-loop-i}
 

@@ -1,9 +1,6 @@
-use Prim.Native.Nat.{◌≤◌, ◌-◌}
 use native.Mathlib.Omega.{arith}
-use lib.ListN.{length}
 use borrow.Author.Count.{below_none, below_more}
 use borrow.Author.Rules.{rules}
-use Rattle.encode_join.specs.Passes.{WordsBelow}
 use Rattle.encode_permitted.specs.Originals.{unknown_here, unknown_nowhere}
 use Rattle.encode_permitted.proofs.has_unknown.Goals as goal
 

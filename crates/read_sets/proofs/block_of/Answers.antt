@@ -1,5 +1,4 @@
 -- `block_of` meets its contract: its two ways out are the two cases of the definition.
-use borrow.Author.Rules.{rules}
 use mathlib.Core.Path.{sym}
 use Rattle.read_sets.specs.Sets.{block_symbol, block_other}
 use Rattle.read_sets.proofs.block_of.Goals as goal

@@ -1,5 +1,4 @@
 -- `lay` meets its contract: all words and all rows laid are the code's sets (`laid_all`).
-use borrow.Author.Rules.{rules}
 use Rattle.read_sets.specs.Laid.{laid_all}
 use Rattle.read_sets.proofs.lay.Goals as goal
 

@@ -1,8 +1,7 @@
-use Prim.Native.Nat.{◌-◌, ◌≤◌}
-use lib.ListN.{length, length-set}
+use lib.ListN.{length-set}
 use mathlib.Core.Path.{◌≡◌, refl}
 use native.Mathlib.Omega.{arith}
-use Rattle.read_sets.specs.Rows.{LaidRows, rows_none, rows_more}
+use Rattle.read_sets.specs.Rows.{rows_none, rows_more}
 use Rattle.read_sets.proofs.lay_rows.Goals as goal
 
 pub loop-x-init : goal.loop-x-init

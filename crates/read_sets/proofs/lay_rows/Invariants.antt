@@ -1,9 +1,8 @@
 -- `lay_rows` meets its contract. The loop's invariant: the first `x` rows are sets. The measure is what is left.
 use Prim.Native.Nat.{◌-◌, ◌≤◌}
-use lib.ListN.{length, length-set}
-use mathlib.Core.Path.{◌≡◌, refl}
-use native.Mathlib.Omega.{arith}
-use Rattle.read_sets.specs.Rows.{LaidRows, rows_none, rows_more}
+use lib.ListN.{length}
+use mathlib.Core.Path.{◌≡◌}
+use Rattle.read_sets.specs.Rows.{LaidRows}
 use Rattle.read_sets.proofs.lay_rows.Given as goal
 
 abbrev pub invariant-loop-x : goal.invariant-loop-x

@@ -1,11 +1,10 @@
-use Prim.Native.Nat.{◌+◌, ◌-◌, ◌≤◌, ◌<◌}
-use borrow.Author.Rules.{rules}
-use lib.ListN.{length, get_or}
+use Prim.Native.Nat.{◌+◌, ◌<◌}
+use lib.ListN.{get_or}
 use mathlib.Core.Path.{◌≡◌, refl}
 use native.Mathlib.Omega.{arith}
 use Rattle.code.specs.Definitions.Sheets.{limits}
 use Rattle.read_sets.specs.Sets.{symbol_sets, block_symbol}
-use Rattle.read_sets.specs.Words.{Spread, spread_none, spread_more}
+use Rattle.read_sets.specs.Words.{spread_none, spread_more}
 use Rattle.read_sets.proofs.lay_word.Goals as goal
 use Rattle.read_sets.proofs.lay_word.Goals.{After-block_of-block}
 

@@ -1,12 +1,8 @@
 -- `lay_word` meets its contract. The loop's invariant: the word is in the sets of its first `j` symbols. The measure is what is left of them.
-use Prim.Native.Nat.{◌+◌, ◌-◌, ◌≤◌, ◌<◌}
-use borrow.Author.Rules.{rules}
-use lib.ListN.{length, get_or}
-use mathlib.Core.Path.{◌≡◌, refl}
-use native.Mathlib.Omega.{arith}
-use Rattle.code.specs.Definitions.Sheets.{limits}
-use Rattle.read_sets.specs.Sets.{symbol_sets, block_symbol}
-use Rattle.read_sets.specs.Words.{Spread, spread_none, spread_more}
+use Prim.Native.Nat.{◌-◌, ◌≤◌}
+use lib.ListN.{length}
+use mathlib.Core.Path.{◌≡◌}
+use Rattle.read_sets.specs.Words.{Spread}
 use Rattle.read_sets.proofs.lay_word.Given as goal
 
 abbrev pub invariant-loop-j : goal.invariant-loop-j

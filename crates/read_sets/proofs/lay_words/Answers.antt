@@ -1,11 +1,11 @@
-use Prim.Native.Nat.{◌-◌, ◌≤◌, ◌<◌}
-use lib.ListN.{length, get_or, length-set}
+use Prim.Native.Nat.{◌<◌}
+use lib.ListN.{get_or, length-set}
 use mathlib.Core.Path.{◌≡◌, refl, ◌∙◌}
 use native.Mathlib.Omega.{arith}
 use Rattle.code.specs.Definitions.Tables.{no_word}
 use Rattle.code.specs.Definitions.Sheets.{limits}
-use Rattle.code.specs.Laws.WellFormed.{len_of, WordFits}
-use Rattle.read_sets.specs.Words.{LaidWords, words_none, words_more}
+use Rattle.code.specs.Laws.WellFormed.{WordFits}
+use Rattle.read_sets.specs.Words.{words_none, words_more}
 use Rattle.read_sets.proofs.lay_words.Goals as goal
 use Rattle.read_sets.proofs.lay_words.Goals.{In-loop-x}
 

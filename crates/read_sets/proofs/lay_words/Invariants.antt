@@ -1,13 +1,8 @@
 -- `lay_words` meets its contract. The loop's invariant: the first `x` words are laid, and none of them is longer than `longest`. The measure is what is left.
-use Prim.Native.Nat.{◌-◌, ◌≤◌, ◌<◌}
-use lib.ListN.{length, get_or, length-set}
-use mathlib.Core.Logic.{⊎_elim}
-use mathlib.Core.Path.{◌≡◌, refl, ◌∙◌}
-use native.Mathlib.Omega.{arith}
-use Rattle.code.specs.Definitions.Tables.{no_word}
-use Rattle.code.specs.Definitions.Sheets.{limits}
-use Rattle.code.specs.Laws.WellFormed.{len_of, WordFits}
-use Rattle.read_sets.specs.Words.{LaidWords, words_none, words_more}
+use Prim.Native.Nat.{◌-◌, ◌≤◌}
+use lib.ListN.{length}
+use mathlib.Core.Path.{◌≡◌}
+use Rattle.read_sets.specs.Words.{LaidWords}
 use Rattle.read_sets.proofs.lay_words.Given as goal
 
 abbrev pub invariant-loop-x : goal.invariant-loop-x

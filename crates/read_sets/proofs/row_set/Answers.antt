@@ -1,8 +1,6 @@
-use Prim.Native.Nat.{◌-◌, ◌≤◌}
-use borrow.Author.Rules.{rules}
 use mathlib.Core.Path.{◌≡◌}
 use native.Mathlib.Omega.{arith}
-use Rattle.read_sets.specs.Rows.{RowSet, row_none, row_more}
+use Rattle.read_sets.specs.Rows.{row_none, row_more}
 use Rattle.read_sets.proofs.row_set.Goals as goal
 
 pub overflow_shl-set : goal.overflow_shl-set

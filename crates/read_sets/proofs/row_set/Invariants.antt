@@ -1,9 +1,6 @@
 -- `row_set` meets its contract. The loop's invariant: the set has the start, if its mark is 1, and what the row has of the first `y` words. The measure is what is left of them.
 use Prim.Native.Nat.{◌-◌, ◌≤◌}
-use borrow.Author.Rules.{rules}
-use mathlib.Core.Path.{◌≡◌}
-use native.Mathlib.Omega.{arith}
-use Rattle.read_sets.specs.Rows.{RowSet, row_none, row_more}
+use Rattle.read_sets.specs.Rows.{RowSet}
 use Rattle.read_sets.proofs.row_set.Given as goal
 
 abbrev pub invariant-loop-y : goal.invariant-loop-y

@@ -1,6 +1,4 @@
-use Prim.Native.Nat.{ℕ, ◌-◌, ◌≤◌, ◌<◌}
 use borrow.Author.Count.{below_none, below_more}
-use lib.ListN.{length, get_or}
 use native.Mathlib.Omega.{arith}
 use Rattle.code.specs.Laws.Exactly.{exactly_true, exactly_false}
 use Rattle.read_symbols.proofs.has_high.Goals as goal

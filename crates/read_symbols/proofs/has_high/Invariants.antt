@@ -1,9 +1,6 @@
 -- `has_high` meets its contract. The loop's invariant: no symbol before `i` is above 15. The measure is what is left of the message.
 use Prim.Native.Nat.{ℕ, ◌-◌, ◌≤◌, ◌<◌}
-use borrow.Author.Count.{below_none, below_more}
 use lib.ListN.{length, get_or}
-use native.Mathlib.Omega.{arith}
-use Rattle.code.specs.Laws.Exactly.{exactly_true, exactly_false}
 use Rattle.read_symbols.proofs.has_high.Given as goal
 
 abbrev pub invariant-loop-i : goal.invariant-loop-i

@@ -1,5 +1,4 @@
 -- The table's words, rows and start marks are those that were put in order.
-use borrow.Author.Rules.{rules}
 use Rattle.renumbering.specs.Reordering.{renumbered_parts}
 use Rattle.renumbering.proofs.renumber.Goals as goal
 

@@ -1,8 +1,7 @@
 use borrow.Author.Rules.{rules}
 use native.Mathlib.Omega.{arith}
-use Prim.Native.Nat.{◌-◌}
 use Rattle.code.specs.Definitions.Sheets.{limits}
-use Rattle.renumbering.specs.Reordering.{Filled, row_from, filled_none, rows_more, rows_all}
+use Rattle.renumbering.specs.Reordering.{filled_none, rows_more, rows_all}
 use Rattle.renumbering.proofs.reorder_rows.Goals as goal
 
 pub loop-i-init : goal.loop-i-init

@@ -1,9 +1,7 @@
 -- The loop puts the rows in order from the front; what stays are rows of zeros.
-use borrow.Author.Rules.{rules}
-use native.Mathlib.Omega.{arith}
 use Prim.Native.Nat.{◌-◌}
 use Rattle.code.specs.Definitions.Sheets.{limits}
-use Rattle.renumbering.specs.Reordering.{Filled, row_from, filled_none, rows_more, rows_all}
+use Rattle.renumbering.specs.Reordering.{Filled, row_from}
 use Rattle.renumbering.proofs.reorder_rows.Given as goal
 
 abbrev pub invariant-loop-i : goal.invariant-loop-i

@@ -1,8 +1,7 @@
 use borrow.Author.Rules.{rules}
 use native.Mathlib.Omega.{arith}
-use Prim.Native.Nat.{◌-◌}
 use Rattle.code.specs.Definitions.Tables.{no_word}
-use Rattle.renumbering.specs.Reordering.{Filled, entry_from, filled_none, reordered_more, reordered_all}
+use Rattle.renumbering.specs.Reordering.{filled_none, reordered_more, reordered_all}
 use Rattle.renumbering.proofs.reorder_words.Goals as goal
 
 pub loop-i-init : goal.loop-i-init

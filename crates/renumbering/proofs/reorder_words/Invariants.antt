@@ -1,9 +1,7 @@
 -- The loop puts the words in order from the front; what stays is what the definition has past the words.
-use borrow.Author.Rules.{rules}
-use native.Mathlib.Omega.{arith}
 use Prim.Native.Nat.{◌-◌}
 use Rattle.code.specs.Definitions.Tables.{no_word}
-use Rattle.renumbering.specs.Reordering.{Filled, entry_from, filled_none, reordered_more, reordered_all}
+use Rattle.renumbering.specs.Reordering.{Filled, entry_from}
 use Rattle.renumbering.proofs.reorder_words.Given as goal
 
 abbrev pub invariant-loop-i : goal.invariant-loop-i

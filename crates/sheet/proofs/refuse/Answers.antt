@@ -1,5 +1,4 @@
 -- The table is the blank one.
-use borrow.Author.Rules.{rules}
 use Rattle.sheet.proofs.refuse.Goals as goal
 
 pub returns : goal.returns

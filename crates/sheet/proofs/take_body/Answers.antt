@@ -1,7 +1,6 @@
 -- The survey's answer decides, and its records and their width tell what to build.
 use mathlib.Core.Path.{sym, ◌∙◌}
 use Rattle.sheet.proofs.Laws.Taking.{way_refused, way_accepted, count_accepted, starts_accepted, fits_accepted}
-use borrow.Author.Rules.{rules}
 use Rattle.sheet.proofs.take_body.Goals as goal
 
 pub build-requires : goal.build-requires

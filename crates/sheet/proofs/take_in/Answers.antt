@@ -4,7 +4,6 @@ use native.Mathlib.Omega.{arith}
 use lib.Seq.{length-take-le}
 use Rattle.code.specs.Laws.Clean.{clean_body}
 use Rattle.sheet.proofs.Laws.Taking.{way_empty, way_long, way_bytes, way_records}
-use borrow.Author.Rules.{rules}
 use Rattle.sheet.proofs.take_in.Goals as goal
 
 pub returns-then-n-eq0 : goal.returns-then-n-eq0

@@ -1,5 +1,4 @@
 -- Without start fields the second field counts too.
-use borrow.Author.Rules.{rules}
 use Rattle.sheet_survey.proofs.bad_row.Goals as goal
 
 pub returns : goal.returns

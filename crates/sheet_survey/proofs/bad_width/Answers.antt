@@ -1,5 +1,4 @@
 -- Without start fields the widths are tested.
-use borrow.Author.Rules.{rules}
 use Rattle.sheet_survey.proofs.bad_width.Goals as goal
 
 pub returns : goal.returns

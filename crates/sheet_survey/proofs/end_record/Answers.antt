@@ -1,6 +1,5 @@
 -- The first record sets the width; a later one is held to it.
 use Rattle.sheet_survey.specs.Passing.{end_first, end_later}
-use borrow.Author.Rules.{rules}
 use Rattle.sheet_survey.proofs.end_record.Goals as goal
 
 pub returns-then-v-eq0 : goal.returns-then-v-eq0

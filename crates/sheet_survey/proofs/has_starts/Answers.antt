@@ -1,5 +1,4 @@
 -- Where all records have the first one's width, that width tells.
-use borrow.Author.Rules.{rules}
 use Rattle.sheet_survey.proofs.has_starts.Goals as goal
 
 pub returns : goal.returns

@@ -1,12 +1,7 @@
 use borrow.Author.Rules.{rules}
-use mathlib.Core.Path.{◌≡◌, sym, ◌∙◌}
-use Prim.Native.Nat.{◌+◌, ◌-◌, ◌≤◌}
+use mathlib.Core.Path.{sym, ◌∙◌}
 use native.Mathlib.Omega.{arith}
-use lib.ListN.{length, drop}
-use Rattle.code.specs.Laws.Clean.{Clean, record_fields}
-use Rattle.csv_records.specs.Front.{rest_of}
-use Rattle.sheet_survey.specs.Survey.{start, survey_records}
-use Rattle.sheet_survey.specs.Passing.{Bounded, passing_starts, passing_ends}
+use Rattle.sheet_survey.specs.Passing.{passing_starts, passing_ends}
 use Rattle.sheet_survey.proofs.survey_all.Goals as goal
 
 pub loop-c-init : goal.loop-c-init

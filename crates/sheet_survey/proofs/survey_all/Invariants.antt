@@ -1,13 +1,11 @@
 -- The loop keeps that the survey so far, gone on with the records to come, is the survey of all.
-use borrow.Author.Rules.{rules}
-use mathlib.Core.Path.{◌≡◌, sym, ◌∙◌}
+use mathlib.Core.Path.{◌≡◌}
 use Prim.Native.Nat.{◌+◌, ◌-◌, ◌≤◌}
-use native.Mathlib.Omega.{arith}
 use lib.ListN.{length, drop}
 use Rattle.code.specs.Laws.Clean.{Clean, record_fields}
 use Rattle.csv_records.specs.Front.{rest_of}
 use Rattle.sheet_survey.specs.Survey.{start, survey_records}
-use Rattle.sheet_survey.specs.Passing.{Bounded, passing_starts, passing_ends}
+use Rattle.sheet_survey.specs.Passing.{Bounded}
 use Rattle.sheet_survey.proofs.survey_all.Given as goal
 
 abbrev pub invariant-loop-c : goal.invariant-loop-c

@@ -1,6 +1,5 @@
 -- The first field of a record is its word, the second is noted for itself, the others together.
 use Rattle.sheet_survey.specs.Passing.{span_word, span_second, span_later}
-use borrow.Author.Rules.{rules}
 use Rattle.sheet_survey.proofs.take_span.Goals as goal
 
 pub returns-then-v-eq0 : goal.returns-then-v-eq0

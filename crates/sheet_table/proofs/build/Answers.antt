@@ -1,8 +1,6 @@
 use borrow.Author.Rules.{rules}
 use native.Mathlib.Omega.{arith}
-use Prim.Native.Nat.{◌-◌}
-use Rattle.code.specs.Laws.Clean.{record_fields}
-use Rattle.sheet_table.specs.Building.{Built, built_none, few_records, word_next, row_next, built_more, built_all}
+use Rattle.sheet_table.specs.Building.{built_none, few_records, word_next, row_next, built_more, built_all}
 use Rattle.sheet_table.proofs.build.Goals as goal
 
 pub loop-k-init : goal.loop-k-init

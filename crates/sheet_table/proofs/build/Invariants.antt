@@ -1,9 +1,7 @@
 -- The loop keeps the table after k records and where the next one begins.
-use borrow.Author.Rules.{rules}
-use native.Mathlib.Omega.{arith}
 use Prim.Native.Nat.{◌-◌}
 use Rattle.code.specs.Laws.Clean.{record_fields}
-use Rattle.sheet_table.specs.Building.{Built, built_none, few_records, word_next, row_next, built_more, built_all}
+use Rattle.sheet_table.specs.Building.{Built}
 use Rattle.sheet_table.proofs.build.Given as goal
 
 abbrev pub invariant-loop-k : goal.invariant-loop-k

@@ -1,6 +1,5 @@
 -- With start fields the byte tells, else the mark is 1.
 use borrow.Author.Tests.{eq-eqb, ne_eqb}
-use borrow.Author.Rules.{rules}
 use Rattle.sheet_table.proofs.read_mark.Goals as goal
 
 pub returns-then-byte_at-eq49 : goal.returns-then-byte_at-eq49

@@ -1,14 +1,10 @@
 -- The loop fills the entries from the front; what stays blank is what the definition has past the row.
-use borrow.Author.Rules.{rules}
-use mathlib.Core.Path.{◌≡◌, ap, ◌∙◌}
+use mathlib.Core.Path.{◌≡◌}
 use mathlib.Core.List.{◌++◌}
 use Prim.Native.Nat.{◌-◌, ◌≤◌}
-use native.Mathlib.Omega.{arith}
-use lib.ListN.{length, drop, replicate, length-set}
-use Rattle.code.specs.declared.Row.{Row}
+use lib.ListN.{length, drop, replicate}
 use Rattle.code.specs.Definitions.Lists.{tabulate}
-use Rattle.code.specs.Laws.Filling.{fill_next}
-use Rattle.sheet_table.specs.Building.{row_byte, row_symbol, row_filled}
+use Rattle.sheet_table.specs.Building.{row_byte}
 use Rattle.sheet_table.proofs.read_row.Given as goal
 
 abbrev pub invariant-loop-y : goal.invariant-loop-y

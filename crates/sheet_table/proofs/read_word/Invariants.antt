@@ -1,16 +1,11 @@
 -- The loop fills the symbols from the front; what stays blank is what the definition has past the word.
-use borrow.Author.Rules.{rules}
-use mathlib.Core.Path.{◌≡◌, refl, ap, ◌∙◌}
+use mathlib.Core.Path.{◌≡◌}
 use mathlib.Core.List.{◌++◌}
 use Prim.Native.Nat.{◌-◌, ◌≤◌}
-use native.Mathlib.Omega.{arith}
-use lib.ListN.{length, drop, replicate, length-set}
-use Rattle.code.specs.declared.Word.{Word}
+use lib.ListN.{length, drop, replicate}
 use Rattle.code.specs.Definitions.Lists.{tabulate}
-use Rattle.code.specs.Laws.Filling.{fill_next}
 use Rattle.csv_records.specs.Fields.{leading}
-use Rattle.csv_records.specs.Symbols.{field_symbol, leading_digit, leading_symbol}
-use Rattle.sheet_table.specs.Building.{word_read}
+use Rattle.csv_records.specs.Symbols.{field_symbol}
 use Rattle.sheet_table.proofs.read_word.Given as goal
 
 abbrev pub invariant-loop-k : goal.invariant-loop-k

@@ -2,7 +2,7 @@
 -- give the code and the classes and the buffers are long enough.
 use mathlib.Core.Path.{◌≡◌, refl, sym, ap, subst, ◌∙◌}
 use mathlib.Core.Bool.{Bool, true, false}
-use mathlib.Core.List.{List, []}
+use mathlib.Core.List.{List}
 use mathlib.Core.Logic.{inl, inr}
 use Prim.Native.Nat.{ℕ, ◌+◌, ◌<◌}
 use native.Mathlib.Omega.{arith}
@@ -33,7 +33,6 @@ use Rattle.sheet.proofs.Laws.Either.{not_both, one_refusal}
 use Rattle.sheet.proofs.Laws.Taking.{way_long}
 use Rattle.turkish.specs.Types.{types, code_of_types}
 use Rattle.turkish.proofs.Given.{twelve_from_sheet}
-use Rattle.writing.specs.Puts.{Starts}
 use Rattle.syllabify.specs.Answers as Answers
 use Rattle.syllabify.specs.Answers.{code_given, classes_given, Answer, sheet_refused, classes_refused, text_refused, output, output_room, Shown, SplitsGiven, stands, Printed, stays, put, Answers, AnswersInput}
 

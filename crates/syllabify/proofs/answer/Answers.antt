@@ -1,5 +1,4 @@
 -- The code and the classes are given, the text split by them, and what is found printed.
-use borrow.Author.Rules.{rules}
 use Rattle.syllabify.proofs.Laws.Ways.{given_sheet, given_classes, given_answers}
 use Rattle.syllabify.proofs.answer.Goals as goal
 

@@ -1,5 +1,4 @@
 -- Parts of the files and of the input are answered, and a full buffer is refused.
-use borrow.Author.Rules.{rules}
 use Rattle.syllabify.proofs.Laws.Ways.{input_answered}
 use Rattle.syllabify.proofs.answer_input.Goals as goal
 

@@ -1,5 +1,4 @@
 -- The sheet is taken in where one is named; else the code is the built-in one.
-use borrow.Author.Rules.{rules}
 use Rattle.syllabify.proofs.Laws.Ways.{given_named, given_built_in}
 use Rattle.syllabify.proofs.give.Goals as goal
 

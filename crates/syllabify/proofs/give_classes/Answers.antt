@@ -1,5 +1,4 @@
 -- The class sheet is taken in where one is named; else the classes are the built-in ones.
-use borrow.Author.Rules.{rules}
 use Rattle.syllabify.proofs.Laws.Ways.{classes_named, classes_built_in}
 use Rattle.syllabify.proofs.give_classes.Goals as goal
 

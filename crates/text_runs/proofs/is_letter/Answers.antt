@@ -1,5 +1,4 @@
 -- A byte is a letter if its class is below `other`.
-use borrow.Author.Rules.{rules}
 use Rattle.text_runs.proofs.is_letter.Goals as goal
 
 pub returns : goal.returns

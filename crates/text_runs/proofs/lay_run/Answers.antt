@@ -1,8 +1,5 @@
-use Prim.Native.Nat.{◌-◌}
-use borrow.Author.Rules.{rules}
-use lib.ListN.{length}
 use native.Mathlib.Omega.{arith}
-use Rattle.text_runs.specs.Runs.{Laying, laying_none, laying_length, laying_more, run_stops, run_ends}
+use Rattle.text_runs.specs.Runs.{laying_none, laying_length, laying_more, run_stops, run_ends}
 use Rattle.text_runs.proofs.lay_run.Goals as goal
 
 pub loop-i-init : goal.loop-i-init

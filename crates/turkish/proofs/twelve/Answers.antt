@@ -1,9 +1,7 @@
-use Prim.Native.Nat.{◌-◌, ◌≤◌}
 use native.Mathlib.Omega.{arith}
-use lib.ListN.{length}
 use borrow.Author.Rules.{rules}
 use Rattle.turkish.specs.Types.{types}
-use Rattle.turkish.proofs.Laws.Making.{Made, made_none, entries_long, made_more, made_all}
+use Rattle.turkish.proofs.Laws.Making.{made_none, entries_long, made_more, made_all}
 use Rattle.turkish.proofs.twelve.Goals as goal
 
 pub loop-x-init : goal.loop-x-init

@@ -1,9 +1,6 @@
 use mathlib.Core.Path.{refl}
-use Prim.Native.Nat.{◌-◌, ◌≤◌}
-use lib.ListN.{length}
 use borrow.Author.Rules.{rules}
-use Rattle.code.specs.Definitions.Sheets.{limits}
-use Rattle.turkish.proofs.Laws.Padding.{Padding, padding_none, padding_next, padding_all}
+use Rattle.turkish.proofs.Laws.Padding.{padding_none, padding_next, padding_all}
 use Rattle.turkish.proofs.widen.Goals as goal
 
 pub loop-y-init : goal.loop-y-init

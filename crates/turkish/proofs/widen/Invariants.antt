@@ -1,10 +1,8 @@
 -- The loop fills the entries from the front; what stays zero is what the definition has past the row.
-use mathlib.Core.Path.{refl}
 use Prim.Native.Nat.{◌-◌, ◌≤◌}
 use lib.ListN.{length}
-use borrow.Author.Rules.{rules}
 use Rattle.code.specs.Definitions.Sheets.{limits}
-use Rattle.turkish.proofs.Laws.Padding.{Padding, padding_none, padding_next, padding_all}
+use Rattle.turkish.proofs.Laws.Padding.{Padding}
 use Rattle.turkish.proofs.widen.Given as goal
 
 abbrev pub invariant-loop-y : goal.invariant-loop-y

@@ -1,6 +1,5 @@
 -- What the judgement shows is printed.
 use Rattle.verdict.proofs.Laws.Showing.{answers}
-use borrow.Author.Rules.{rules}
 use Rattle.verdict.proofs.answer.Goals as goal
 
 pub returns : goal.returns

@@ -1,6 +1,5 @@
 -- Parts of the input and of the file are answered, and a full buffer is refused.
 use Rattle.verdict.proofs.Laws.Inputs.{input_answered}
-use borrow.Author.Rules.{rules}
 use Rattle.verdict.proofs.answer_input.Goals as goal
 
 pub returns : goal.returns

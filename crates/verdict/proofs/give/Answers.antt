@@ -1,6 +1,5 @@
 -- The refusal of the sheet, or what enlarging its table gives.
 use Rattle.verdict.proofs.Laws.Showing.{gives_refused, gives_accepted}
-use borrow.Author.Rules.{rules}
 use Rattle.verdict.proofs.give.Goals as goal
 
 pub returns-in-Refused : goal.returns-in-Refused

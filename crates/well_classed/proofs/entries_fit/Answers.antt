@@ -1,10 +1,8 @@
 use mathlib.Core.Path.{◌≡◌, sym, ◌∙◌}
-use Prim.Native.Nat.{ℕ, ◌-◌, ◌≤◌, ◌<◌}
 use native.Mathlib.Omega.{arith}
-use borrow.Author.Rules.{rules}
 use Rattle.code.specs.Definitions.ClassSheets.{different_bytes}
 use Rattle.code.specs.Definitions.Texts.{other, class_of, is_letter}
-use Rattle.code.specs.Laws.Below.{some_below, Some, none_yet}
+use Rattle.code.specs.Laws.Below.{Some, none_yet}
 use Rattle.code.specs.Laws.Exactly.{Exactly, exactly_and, exactly_le, exactly_none, exactly_more}
 use Rattle.well_classed.proofs.Laws.Tested.{SmallAt, exactly_some, some_more}
 use Rattle.well_classed.proofs.entries_fit.Goals as goal

@@ -1,13 +1,11 @@
 -- `entries_fit` says exactly whether every entry is small and some byte is a letter. The invariant: `small` and `letter` say so of the bytes below b.
-use mathlib.Core.Path.{◌≡◌, sym, ◌∙◌}
+use mathlib.Core.Path.{◌≡◌}
 use Prim.Native.Nat.{ℕ, ◌-◌, ◌≤◌, ◌<◌}
-use native.Mathlib.Omega.{arith}
-use borrow.Author.Rules.{rules}
 use Rattle.code.specs.Definitions.ClassSheets.{different_bytes}
-use Rattle.code.specs.Definitions.Texts.{other, class_of, is_letter}
-use Rattle.code.specs.Laws.Below.{some_below, Some, none_yet}
-use Rattle.code.specs.Laws.Exactly.{Exactly, exactly_and, exactly_le, exactly_none, exactly_more}
-use Rattle.well_classed.proofs.Laws.Tested.{SmallAt, exactly_some, some_more}
+use Rattle.code.specs.Definitions.Texts.{is_letter}
+use Rattle.code.specs.Laws.Below.{some_below}
+use Rattle.code.specs.Laws.Exactly.{Exactly}
+use Rattle.well_classed.proofs.Laws.Tested.{SmallAt}
 use Rattle.well_classed.proofs.entries_fit.Given as goal
 
 abbrev pub invariant-loop-b : goal.invariant-loop-b

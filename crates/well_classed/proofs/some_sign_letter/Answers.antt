@@ -1,5 +1,4 @@
 -- `some_sign_letter` looks at each of the signs.
-use borrow.Author.Rules.{rules}
 use Rattle.code.specs.Definitions.Texts.{is_letter}
 use Rattle.class_sheet.proofs.Laws.Signs.{signs_tested}
 use Rattle.well_classed.proofs.some_sign_letter.Goals as goal

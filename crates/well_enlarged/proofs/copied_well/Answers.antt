@@ -1,5 +1,4 @@
 -- `copied_well` says exactly whether the value is well-enlarged, with copies and without.
-use borrow.Author.Rules.{rules}
 use Rattle.well_enlarged.proofs.Laws.Tested.{none_tested, value_tested}
 use Rattle.well_enlarged.proofs.copied_well.Goals as goal
 

@@ -1,8 +1,6 @@
 use mathlib.Core.Path.{◌≡◌}
-use Prim.Native.Nat.{ℕ, ◌≤◌, ◌<◌, ◌-◌}
 use native.Mathlib.Omega.{arith}
-use borrow.Author.Rules.{rules}
-use Rattle.code.specs.Laws.Exactly.{Exactly, exactly_true, exactly_more}
+use Rattle.code.specs.Laws.Exactly.{exactly_true, exactly_more}
 use Rattle.well_enlarged.specs.Tests.{value_of, IfCopyFits}
 use Rattle.well_enlarged.proofs.Laws.Tested.{copy_if}
 use Rattle.well_enlarged.proofs.copies_fit.Goals as goal

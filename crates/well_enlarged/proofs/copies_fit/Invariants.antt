@@ -1,11 +1,7 @@
 -- `copies_fit` says exactly whether all copies fit. The invariant: `ok` says so of those below x.
-use mathlib.Core.Path.{◌≡◌}
 use Prim.Native.Nat.{ℕ, ◌≤◌, ◌<◌, ◌-◌}
-use native.Mathlib.Omega.{arith}
-use borrow.Author.Rules.{rules}
-use Rattle.code.specs.Laws.Exactly.{Exactly, exactly_true, exactly_more}
+use Rattle.code.specs.Laws.Exactly.{Exactly}
 use Rattle.well_enlarged.specs.Tests.{value_of, IfCopyFits}
-use Rattle.well_enlarged.proofs.Laws.Tested.{copy_if}
 use Rattle.well_enlarged.proofs.copies_fit.Given as goal
 
 abbrev pub invariant-loop-x : goal.invariant-loop-x

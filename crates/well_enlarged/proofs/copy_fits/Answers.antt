@@ -2,7 +2,6 @@
 use mathlib.Core.Path.{refl}
 use Prim.Native.Nat.{◌<◌}
 use native.Mathlib.Omega.{arith}
-use borrow.Author.Rules.{rules}
 use Rattle.code.specs.Definitions.Sheets.{limits}
 use Rattle.well_enlarged.specs.Tests.{value_of}
 use Rattle.well_enlarged.proofs.Laws.Tested.{lent, copy_tested}

@@ -1,7 +1,5 @@
 -- `entry_fits` says exactly whether an entry fits: it is 0, or its word is not followed by x, or x has the number that it tells.
 use native.Mathlib.Omega.{arith}
-use borrow.Author.Rules.{rules}
-use borrow.Author.Tests.{not-true, not-false}
 use Rattle.well_enlarged.proofs.Laws.Tested.{entry_zero, entry_new, entry_one}
 use Rattle.well_enlarged.proofs.entry_fits.Goals as goal
 

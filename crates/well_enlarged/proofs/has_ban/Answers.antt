@@ -1,10 +1,9 @@
 use mathlib.Core.Bool.{not}
 use mathlib.Core.Path.{ap, ◌≡◌, ◌∙◌}
 use mathlib.Core.Bool.{false}
-use Prim.Native.Nat.{ℕ, ◌≤◌, ◌<◌, ◌-◌}
+use Prim.Native.Nat.{◌<◌}
 use native.Mathlib.Omega.{arith}
 use borrow.Author.Count.{below_more}
-use borrow.Author.Rules.{rules}
 use Rattle.code.specs.Definitions.Sheets.{limits}
 use Rattle.well_enlarged.specs.WellEnlarged.{barred}
 use Rattle.well_enlarged.specs.Tests.{value_of}

@@ -1,14 +1,9 @@
 -- `has_ban` says exactly whether some word may not come behind a copy. The invariant: every word below w may.
-use mathlib.Core.Path.{◌≡◌, ◌∙◌}
+use mathlib.Core.Path.{◌≡◌}
 use mathlib.Core.Bool.{false}
 use Prim.Native.Nat.{ℕ, ◌≤◌, ◌<◌, ◌-◌}
-use native.Mathlib.Omega.{arith}
-use borrow.Author.Count.{below_more}
-use borrow.Author.Rules.{rules}
-use Rattle.code.specs.Definitions.Sheets.{limits}
 use Rattle.well_enlarged.specs.WellEnlarged.{barred}
 use Rattle.well_enlarged.specs.Tests.{value_of}
-use Rattle.well_enlarged.proofs.Laws.Tested.{barred_entry, ban_found, ban_none, next_low}
 use Rattle.well_enlarged.proofs.has_ban.Given as goal
 
 abbrev pub invariant-loop-w : goal.invariant-loop-w

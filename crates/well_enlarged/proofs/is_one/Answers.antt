@@ -1,5 +1,4 @@
 -- `is_one` is one test of a number.
-use borrow.Author.Rules.{rules}
 use Rattle.code.specs.Laws.Exactly.{exactly_eq}
 use Rattle.well_enlarged.proofs.is_one.Goals as goal
 

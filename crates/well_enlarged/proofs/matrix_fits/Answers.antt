@@ -1,8 +1,6 @@
 use mathlib.Core.Path.{◌≡◌}
-use Prim.Native.Nat.{ℕ, ◌≤◌, ◌<◌, ◌-◌}
 use native.Mathlib.Omega.{arith}
-use borrow.Author.Rules.{rules}
-use Rattle.code.specs.Laws.Exactly.{Exactly, exactly_none, exactly_more}
+use Rattle.code.specs.Laws.Exactly.{exactly_none, exactly_more}
 use Rattle.well_enlarged.specs.Tests.{value_of, RowFits}
 use Rattle.well_enlarged.proofs.Laws.Tested.{lent}
 use Rattle.well_enlarged.proofs.matrix_fits.Goals as goal

@@ -1,11 +1,7 @@
 -- `matrix_fits` says exactly whether all rows fit. The invariant: `ok` says so of those below x.
-use mathlib.Core.Path.{◌≡◌}
 use Prim.Native.Nat.{ℕ, ◌≤◌, ◌<◌, ◌-◌}
-use native.Mathlib.Omega.{arith}
-use borrow.Author.Rules.{rules}
-use Rattle.code.specs.Laws.Exactly.{Exactly, exactly_none, exactly_more}
+use Rattle.code.specs.Laws.Exactly.{Exactly}
 use Rattle.well_enlarged.specs.Tests.{value_of, RowFits}
-use Rattle.well_enlarged.proofs.Laws.Tested.{lent}
 use Rattle.well_enlarged.proofs.matrix_fits.Given as goal
 
 abbrev pub invariant-loop-x : goal.invariant-loop-x

@@ -1,5 +1,4 @@
 -- `number_fits` says exactly whether a number fits, in the three cases that it is one of a word, of a copy, or of neither.
-use borrow.Author.Rules.{rules}
 use Rattle.well_enlarged.proofs.Laws.Tested.{number_word, number_copy, number_past}
 use Rattle.well_enlarged.proofs.number_fits.Goals as goal
 

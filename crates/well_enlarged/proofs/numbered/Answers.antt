@@ -1,5 +1,4 @@
 -- `numbered` says exactly whether the numbers fit: it asks for words, and for no fewer numbers than words, before it looks at them.
-use borrow.Author.Rules.{rules}
 use Rattle.well_enlarged.proofs.Laws.Tested.{none_original, few_words, bounded}
 use Rattle.well_enlarged.proofs.numbered.Goals as goal
 

@@ -1,12 +1,7 @@
 use mathlib.Core.Path.{◌≡◌}
-use mathlib.Core.List.{List}
-use Prim.Native.Nat.{ℕ, ◌≤◌, ◌<◌, ◌-◌}
 use native.Mathlib.Omega.{arith}
-use lib.ListN.{get_or}
-use borrow.Author.Rules.{rules}
 use Rattle.code.specs.Definitions.Sheets.{limits}
-use Rattle.code.specs.Laws.Exactly.{Exactly, exactly_none, exactly_more}
-use Rattle.well_enlarged.specs.WellEnlarged.{NumberFits}
+use Rattle.code.specs.Laws.Exactly.{exactly_none, exactly_more}
 use Rattle.well_enlarged.proofs.numbers_fit.Goals as goal
 use Rattle.well_enlarged.proofs.numbers_fit.Invariants.{Fits}
 

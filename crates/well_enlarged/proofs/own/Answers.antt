@@ -1,7 +1,6 @@
 -- A word is its own origin, and past the words the origin is 0.
 use mathlib.Core.Path.{sym}
 use mathlib.Core.List.{[]}
-use borrow.Author.Rules.{rules}
 use Rattle.ban_theory.specs.CopyLists.{origin_word, origin_copy}
 use Rattle.well_enlarged.proofs.own.Goals as goal
 

@@ -1,9 +1,8 @@
-use Prim.Native.Nat.{◌-◌}
 use borrow.Author.Rules.{rules}
 use Rattle.code.specs.Definitions.Enlarged.{plain_of}
 use Rattle.code.specs.Definitions.Lists.{tabulate}
 use Rattle.code.specs.Definitions.Sheets.{limits}
-use Rattle.well_enlarged.proofs.Laws.Plain.{OwnTo, own_none, own_more, own_all}
+use Rattle.well_enlarged.proofs.Laws.Plain.{own_none, own_more, own_all}
 use Rattle.well_enlarged.proofs.plain.Goals as goal
 
 pub loop-x-init : goal.loop-x-init

@@ -1,10 +1,7 @@
 -- The loop fills in the origins from the front.
 use Prim.Native.Nat.{◌-◌}
-use borrow.Author.Rules.{rules}
-use Rattle.code.specs.Definitions.Enlarged.{plain_of}
-use Rattle.code.specs.Definitions.Lists.{tabulate}
 use Rattle.code.specs.Definitions.Sheets.{limits}
-use Rattle.well_enlarged.proofs.Laws.Plain.{OwnTo, own_none, own_more, own_all}
+use Rattle.well_enlarged.proofs.Laws.Plain.{OwnTo}
 use Rattle.well_enlarged.proofs.plain.Given as goal
 
 abbrev pub invariant-loop-x : goal.invariant-loop-x

@@ -1,9 +1,6 @@
 -- `row_fits` says exactly whether all entries of a row fit. The invariant: `ok` says so of those below y.
-use mathlib.Core.Path.{◌≡◌}
 use Prim.Native.Nat.{ℕ, ◌≤◌, ◌<◌, ◌-◌}
-use native.Mathlib.Omega.{arith}
-use borrow.Author.Rules.{rules}
-use Rattle.code.specs.Laws.Exactly.{Exactly, exactly_none, exactly_more}
+use Rattle.code.specs.Laws.Exactly.{Exactly}
 use Rattle.well_enlarged.specs.Tests.{EntryFits}
 use Rattle.well_enlarged.proofs.row_fits.Given as goal
 

@@ -1,11 +1,10 @@
 use mathlib.Core.Path.{◌≡◌, ap}
 use mathlib.Core.List.{List}
-use Prim.Native.Nat.{ℕ, ◌≤◌, ◌<◌, ◌-◌}
+use Prim.Native.Nat.{ℕ}
 use native.Mathlib.Omega.{arith}
 use lib.ListN.{length, get_or}
 use lib.Seq.{ext_get_or}
-use borrow.Author.Rules.{rules}
-use Rattle.code.specs.Laws.Exactly.{Exactly, exactly_iff, exactly_eq, exactly_none, exactly_more}
+use Rattle.code.specs.Laws.Exactly.{exactly_iff, exactly_eq, exactly_none, exactly_more}
 use Rattle.well_enlarged.proofs.same_symbols.Goals as goal
 use Rattle.well_enlarged.proofs.same_symbols.Invariants.{Alike}
 

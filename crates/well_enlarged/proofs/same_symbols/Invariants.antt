@@ -1,12 +1,9 @@
 -- `same_symbols` says exactly whether two arrays are equal. The invariant: `ok` says so of the cells below p.
-use mathlib.Core.Path.{◌≡◌, ap}
+use mathlib.Core.Path.{◌≡◌}
 use mathlib.Core.List.{List}
 use Prim.Native.Nat.{ℕ, ◌≤◌, ◌<◌, ◌-◌}
-use native.Mathlib.Omega.{arith}
 use lib.ListN.{length, get_or}
-use lib.Seq.{ext_get_or}
-use borrow.Author.Rules.{rules}
-use Rattle.code.specs.Laws.Exactly.{Exactly, exactly_iff, exactly_eq, exactly_none, exactly_more}
+use Rattle.code.specs.Laws.Exactly.{Exactly}
 use Rattle.well_enlarged.proofs.same_symbols.Given as goal
 
 abbrev pub Alike : List ℕ → List ℕ → ℕ → Type 0

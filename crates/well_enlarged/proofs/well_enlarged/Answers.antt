@@ -3,7 +3,6 @@ use mathlib.Core.Path.{◌≡◌}
 use native.Mathlib.Omega.{arith}
 use lib.ListN.{length}
 use borrow.Author.Rules.{rules}
-use borrow.Author.Tests.{not-true, not-false}
 use Rattle.code.specs.Definitions.Sheets.{limits}
 use Rattle.well_formed.specs.Given.{well}
 use Rattle.well_formed.specs.Round.{from_sheet}

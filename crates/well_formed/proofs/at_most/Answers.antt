@@ -1,10 +1,8 @@
 use mathlib.Core.Path.{◌≡◌}
-use Prim.Native.Nat.{◌≤◌, ◌-◌}
 use native.Mathlib.Omega.{arith}
 use lib.ListN.{length}
-use borrow.Author.Rules.{rules}
 use Rattle.code.specs.Laws.Exactly.{exactly_iff, exactly_eq}
-use Rattle.well_formed.specs.AtMost.{NoExcess, excess_none, excess_more}
+use Rattle.well_formed.specs.AtMost.{excess_none, excess_more}
 use Rattle.well_formed.proofs.at_most.Goals as goal
 
 pub loop-p-init : goal.loop-p-init

@@ -1,11 +1,7 @@
 -- `at_most` says exactly whether no cell is above its greatest value. The invariant: `over` is 0 exactly where none of the cells below p is.
-use mathlib.Core.Path.{◌≡◌}
 use Prim.Native.Nat.{◌≤◌, ◌-◌}
-use native.Mathlib.Omega.{arith}
 use lib.ListN.{length}
-use borrow.Author.Rules.{rules}
-use Rattle.code.specs.Laws.Exactly.{exactly_iff, exactly_eq}
-use Rattle.well_formed.specs.AtMost.{NoExcess, excess_none, excess_more}
+use Rattle.well_formed.specs.AtMost.{NoExcess}
 use Rattle.well_formed.proofs.at_most.Given as goal
 
 abbrev pub invariant-loop-p : goal.invariant-loop-p

@@ -1,7 +1,5 @@
-use Prim.Native.Nat.{◌-◌}
-use lib.ListN.{length}
 use borrow.Author.Rules.{rules}
-use Rattle.well_formed.specs.AtMost.{FilledTo, filled_none, filled_more, filled_past, filled_all}
+use Rattle.well_formed.specs.AtMost.{filled_none, filled_more, filled_past, filled_all}
 use Rattle.well_formed.proofs.fill.Goals as goal
 use Rattle.well_formed.proofs.fill.Goals.{then-p-n, else-p-n}
 

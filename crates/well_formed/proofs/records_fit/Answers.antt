@@ -1,9 +1,7 @@
 use mathlib.Core.Path.{◌≡◌}
-use Prim.Native.Nat.{ℕ, ◌-◌, ◌≤◌, ◌<◌}
 use native.Mathlib.Omega.{arith}
-use borrow.Author.Rules.{rules}
 use Rattle.code.specs.Definitions.Sheets.{limits}
-use Rattle.code.specs.Laws.Exactly.{Exactly, exactly_and, exactly_none, exactly_more}
+use Rattle.code.specs.Laws.Exactly.{exactly_and, exactly_none, exactly_more}
 use Rattle.code.specs.Laws.WellFormed.{RecordAt}
 use Rattle.well_formed.proofs.records_fit.Goals as goal
 

@@ -1,10 +1,7 @@
 -- `records_fit` says exactly whether all words and rows fit. The invariant: `ok` says so of those below k.
-use mathlib.Core.Path.{◌≡◌}
 use Prim.Native.Nat.{ℕ, ◌-◌, ◌≤◌, ◌<◌}
-use native.Mathlib.Omega.{arith}
-use borrow.Author.Rules.{rules}
 use Rattle.code.specs.Definitions.Sheets.{limits}
-use Rattle.code.specs.Laws.Exactly.{Exactly, exactly_and, exactly_none, exactly_more}
+use Rattle.code.specs.Laws.Exactly.{Exactly}
 use Rattle.code.specs.Laws.WellFormed.{RecordAt}
 use Rattle.well_formed.proofs.records_fit.Given as goal
 

@@ -1,9 +1,6 @@
 use mathlib.Core.Path.{◌≡◌, refl, ◌∙◌}
-use Prim.Native.Nat.{◌-◌, ◌≤◌}
 use native.Mathlib.Omega.{arith}
-use borrow.Author.Rules.{rules}
 use Rattle.code.specs.Definitions.Lists.{tabulate, sum}
-use Rattle.code.specs.Laws.WellFormed.{len_of}
 use Rattle.well_formed.proofs.Laws.Tested.{room_more, room_left}
 use Rattle.well_formed.proofs.total_fits.Goals as goal
 

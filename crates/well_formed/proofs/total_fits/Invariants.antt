@@ -1,12 +1,9 @@
 -- `total_fits` says exactly whether the words together are short enough. The invariant: `room` is what the symbols of the words below k leave of one more
 -- than the limit.
-use mathlib.Core.Path.{◌≡◌, refl, ◌∙◌}
+use mathlib.Core.Path.{◌≡◌}
 use Prim.Native.Nat.{◌-◌, ◌≤◌}
-use native.Mathlib.Omega.{arith}
-use borrow.Author.Rules.{rules}
 use Rattle.code.specs.Definitions.Lists.{tabulate, sum}
 use Rattle.code.specs.Laws.WellFormed.{len_of}
-use Rattle.well_formed.proofs.Laws.Tested.{room_more, room_left}
 use Rattle.well_formed.proofs.total_fits.Given as goal
 
 abbrev pub invariant-loop-k : goal.invariant-loop-k

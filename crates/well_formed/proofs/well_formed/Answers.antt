@@ -1,7 +1,7 @@
 -- `well_formed` says exactly whether an accepted sheet gives the table: its tests say exactly whether the table is well-formed, and that is the same.
-use mathlib.Core.Path.{◌≡◌, sym, ◌∙◌}
+use mathlib.Core.Path.{◌≡◌}
 use native.Mathlib.Omega.{arith}
-use lib.ListN.{length, length-map}
+use lib.ListN.{length}
 use borrow.Author.Rules.{rules}
 use Rattle.code.specs.Definitions.Sheets.{limits}
 use Rattle.code.specs.Laws.Exactly.{exactly_iff}

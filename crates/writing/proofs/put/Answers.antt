@@ -1,5 +1,4 @@
 -- All bytes copied are the run of their stores (`paste_all`).
-use borrow.Author.Rules.{rules}
 use mathlib.Core.Path.{refl, ◌∙◌}
 use Rattle.copying.specs.Copies.{paste_all}
 use Rattle.writing.proofs.put.Goals as goal

@@ -1,7 +1,6 @@
 -- The first field stands alone, every other after what parts them.
 use native.Mathlib.Omega.{arith}
 use lib.ListN.{length-append}
-use borrow.Author.Rules.{rules}
 use borrow.Author.Tests.{eq-eqb, ne_eqb}
 use Rattle.writing.specs.Puts.{puts_then, puts_length}
 use Rattle.writing.proofs.put_field.Goals as goal

@@ -2,7 +2,6 @@
 use mathlib.Core.Path.{sym, ◌∙◌}
 use native.Mathlib.Omega.{arith}
 use Rattle.ban_copies.specs.Adding.{there, new, many, long}
-use borrow.Author.Rules.{rules}
 use Rattle.ban_copies.proofs.adding.add_copy.Goals as goal
 
 pub returns-then-has_copy : goal.returns-then-has_copy

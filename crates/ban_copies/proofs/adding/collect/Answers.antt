@@ -1,9 +1,7 @@
-use Prim.Native.Nat.{◌-◌, ◌≤◌}
 use native.Mathlib.Omega.{arith}
 use borrow.Author.Tests.{not-true, not-false}
-use Rattle.code.specs.Definitions.Bans.{copies_of}
-use Rattle.ban_theory.specs.Triples.{ban_at, bans_from, known_ban}
-use Rattle.ban_copies.specs.Adding.{Collected, collected_none, collected_more, gathered_passed, gathered_all}
+use Rattle.ban_theory.specs.Triples.{ban_at, known_ban}
+use Rattle.ban_copies.specs.Adding.{collected_none, collected_more, gathered_passed, gathered_all}
 use borrow.Author.Rules.{rules}
 use Rattle.ban_copies.proofs.adding.collect.Goals as goal
 

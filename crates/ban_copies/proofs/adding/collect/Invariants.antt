@@ -1,11 +1,8 @@
 -- The loop goes from ban to ban. The invariant: the arrays hold the copies of the bans passed, within the limits.
 use Prim.Native.Nat.{◌-◌, ◌≤◌}
-use native.Mathlib.Omega.{arith}
-use borrow.Author.Tests.{not-true, not-false}
 use Rattle.code.specs.Definitions.Bans.{copies_of}
-use Rattle.ban_theory.specs.Triples.{ban_at, bans_from, known_ban}
-use Rattle.ban_copies.specs.Adding.{Collected, collected_none, collected_more, gathered_passed, gathered_all}
-use borrow.Author.Rules.{rules}
+use Rattle.ban_theory.specs.Triples.{bans_from}
+use Rattle.ban_copies.specs.Adding.{Collected}
 use Rattle.ban_copies.proofs.adding.collect.Given as goal
 
 abbrev pub invariant-loop-i : goal.invariant-loop-i

@@ -1,6 +1,5 @@
-use Prim.Native.Nat.{◌-◌, ◌≤◌}
 use native.Mathlib.Omega.{arith}
-use Rattle.ban_copies.specs.Coming.{NoCopy, copy_found, copy_passed, copy_none}
+use Rattle.ban_copies.specs.Coming.{copy_found, copy_passed, copy_none}
 use borrow.Author.Rules.{rules}
 use Rattle.ban_copies.proofs.adding.has_copy.Goals as goal
 

@@ -1,8 +1,6 @@
 -- The loop looks at copy after copy. The invariant: none of those passed is the copy of z after y.
 use Prim.Native.Nat.{◌-◌, ◌≤◌}
-use native.Mathlib.Omega.{arith}
-use Rattle.ban_copies.specs.Coming.{NoCopy, copy_found, copy_passed, copy_none}
-use borrow.Author.Rules.{rules}
+use Rattle.ban_copies.specs.Coming.{NoCopy}
 use Rattle.ban_copies.proofs.adding.has_copy.Given as goal
 
 abbrev pub invariant-loop-i : goal.invariant-loop-i

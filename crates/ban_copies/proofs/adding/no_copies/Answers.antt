@@ -1,10 +1,6 @@
-use mathlib.Core.Path.{◌≡◌, refl}
-use mathlib.Core.List.{[], ◌++◌}
-use Prim.Native.Nat.{◌-◌, ◌≤◌}
-use lib.ListN.{length, drop, replicate, length-set}
-use Rattle.code.specs.Definitions.Bans.{origin}
+use mathlib.Core.Path.{refl}
+use lib.ListN.{length-set}
 use Rattle.code.specs.Definitions.Lists.{tabulate}
-use Rattle.code.specs.Definitions.Sheets.{limits}
 use Rattle.ban_copies.specs.Adding.{own_next, start}
 use borrow.Author.Rules.{rules}
 use Rattle.ban_copies.proofs.adding.no_copies.Goals as goal

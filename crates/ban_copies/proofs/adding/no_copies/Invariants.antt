@@ -1,13 +1,11 @@
 -- The loop writes each word's own number; what stays zero stands where no word and no copy is.
-use mathlib.Core.Path.{◌≡◌, refl}
+use mathlib.Core.Path.{◌≡◌}
 use mathlib.Core.List.{[], ◌++◌}
 use Prim.Native.Nat.{◌-◌, ◌≤◌}
-use lib.ListN.{length, drop, replicate, length-set}
+use lib.ListN.{length, drop, replicate}
 use Rattle.code.specs.Definitions.Bans.{origin}
 use Rattle.code.specs.Definitions.Lists.{tabulate}
 use Rattle.code.specs.Definitions.Sheets.{limits}
-use Rattle.ban_copies.specs.Adding.{own_next, start}
-use borrow.Author.Rules.{rules}
 use Rattle.ban_copies.proofs.adding.no_copies.Given as goal
 
 abbrev pub invariant-loop-x : goal.invariant-loop-x

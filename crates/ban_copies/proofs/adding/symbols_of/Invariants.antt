@@ -1,12 +1,9 @@
 -- The loop adds the lengths of the words. The invariant: the symbols are those of the words below k, each within its limit.
-use mathlib.Core.Path.{◌≡◌, refl, sym}
+use mathlib.Core.Path.{◌≡◌}
 use Prim.Native.Nat.{◌-◌, ◌*◌, ◌≤◌}
-use native.Mathlib.Omega.{arith}
 use Rattle.code.specs.Definitions.Lists.{tabulate, sum}
 use Rattle.code.specs.Definitions.Sheets.{limits}
-use Rattle.code.specs.Laws.Lists.{sum_more}
 use Rattle.code.specs.Laws.WellFormed.{len_of}
-use borrow.Author.Rules.{rules}
 use Rattle.ban_copies.proofs.adding.symbols_of.Given as goal
 
 abbrev pub invariant-loop-k : goal.invariant-loop-k

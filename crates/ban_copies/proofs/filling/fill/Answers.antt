@@ -1,9 +1,7 @@
-use Prim.Native.Nat.{◌-◌, ◌≤◌}
 use native.Mathlib.Omega.{arith}
-use Rattle.code.specs.Definitions.Sheets.{limits}
 use Rattle.ban_theory.specs.Triples.{bans_from}
 use Rattle.ban_copies.specs.Held.{held_own, held_again}
-use Rattle.ban_copies.proofs.Laws.Filling.{Filled, filled_none, filled_more, filled_all}
+use Rattle.ban_copies.proofs.Laws.Filling.{filled_none, filled_more, filled_all}
 use borrow.Author.Rules.{rules}
 use Rattle.ban_copies.proofs.filling.fill.Goals as goal
 

@@ -1,11 +1,8 @@
 -- The loop writes a word and a row for each word and each copy.
 use Prim.Native.Nat.{◌-◌, ◌≤◌}
-use native.Mathlib.Omega.{arith}
 use Rattle.code.specs.Definitions.Sheets.{limits}
 use Rattle.ban_theory.specs.Triples.{bans_from}
-use Rattle.ban_copies.specs.Held.{held_own, held_again}
-use Rattle.ban_copies.proofs.Laws.Filling.{Filled, filled_none, filled_more, filled_all}
-use borrow.Author.Rules.{rules}
+use Rattle.ban_copies.proofs.Laws.Filling.{Filled}
 use Rattle.ban_copies.proofs.filling.fill.Given as goal
 
 abbrev pub invariant-loop-x : goal.invariant-loop-x

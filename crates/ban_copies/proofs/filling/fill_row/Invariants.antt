@@ -1,16 +1,12 @@
 -- The loop fills the entries from the front; what stays zero stands past the last copy.
-use mathlib.Core.Path.{◌≡◌, refl}
+use mathlib.Core.Path.{◌≡◌}
 use mathlib.Core.List.{◌++◌}
 use Prim.Native.Nat.{◌-◌, ◌≤◌}
-use native.Mathlib.Omega.{arith}
-use lib.ListN.{length, drop, replicate, length-set}
+use lib.ListN.{length, drop, replicate}
 use Rattle.code.specs.Definitions.Lists.{tabulate}
 use Rattle.code.specs.Definitions.Sheets.{limits}
-use Rattle.code.specs.Laws.Filling.{fill_next}
 use Rattle.ban_theory.specs.Triples.{bans_from}
-use Rattle.ban_copies.specs.Coming.{entry_by, asked}
-use Rattle.ban_copies.proofs.Laws.Filling.{entry_next, row_filled}
-use borrow.Author.Rules.{rules}
+use Rattle.ban_copies.specs.Coming.{entry_by}
 use Rattle.ban_copies.proofs.filling.fill_row.Given as goal
 
 abbrev pub invariant-loop-y : goal.invariant-loop-y

@@ -1,6 +1,5 @@
-use Prim.Native.Nat.{◌-◌, ◌≤◌}
 use native.Mathlib.Omega.{arith}
-use Rattle.ban_copies.specs.Coming.{NoBan, ban_found, ban_passed, ban_none}
+use Rattle.ban_copies.specs.Coming.{ban_found, ban_passed, ban_none}
 use borrow.Author.Rules.{rules}
 use Rattle.ban_copies.proofs.filling.is_banned.Goals as goal
 

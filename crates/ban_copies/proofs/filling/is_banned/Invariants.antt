@@ -1,8 +1,6 @@
 -- The loop looks at ban after ban. The invariant: none of those passed is on x after y then z.
 use Prim.Native.Nat.{◌-◌, ◌≤◌}
-use native.Mathlib.Omega.{arith}
-use Rattle.ban_copies.specs.Coming.{NoBan, ban_found, ban_passed, ban_none}
-use borrow.Author.Rules.{rules}
+use Rattle.ban_copies.specs.Coming.{NoBan}
 use Rattle.ban_copies.proofs.filling.is_banned.Given as goal
 
 abbrev pub invariant-loop-i : goal.invariant-loop-i

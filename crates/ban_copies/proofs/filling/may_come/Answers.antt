@@ -1,5 +1,4 @@
 -- Each way out is the case of its tests.
-use borrow.Author.Tests.{not-true, not-false}
 use Rattle.ban_copies.specs.Coming.{comes_not, comes_elsewhere, comes-allowed}
 use borrow.Author.Rules.{rules}
 use Rattle.ban_copies.proofs.filling.may_come.Goals as goal

@@ -1,7 +1,6 @@
 -- The array has the number of a word of the code.
 use mathlib.Core.Path.{refl}
 use Rattle.ban_copies.specs.Held.{number_below}
-use borrow.Author.Rules.{rules}
 use Rattle.ban_copies.proofs.filling.origin_of.Goals as goal
 
 pub returns : goal.returns

@@ -1,6 +1,5 @@
 -- A field by its length and its first byte; where these allow it its digits decide.
 use Rattle.ban_list.specs.Numbers.{number_none, number_one, number_zero, number_more}
-use borrow.Author.Rules.{rules}
 use Rattle.ban_list.proofs.fields.number.Goals as goal
 
 pub returns-then-e-at : goal.returns-then-e-at

@@ -1,6 +1,5 @@
 use borrow.Author.Rules.{rules}
-use Prim.Native.Nat.{◌-◌}
-use Rattle.ban_list.specs.Numbers.{Summed, sum_starts, sum_digit, sum_letter, sum_large, sum_on, sum_ends}
+use Rattle.ban_list.specs.Numbers.{sum_starts, sum_digit, sum_letter, sum_large, sum_on, sum_ends}
 use Rattle.ban_list.proofs.fields.value.Goals as goal
 
 pub loop-i-init : goal.loop-i-init

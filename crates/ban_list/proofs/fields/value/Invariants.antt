@@ -1,7 +1,6 @@
 -- The loop keeps what the digits so far stand for; each way out is one of a digit's.
-use borrow.Author.Rules.{rules}
 use Prim.Native.Nat.{◌-◌}
-use Rattle.ban_list.specs.Numbers.{Summed, sum_starts, sum_digit, sum_letter, sum_large, sum_on, sum_ends}
+use Rattle.ban_list.specs.Numbers.{Summed}
 use Rattle.ban_list.proofs.fields.value.Given as goal
 
 abbrev pub invariant-loop-i : goal.invariant-loop-i

@@ -1,9 +1,7 @@
 use borrow.Author.Rules.{rules}
 use mathlib.Core.Path.{◌≡◌}
-use Prim.Native.Nat.{◌-◌, ◌≤◌}
 use native.Mathlib.Omega.{arith}
-use Rattle.code.specs.Definitions.Sheets.{limits}
-use Rattle.renumbering.specs.Origins.{ListedTo, number_room, number_listed, copy_passed}
+use Rattle.renumbering.specs.Origins.{number_room, number_listed, copy_passed}
 use Rattle.renumbering.proofs.origins.list_copies.Goals as goal
 use Rattle.renumbering.proofs.origins.list_copies.Goals.{then-origins-x, else-origins-x}
 

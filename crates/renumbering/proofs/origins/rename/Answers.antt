@@ -1,8 +1,7 @@
 use borrow.Author.Rules.{rules}
-use Prim.Native.Nat.{◌-◌}
 use native.Mathlib.Omega.{arith}
-use Rattle.renumbering.specs.Reordering.{Filled, filled_none}
-use Rattle.renumbering.proofs.Laws.Naming.{name_at, unnamed, named_more, named_all}
+use Rattle.renumbering.specs.Reordering.{filled_none}
+use Rattle.renumbering.proofs.Laws.Naming.{unnamed, named_more, named_all}
 use Rattle.renumbering.proofs.origins.rename.Goals as goal
 
 pub loop-i-init : goal.loop-i-init

@@ -1,5 +1,4 @@
 -- The index counts from its start up to the buffer's length.
-use borrow.Author.Rules.{rules}
 use Prim.Native.Nat.{◌≤◌, ◌-◌}
 use lib.ListN.{length}
 use Rattle.try_messages.proofs.buffers.holds.Given as goal

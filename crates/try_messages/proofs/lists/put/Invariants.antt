@@ -1,5 +1,4 @@
 -- Each item is put within the list, and begins after the one before it.
-use borrow.Author.Rules.{rules}
 use mathlib.Core.Path.{◌≡◌}
 use Prim.Native.Nat.{◌≤◌, ◌-◌}
 use lib.ListN.{length}

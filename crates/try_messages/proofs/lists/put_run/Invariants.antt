@@ -1,5 +1,4 @@
 -- The index counts up to the end of the list, whose length stays.
-use borrow.Author.Rules.{rules}
 use mathlib.Core.Path.{◌≡◌}
 use Prim.Native.Nat.{◌≤◌, ◌-◌}
 use lib.ListN.{length}

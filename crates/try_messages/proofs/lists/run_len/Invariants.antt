@@ -1,5 +1,4 @@
 -- The run has at least the entry at its start, and ends within the list.
-use borrow.Author.Rules.{rules}
 use Prim.Native.Nat.{◌+◌, ◌≤◌, ◌<◌, ◌-◌}
 use lib.ListN.{length}
 use Rattle.try_messages.proofs.lists.run_len.Given as goal
