@@ -6,7 +6,8 @@ usage: python3 tools/dashes.py            at the top of the repository, once
 A dash joins two names: `map-take` is on map and take, which both stand in its statement, and keeps it. Every other declaration of a .antt file whose name has dashes
 gets underscores in their place: `way-empty` becomes `way_empty`. Where that is another declaration's name, or that of a function in the crate's src/, or it ended in
 -law, it ends in _lem.
-Goals, which Rattle names, and names that a file imports from elsewhere keep their dashes, and so do the words of comments that are not in backticks.
+A constructor is no lemma: where its name would be a definition's, it gets another one, from a table. Goals, which Rattle names, and names that a file imports from
+elsewhere keep their dashes, and so do the words of comments that are not in backticks.
 """
 
 import collections
@@ -23,6 +24,11 @@ QUOTED = re.compile(r"(`[^`]*`)")
 FUNCTION = re.compile(r"\bfn ([a-z0-9_]+)")
 IMPORTED = re.compile(r"^(?:ghost )?use (\S+?)\.\{([^}]*)\}", re.M)
 OURS = re.compile(r"^Rattle\.(?!std\b|io\b|check\b|core\b)")
+# Constructors whose names with underscores are those of definitions, by the modules that declare them.
+CONSTRUCTORS = {
+    "Rattle.code.specs.Definitions.Tables": {"no-word": "no_words"},
+    "Rattle.code.specs.Laws.Openings": {"both-begin": "rivals_begin", "both-follow": "rivals_follow"},
+}
 GOAL = re.compile(
     r"^(returns|loop|overflow_\w+|bounds|offset_bounds|slice_bounds|shape_of|invariant|invariant_of|decreases|nonzero_\w+|In|After|At|then|else)(-|$)|-requires(-|$)"
 )
@@ -109,13 +115,21 @@ def rename(text, names):
     return "".join(quoted(x) if i % 2 else new(x) for i, x in enumerate(parts))
 
 
+def constructors(path, text):
+    """The names of the table that a file declares or imports."""
+    here = "Rattle." + path.removeprefix("crates/").removesuffix(".antt").replace("/", ".")
+    own = CONSTRUCTORS.get(here, {})
+    return own | {there: CONSTRUCTORS[module][there] for module, there, _ in imports(text) if there in CONSTRUCTORS.get(module, {})}
+
+
 def main():
     files = [p for p in sorted(glob.glob("crates/*/**/*", recursive=True)) if "/out/" not in p and p.endswith((".antt", ".rt", ".edit"))]
     names = new_names(files)
     for path in files:
         old = read(path)
         foreign = {there for module, there, _ in imports(old) if not OURS.match(module)}
-        text = rename(old, {n: new for n, new in names.items() if n not in foreign})
+        own = {n: new for n, new in names.items() if n not in foreign}
+        text = rename(old, own | constructors(path, old))
         if text != old:
             write(path, text)
     print(f"{len(names)} names with underscores, {sum(new.endswith('_lem') for new in names.values())} of them with _lem")

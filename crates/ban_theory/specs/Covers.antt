@@ -2,7 +2,7 @@
 -- remember. Then the permitted sequences of the two match one to one, by naming each word of the covering table by the word that it stands for.
 use Rattle.std.specs.Prelude.{◌≡◌, refl, true, false, List, [], ◌∷◌, ◌++◌, map, ℕ, ◌<◌}
 use Rattle.std.proofs.Common.{sym, ap, ap₂, ◌∙◌, subst}
-use Rattle.code.specs.Definitions.Tables.{Table, size, word, Linked, none, one, more, Obeys, no_word_lem, one_word, two_words, triple, Permitted, empty, begun, message}
+use Rattle.code.specs.Definitions.Tables.{Table, size, word, Linked, none, one, more, Obeys, no_words, one_word, two_words, triple, Permitted, empty, begun, message}
 use Rattle.code.specs.Laws.Finite.{Within}
 use Rattle.code.specs.Laws.Sequences.{Free, first_word, second_follows, rest_linked, linked_within, permitted_linked, first_unbanned, rest_obeys, free_permitted}
 
@@ -55,7 +55,7 @@ module _ {e t : Table} {name start : ℕ → ℕ} {after : ℕ → ℕ → ℕ} 
       (subst (λ (v : ℕ). e.follow x v ≡ true) (c.follow-after z y z< y< (second_follows l)) (second_follows l'))
 
   named_obeys : (s : List ℕ) → Linked e s → Obeys t (map name s)
-  named_obeys [] l = no_word_lem
+  named_obeys [] l = no_words
   named_obeys (x ∷ []) l = one_word
   named_obeys (y ∷ z ∷ []) l = two_words
   named_obeys (y ∷ z ∷ x ∷ s) l = triple (named_triple y z x s l) (named_obeys (z ∷ x ∷ s) (rest_linked l))

@@ -1,4 +1,4 @@
--- What each exported function promises, for every input: the number it returns, and what each lent buffer then holds. A table's image that is too short to be
+-- What each function for C promises, for every input: the number it returns, and what each lent buffer then holds. A table's image that is too short to be
 -- read gets 13 by itself. Where the answer is too short, 13 holds beside the operation's own refusals, and no buffer changes. All else is the operation's answer.
 use Rattle.std.specs.Prelude.{◌≡◌, List, [], ◌⊎◌, ℕ, ◌≤◌, ◌<◌, length}
 use Rattle.code.specs.declared.Enlargement.{Enlargement}

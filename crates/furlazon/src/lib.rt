@@ -1,5 +1,6 @@
-// The operations for C and for Rust. A table crosses as its image, a flat run of bytes, and classes as their entries; an answer crosses as the number returned, 0 for a result or the
-// refusal's, and as entries of a lent buffer. The crate `furlazon_c` exports these functions under their names, and include/furlazon.h declares them for C.
+// The operations for C and for Rust. A table crosses as its image, a flat run of bytes, and classes as their entries; an answer crosses as the number returned, 0
+// for a result or the refusal's, and as entries of a lent buffer. The crate `furlazon_c` exports these functions under their names, and include/furlazon.h
+// declares them for C.
 
 #![tactic(auto)]
 

@@ -7,7 +7,7 @@ use Rattle.code.specs.Definitions.Sheets.{limits}
 use Rattle.code.specs.Definitions.Tables.{Table, size}
 use Rattle.code.specs.Laws.Below.{some_in, some_out}
 use Rattle.code.specs.Laws.Endings.{Ending, ending_word}
-use Rattle.code.specs.Laws.Openings.{Rivals, both_begin_lem, both_follow_lem, rivals_swap}
+use Rattle.code.specs.Laws.Openings.{Rivals, rivals_begin, rivals_follow, rivals_swap}
 use Rattle.graph.specs.Goals.{GoalBefore}
 use Rattle.graph.specs.Graph.{Reach, start, onward}
 use Rattle.pair_places.specs.Flat.{symbol_at, end_at, first_at, at_start, behinds, may_come, ending_at, opens_at, both_behind, rivals_at, word_count, cell_count, lower, higher, slots_of, pair_graph}
@@ -40,11 +40,11 @@ module _ {t : Table} {f : List ℕ} (l : LaidOut t f) (d : Ended t f) where
   by_word x y z h k b e (yes q) w =
       let a = (and-eq-true_iff (ending_at f z) (may_come f x z && may_come f y z)).0 e in
       let c = (and-eq-true_iff (may_come f x z) (may_come f y z)).0 a.1 in
-      both_begin_lem (sym (begins_same l x h) ∙ subst (λ (i : ℕ). may_come f x i ≡ true) q c.0) (sym (begins_same l y k) ∙ subst (λ (i : ℕ). may_come f y i ≡ true) q c.1)
+      rivals_begin (sym (begins_same l x h) ∙ subst (λ (i : ℕ). may_come f x i ≡ true) q c.0) (sym (begins_same l y k) ∙ subst (λ (i : ℕ). may_come f y i ≡ true) q c.1)
   by_word x y z h k b e (no q) (yes w) =
       let a = (and-eq-true_iff (ending_at f z) (may_come f x z && may_come f y z)).0 e in
       let c = (and-eq-true_iff (may_come f x z) (may_come f y z)).0 a.1 in
-      both_follow_lem (d.marked z w a.0) (sym (follow_same l x z h w) ∙ c.0) (sym (follow_same l y z k w) ∙ c.1)
+      rivals_follow (d.marked z w a.0) (sym (follow_same l x z h w) ∙ c.0) (sym (follow_same l y z k w) ∙ c.1)
   by_word x y z h k b e (no q) (no w) =
       let a = (and-eq-true_iff (ending_at f z) (may_come f x z && may_come f y z)).0 e in
       absurd (false≢true (sym (d.past z (omega arith) (omega arith)) ∙ a.0))
@@ -59,8 +59,8 @@ module _ {t : Table} {f : List ℕ} (l : LaidOut t f) (d : Ended t f) where
       some_in (both_behind f x y) behinds z h ((and-eq-true_iff (ending_at f z) (may_come f x z && may_come f y z)).1 (a, (and-eq-true_iff (may_come f x z) (may_come f y z)).1 (b, c)))
 
   rivals_marked : (x y : ℕ) → x < size t → y < size t → Rivals t x y → rivals_at f x y ≡ true
-  rivals_marked x y h k (both_begin_lem a b) = both_at x y at_start d.source (begins_same l x h ∙ a) (begins_same l y k ∙ b) (omega arith)
-  rivals_marked x y h k (both_follow_lem {z} e a b) =
+  rivals_marked x y h k (rivals_begin a b) = both_at x y at_start d.source (begins_same l x h ∙ a) (begins_same l y k ∙ b) (omega arith)
+  rivals_marked x y h k (rivals_follow {z} e a b) =
       let w = ending_word e in
       both_at x y z (d.all z e) (follow_same l x z h w ∙ a) (follow_same l y z k w ∙ b) (omega (arith, l.fits.most))
 

@@ -3,7 +3,7 @@
 use Rattle.std.specs.Prelude.{◌≡◌, refl, true, false, [], ◌∷◌, ℕ, suc, ◌<◌, ltb, length}
 use Rattle.std.proofs.Common.{arith, ltb-true}
 use Rattle.code.specs.Definitions.Tables.{Table, word, one, more, two_words, begun}
-use Rattle.code.specs.Laws.Openings.{both_begin_lem}
+use Rattle.code.specs.Laws.Openings.{rivals_begin}
 use Rattle.code.specs.Definitions.Readings.{Decipherable}
 use Rattle.code.specs.Definitions.Delays.{SharePrefix, Delay}
 use Rattle.pair_theory.specs.Places.{Place, first_place, Plain, symbol, Ends, Parting, FirstPair, CommonStep, Step, inside, across, Reached, start, onward}
@@ -36,7 +36,7 @@ along h = inside h refl
 
 first : {x y : ℕ} → x < 4 → y < 4 → (x ≡ y → ⊥) → symbol four_words (first_place x) ≡ symbol four_words (first_place y)
     → FirstPair four_words (Parting four_words) (first_place x) (first_place y)
-first {x} {y} h k d e = record { x = x; y = y; left_known = h; right_known = k; starts = record { differ = d; rivals = both_begin_lem refl refl }; left = refl; right = refl; same = e }
+first {x} {y} h k d e = record { x = x; y = y; left_known = h; right_known = k; starts = record { differ = d; rivals = rivals_begin refl refl }; left = refl; right = refl; same = e }
 
 by_010 : Reached four_words (Parting four_words) (0 ∷ 1 ∷ 0 ∷ []) (at 3 1) (at 0 0)
 by_010 =

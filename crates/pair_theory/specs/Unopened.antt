@@ -5,7 +5,7 @@ use Rattle.std.proofs.Common.{sym, ap, ◌∙◌, subst, inl, inr, arith, length
 use Rattle.std.proofs.lemmas.List.{append_cancel_left}
 use Rattle.std.proofs.Math.Decide.{ℕ_discrete}
 use Rattle.code.specs.Definitions.Tables.{Table, size, word, Linked, message}
-use Rattle.code.specs.Laws.Openings.{both_begin_lem}
+use Rattle.code.specs.Laws.Openings.{rivals_begin}
 use Rattle.code.specs.Laws.Sequences.{first_word, rest_linked}
 use Rattle.pair_theory.specs.Places.{Place, first_place, Plain, Path, ApartEnds, Parting, Compatible, TwoEnds}
 use Rattle.pair_theory.specs.Paths.{last_of, sequence_from}
@@ -36,7 +36,7 @@ module _ (t : Table) (plain : Plain t) (all : AllBegin t) where
       y = y;
       left_known = first_word g;
       right_known = first_word h;
-      starts = record { differ = f; rivals = both_begin_lem (all x (first_word g)) (all y (first_word h)) };
+      starts = record { differ = f; rivals = rivals_begin (all x (first_word g)) (all y (first_word h)) };
       left = whole_path plain x s g;
       right = subst (λ (z : List ℕ). Path t (first_place y) z (end_place t (last_of y u))) (sym e) (whole_path plain y u h);
     };

@@ -7,7 +7,7 @@ use mathlib.Core.List.{List, [], ◌∷◌, List-discrete}
 use Rattle.std.proofs.Math.Logic.Dec
 use Rattle.std.proofs.Math.Decide.{map_dec, ℕ_discrete}
 use Rattle.code.specs.Definitions.Readings.{Reads, NoReading, OnlyReading, TwoReadings}
-use Rattle.code.specs.Definitions.Tables.{Table, size, message, Obeys, no_word_lem, one_word, two_words, triple, Permitted, empty, begun}
+use Rattle.code.specs.Definitions.Tables.{Table, size, message, Obeys, no_words, one_word, two_words, triple, Permitted, empty, begun}
 use Rattle.code.specs.Definitions.Texts.{is_letter, run, rest, symbols_in, Shows, split, none, several, Splits, end, copied, shown}
 use Rattle.code.specs.Laws.Finite.{Within, SomeList, list, decide_list}
 use Rattle.code.specs.Laws.Sequences.{NonEmpty, decide_linked, linked_within, permitted_linked, first_begins, permitted_obeys, first_unbanned, rest_obeys, words_most}
@@ -19,7 +19,7 @@ decide_not (no f) = yes f
 
 module _ (t : Table) where
   decide_obeys : (s : List ℕ) → Dec (Obeys t s)
-  decide_obeys [] = yes no_word_lem
+  decide_obeys [] = yes no_words
   decide_obeys (x ∷ []) = yes one_word
   decide_obeys (y ∷ z ∷ []) = yes two_words
   decide_obeys (y ∷ z ∷ x ∷ s) =

@@ -1,4 +1,4 @@
--- The ways through the exported functions, one for each end of a call.
+-- The ways through the functions for C, one for each end of a call.
 use mathlib.Core.Path.{◌≡◌, refl, sym, ◌∙◌}
 use mathlib.Core.Bool.{Bool, true, false}
 use mathlib.Core.List.{List, []}
