@@ -1,8 +1,7 @@
 -- Collecting the copies of a ban list: ban after ban finds its copy or adds it, until a limit is passed.
-use Rattle.std.specs.Prelude.{◌≡◌, refl, Bool, true, false, List, [], ◌∷◌, ◌++◌, ◌⊎◌, ℕ, zero, suc, ◌+◌, ◌-◌, ◌≤◌, ◌<◌, ltb, length, drop, set, replicate}
+use Rattle.std.specs.Prelude.{◌≡◌, refl, Bool, true, false, List, [], ◌∷◌, ◌++◌, ◌⊎◌, ℕ, zero, suc, ◌+◌, ◌-◌, ◌≤◌, ◌<◌, ltb, length, drop, set, replicate, Option, Some, None, MatchOption}
 use Rattle.std.proofs.Math.Path.{sym}
-use Rattle.std.proofs.Common.{ap, ◌∙◌, true≢false, inl, inr, arith, add-zero, add-suc, add-one, length-append, ltb-true, lt-ltb, le-ltb}
-use Rattle.std.proofs.lemmas.Bool.{false≢true}
+use Rattle.std.proofs.Common.{ap, ◌∙◌, inl, inr, arith, add-zero, add-suc, add-one, length-append, ltb-true, lt-ltb, le-ltb}
 use Rattle.std.proofs.lemmas.List.{length-replicate}
 use Rattle.code.specs.declared.Code.{Code}
 use Rattle.code.specs.Definitions.Lists.{tabulate, sum}
@@ -26,7 +25,6 @@ pub record Start (n all : ℕ) (k : Copies) : Type 0 where
   pub origins : k.origins ≡ tabulate (origin n []) limits.words
   pub behind : k.behind ≡ tabulate (behind_at n []) limits.words
   pub symbols : k.symbols ≡ all
-  pub fits : k.fits ≡ true
 
 -- The numbers of the words, written in front of zeros.
 pub own_next : (n x : ℕ) → x < n → n ≤ limits.words
@@ -36,7 +34,7 @@ own_next n x h m =
     ∙ fill_next (origin n []) (replicate limits.words 0) x (omega (arith, length-replicate {A = ℕ} limits.words 0))
 
 pub start : (n all x : ℕ) {origins : List ℕ} → origins ≡ tabulate (origin n []) x ++ drop x (replicate limits.words 0) → n ≤ x → x ≤ limits.words
-    → Start n all (record { originals = n; number = 0; origins = origins; behind = replicate limits.words 0; symbols = all; fits = true })
+    → Start n all (record { originals = n; number = 0; origins = origins; behind = replicate limits.words 0; symbols = all })
 unfolding tabulate
 start n all x e h m = record {
   originals = refl;
@@ -44,26 +42,20 @@ start n all x e h m = record {
   origins = e ∙ fill_end (origin n []) 0 x limits.words (λ k l. origin_copy n [] k (omega arith)) m;
   behind = fill_end (behind_at n []) 0 0 limits.words (λ k l. behind_none n k) (omega arith);
   symbols = refl;
-  fits = refl;
 }
 
--- the copies that passed a limit
-abbrev pub stopped : Copies → Copies
-stopped k = record { originals = k.originals; number = k.number; origins = k.origins; behind = k.behind; symbols = k.symbols; fits = false }
-
--- The copies behind a ban that needs a copy of z, of `len` symbols, after y.
-pub data Added (y z len : ℕ) (k : Copies) : Copies → Type 0 where
-  there : has_copy (held k) y z ≡ true → Added y z len k k
-  new : has_copy (held k) y z ≡ false → k.originals + k.number < limits.words → k.symbols + len ≤ limits.total → Added y z len k (with_copy y z len k)
-  many : has_copy (held k) y z ≡ false → limits.words ≤ k.originals + k.number → Added y z len k (stopped k)
-  long : has_copy (held k) y z ≡ false → limits.total < k.symbols + len → Added y z len k (stopped k)
+-- The copies behind a ban that needs a copy of z, of `len` symbols, after y; none where they pass a limit.
+pub data Added (y z len : ℕ) (k : Copies) : Option Copies → Type 0 where
+  there : has_copy (held k) y z ≡ true → Added y z len k (Some k)
+  new : has_copy (held k) y z ≡ false → k.originals + k.number < limits.words → k.symbols + len ≤ limits.total → Added y z len k (Some (with_copy y z len k))
+  many : has_copy (held k) y z ≡ false → limits.words ≤ k.originals + k.number → Added y z len k None
+  long : has_copy (held k) y z ≡ false → limits.total < k.symbols + len → Added y z len k None
 
 -- The arrays hold the copies cs, within the limits.
 pub record Collected (c : Code) (cs : List Copy) (k : Copies) : Type 0 where
   pub arrays : Held c.count cs k
   pub symbols : k.symbols ≡ symbols_with limits c cs
   pub few : k.symbols ≤ limits.total
-  pub fits : k.fits ≡ true
 
 abbrev pub Passed : Code → List Ban → Type 0
 Passed c bs = too_many limits c (copies_of bs) ≡ true
@@ -94,6 +86,9 @@ module _ (c : Code) where
   passed_later l i zero e = rw (add-zero i) e
   passed_later l i (suc d) e = rw (add-suc i d, ← add-one (i + d), bans_more l (i + d)) (passed_next (bans_from l (i + d)) (ban_at l (i + d)) (passed_later l i d e))
 
+some_same : {k m : Copies} → Some k ≡ Some m → k ≡ m
+some_same e = cc
+
 -- One ban more
 module _ {c : Code} (bs : List Ban) {k : Copies} (b : Ban) (had : Collected c (copies_of bs) k) where
   found : {a : Bool} → has_copy (held k) b.y b.z ≡ a → has_copy (copies_of bs) b.y b.z ≡ a
@@ -111,29 +106,33 @@ module _ {c : Code} (bs : List Ban) {k : Copies} (b : Ban) (had : Collected c (c
   more_symbols : symbols_with limits c (copies_of bs ++ (record { behind = b.y; of = b.z } ∷ [])) ≡ k.symbols + len_of c b.z
   more_symbols = symbols_more limits c (copies_of bs) (record { behind = b.y; of = b.z }) ∙ rw had.symbols
 
-  pub collected_next : {m : Copies} → KnownBan c.count b → Added b.y b.z (len_of c b.z) k m → m.fits ≡ true → Collected c (copies_of (bs ++ (b ∷ []))) m
-  collected_next known (there e) f = rw (was true e) had
-  collected_next known (new e room short) f =
-      rw (was false e)
+  collected_by : {r : Option Copies} {m : Copies} → KnownBan c.count b → Added b.y b.z (len_of c b.z) k r → r ≡ Some m → Collected c (copies_of (bs ++ (b ∷ []))) m
+  collected_by known (there e) f = rw (was true e, ← some_same f) had
+  collected_by known (new e room short) f =
+      rw (was false e, ← some_same f)
       record {
         arrays = held_more b.y b.z (len_of c b.z) had.arrays (found e) known.y known.z (omega (arith, count));
         symbols = sym more_symbols;
         few = short;
-        fits = refl;
       }
-  collected_next known (many e full) f = absurd (false≢true f)
-  collected_next known (long e full) f = absurd (false≢true f)
+  collected_by known (many e full) f = absurd (cc)
+  collected_by known (long e full) f = absurd (cc)
 
-  pub passed_here : {m : Copies} → Added b.y b.z (len_of c b.z) k m → m.fits ≡ false → Passed c (bs ++ (b ∷ []))
-  passed_here (there e) f = absurd (true≢false (sym had.fits ∙ f))
-  passed_here (new e room short) f = absurd (true≢false f)
-  passed_here (many e full) f = rw (was false e) (many_words c (copies_of bs ++ (record { behind = b.y; of = b.z } ∷ [])) (omega (arith, count, grown)))
-  passed_here (long e full) f = rw (was false e) (many_symbols c (copies_of bs ++ (record { behind = b.y; of = b.z } ∷ [])) (omega (arith, more_symbols)))
+  pub collected_next : {m : Copies} → KnownBan c.count b → Added b.y b.z (len_of c b.z) k (Some m) → Collected c (copies_of (bs ++ (b ∷ []))) m
+  collected_next known a = collected_by known a refl
 
--- What collecting gives.
-pub record Gathered (c : Code) (bs : List Ban) (k : Copies) : Type 0 where
-  pub within : k.fits ≡ true → Collected c (copies_of bs) k
-  pub passed : k.fits ≡ false → Passed c bs
+  passed_by : {r : Option Copies} → Added b.y b.z (len_of c b.z) k r → r ≡ None → Passed c (bs ++ (b ∷ []))
+  passed_by (there e) f = absurd (cc)
+  passed_by (new e room short) f = absurd (cc)
+  passed_by (many e full) f = rw (was false e) (many_words c (copies_of bs ++ (record { behind = b.y; of = b.z } ∷ [])) (omega (arith, count, grown)))
+  passed_by (long e full) f = rw (was false e) (many_symbols c (copies_of bs ++ (record { behind = b.y; of = b.z } ∷ [])) (omega (arith, more_symbols)))
+
+  pub passed_here : Added b.y b.z (len_of c b.z) k None → Passed c (bs ++ (b ∷ []))
+  passed_here a = passed_by a refl
+
+-- What collecting gives: the copies within the limits, or none where they pass one.
+abbrev pub Gathered : Code → List Ban → Option Copies → Type 0
+Gathered c bs r = MatchOption r (Passed c bs) (Collected c (copies_of bs))
 
 -- The ways through `collect`, over the numbers l of the bans.
 module _ {c : Code} (l : List ℕ) where
@@ -152,24 +151,18 @@ module _ {c : Code} (l : List ℕ) where
         };
         symbols = s.symbols ∙ sym (symbols_none limits c);
         few = omega (arith, s.symbols, well.total);
-        fits = s.fits;
       }
 
   pub collected_more : {k m : Copies} (i : ℕ) → Collected c (copies_of (bans_from l i)) k → KnownBan c.count (ban_at l i)
-      → Added (ban_at l i).y (ban_at l i).z (len_of c (ban_at l i).z) k m → m.fits ≡ true → Collected c (copies_of (bans_from l (i + 1))) m
-  collected_more i had known a f = rw (bans_more l i) (collected_next (bans_from l i) (ban_at l i) had known a f)
+      → Added (ban_at l i).y (ban_at l i).z (len_of c (ban_at l i).z) k (Some m) → Collected c (copies_of (bans_from l (i + 1))) m
+  collected_more i had known a = rw (bans_more l i) (collected_next (bans_from l i) (ban_at l i) had known a)
 
-  pub gathered_passed : {k m : Copies} (i n : ℕ) → i < n → Collected c (copies_of (bans_from l i)) k
-      → Added (ban_at l i).y (ban_at l i).z (len_of c (ban_at l i).z) k m → m.fits ≡ false → Gathered c (bans_from l n) m
-  gathered_passed i n h had a f =
+  pub gathered_passed : {k : Copies} (i n : ℕ) → i < n → Collected c (copies_of (bans_from l i)) k
+      → Added (ban_at l i).y (ban_at l i).z (len_of c (ban_at l i).z) k None → Passed c (bans_from l n)
+  gathered_passed i n h had a =
       let e : i + 1 + (n - (i + 1)) ≡ n = omega arith in
-      let here : Passed c (bans_from l (i + 1)) = rw (bans_more l i) (passed_here (bans_from l i) (ban_at l i) had a f) in
-      record { within = λ q. absurd (true≢false (sym q ∙ f)); passed = λ q. rw e at (passed_later c l (i + 1) (n - (i + 1)) here) }
-
-  pub gathered_all : {k : Copies} (i n : ℕ) → i ≤ n → n ≤ i → Collected c (copies_of (bans_from l i)) k → Gathered c (bans_from l n) k
-  gathered_all i n h m had =
-      let e : i ≡ n = omega arith in
-      rw (← e) record { within = λ q. had; passed = λ q. absurd (true≢false (sym had.fits ∙ q)) }
+      let here : Passed c (bans_from l (i + 1)) = rw (bans_more l i) (passed_here (bans_from l i) (ban_at l i) had a) in
+      rw e at (passed_later c l (i + 1) (n - (i + 1)) here)
 
 -- Refusal 17 holds where collecting passed a limit, and only there.
 pub refused_passed : {c : Code} (bs : List Ban) → WellFormed limits c → Known c.count bs → Passed c bs → refused17 limits c bs ≡ true

@@ -1,7 +1,7 @@
 -- Which word may come after which in a code with copies: what the arrays of the copies, a row of the code's matrix and the bans say.
 use Rattle.std.specs.Prelude.{◌≡◌, Bool, true, ◌&&◌, List, ℕ, ◌+◌, ◌*◌, ◌≤◌, ◌<◌, eqb, length, if◌then◌else◌}
 use Rattle.std.proofs.Math.Path.{sym, ap}
-use Rattle.std.proofs.Common.{◌∙◌, arith, below_more}
+use Rattle.std.proofs.Common.{◌∙◌, arith}
 use Rattle.std.proofs.Math.Bool.{false, not}
 use Rattle.std.proofs.Math.Dec.{ltb}
 use Rattle.std.proofs.Math.ListN.{get_or}
@@ -9,46 +9,13 @@ use borrow.Author.Tests.{lt-ltb, le-ltb, eq-eqb, ne_eqb}
 use Rattle.code.specs.declared.Code.{Code}
 use Rattle.code.specs.Definitions.Sheets.{limits}
 use Rattle.code.specs.Definitions.Tables.{no_row, table_of}
-use Rattle.code.specs.Definitions.Bans.{Ban, Copy, is_copy, has_copy, is_ban, banned_by, copies_of, copy_at, origin, stands_after, unbanned, may_come}
-use Rattle.code.specs.Laws.Lists.{any-tabulate, any_found}
+use Rattle.code.specs.Definitions.Bans.{Ban, Copy, has_copy, banned_by, copies_of, copy_at, origin, stands_after, unbanned, may_come}
 use Rattle.ban_theory.specs.CopyLists.{origin_word, stands_word, stands_copy}
-use Rattle.ban_theory.specs.Triples.{ban_at, bans_from}
+use Rattle.ban_theory.specs.Triples.{bans_from}
 use Rattle.code.specs.Laws.WellFormed.{WellFormed}
 use Rattle.code.specs.Laws.Words.{size-count}
 use Rattle.ban_copies.specs.declared.Copies.{Copies}
-use Rattle.ban_copies.specs.Held.{copy_held, held, Held, origin_at, behind_at_lem, held_is, held_again}
-
--- A scan of the copies: none before i is the copy of z after y.
-abbrev pub NoCopy : Copies → ℕ → ℕ → ℕ → Type 0
-NoCopy k y z i = (j : ℕ) → j < i → is_copy y z (copy_held k j) ≡ false
-
-module _ (k : Copies) (y z i : ℕ) {r : Bool} (e : r ≡ is_copy y z (copy_held k i)) where
-  pub copy_found : i < k.number → r ≡ true → true ≡ has_copy (held k) y z
-  unfolding held has_copy
-  copy_found h q = sym (any_found (is_copy y z) (copy_held k) k.number i h (sym e ∙ q))
-
-  pub copy_passed : NoCopy k y z i → r ≡ false → NoCopy k y z (i + 1)
-  copy_passed before q = below_more _ i before (sym e ∙ q)
-
-pub copy_none : (k : Copies) (y z i : ℕ) → NoCopy k y z i → k.number ≤ i → false ≡ has_copy (held k) y z
-unfolding held has_copy
-copy_none k y z i before h = sym (any-tabulate (is_copy y z) (copy_held k) k.number (λ j l. before j (omega arith)))
-
--- A scan of the bans: none before i is on x after y then z.
-abbrev pub NoBan : List ℕ → ℕ → ℕ → ℕ → ℕ → Type 0
-NoBan l x y z i = (j : ℕ) → j < i → is_ban x y z (ban_at l j) ≡ false
-
-module _ (l : List ℕ) (x y z i : ℕ) {r : Bool} (e : r ≡ is_ban x y z (ban_at l i)) where
-  pub ban_found : (n : ℕ) → i < n → r ≡ true → true ≡ banned_by (bans_from l n) x y z
-  unfolding bans_from banned_by
-  ban_found n h q = sym (any_found (is_ban x y z) (ban_at l) n i h (sym e ∙ q))
-
-  pub ban_passed : NoBan l x y z i → r ≡ false → NoBan l x y z (i + 1)
-  ban_passed before q = below_more _ i before (sym e ∙ q)
-
-pub ban_none : (l : List ℕ) (n x y z i : ℕ) → NoBan l x y z i → n ≤ i → false ≡ banned_by (bans_from l n) x y z
-unfolding bans_from banned_by
-ban_none l n x y z i before h = sym (any-tabulate (is_ban x y z) (ban_at l) n (λ j m. before j (omega arith)))
+use Rattle.ban_copies.specs.Held.{held, Held, origin_at, behind_at_lem, held_is, held_again}
 
 -- Behind a word of n nothing is banned; behind a copy, what the bans say.
 unfoldable pub allowed : ℕ → List Ban → ℕ → ℕ → Bool

@@ -1,5 +1,5 @@
 -- Copies as they are collected in two arrays behind the words: the list that the arrays hold, and the arrays of a list.
-use Rattle.std.specs.Prelude.{◌≡◌, true, false, List, [], ◌∷◌, ◌++◌, ℕ, ◌+◌, ◌-◌, ◌≤◌, ◌<◌, ltb, length, get_or, set, if◌then◌else◌}
+use Rattle.std.specs.Prelude.{◌≡◌, false, List, [], ◌∷◌, ◌++◌, ℕ, ◌+◌, ◌-◌, ◌≤◌, ◌<◌, ltb, length, get_or, set, if◌then◌else◌}
 use Rattle.std.proofs.Math.Path.{refl}
 use Rattle.std.proofs.Common.{sym, ap, ◌∙◌, subst, arith, length-append, lt-ltb, le-ltb}
 use Rattle.std.proofs.Math.Decide.{dec_lt}
@@ -114,7 +114,6 @@ with_copy y z len k = record {
   origins = set k.origins (k.originals + k.number) z;
   behind = set k.behind (k.originals + k.number) y;
   symbols = k.symbols + len;
-  fits = true;
 }
 
 pub held_more : {n : ℕ} {cs : List Copy} {k : Copies} (y z len : ℕ) → Held n cs k → has_copy cs y z ≡ false → y < n → z < n → n + length cs < limits.words

@@ -1,7 +1,7 @@
 // Collecting the copies that a list of bans needs, each once and in the list's order, until a limit is passed.
 
 ghost use Rattle.std.specs.Prelude.{◌≡◌, ◌+◌, ◌*◌, ◌≤◌, ◌<◌, length};
-ghost use Rattle.code.specs.Definitions.Bans.{is_copy, has_copy};
+ghost use Rattle.code.specs.Definitions.Bans.{has_copy};
 ghost use Rattle.code.specs.Definitions.Lists.{tabulate, sum};
 ghost use Rattle.code.specs.Definitions.Sheets.{limits};
 ghost use Rattle.ban_theory.specs.BanLists.{Known};
@@ -19,11 +19,8 @@ fn symbols_of(code: Code) -> usize
     ensures { result ≡ sum (tabulate (len_of code) limits.words) }
 {
     let mut symbols: usize = 0;
-    let mut k: usize = 0;
-    while k < Code::WORDS {
-        let word = code.words[k];
+    for word in code.words.iter() {
         symbols += word.len;
-        k += 1;
     }
     symbols
 }
@@ -34,10 +31,8 @@ fn no_copies(n: usize, symbols: usize) -> Copies
     ensures { Start n symbols result }
 {
     let mut origins = [0u8; Code::WORDS];
-    let mut x: usize = 0;
-    while x < n {
+    for x in 0..n {
         origins[x] = x as u8;
-        x += 1;
     }
     Copies {
         originals: n,
@@ -45,77 +40,52 @@ fn no_copies(n: usize, symbols: usize) -> Copies
         origins: origins,
         behind: [0; Code::WORDS],
         symbols: symbols,
-        fits: true,
     }
-}
-
-// Whether a copy of the word `of` after the word `behind` is one of z after y.
-fn is_copy(behind: u8, of: u8, y: u8, z: u8) -> bool
-    ensures { result ≡ is_copy y z (record { behind = behind; of = of }) }
-{
-    if behind == y { of == z } else { false }
 }
 
 // Whether there is a copy of z after y.
-pub fn has_copy(copies: Copies, y: u8, z: u8) -> bool
-    requires { copies.originals + copies.number ≤ limits.words }
-    ensures { result ≡ has_copy (held copies) y z }
+pub fn has_copy(copies: &Copies, y: u8, z: u8) -> bool
+    requires { copies.now.originals + copies.now.number ≤ limits.words }
+    ensures { result ≡ has_copy (held copies.now) y z }
 {
     let n = copies.originals;
-    let number = copies.number;
-    let mut i: usize = 0;
-    while i < number {
-        if is_copy(copies.behind[n + i], copies.origins[n + i], y, z) {
-            return true;
-        }
-        i += 1;
-    }
-    false
+    (0..copies.number).any(|i| copies.behind[n + i] == y && copies.origins[n + i] == z)
 }
 
-// The copies behind a ban that needs a copy of z, of `len` symbols, after y.
-fn add_copy(copies: Copies, y: u8, z: u8, len: usize) -> Copies
+// The copies behind a ban that needs a copy of z, of `len` symbols, after y; none where they pass a limit.
+fn add_copy(copies: Copies, y: u8, z: u8, len: usize) -> Option<Copies>
     requires { (copies.originals + copies.number ≤ limits.words) × (copies.symbols ≤ limits.total) × (len ≤ limits.symbols) }
     ensures { Added y z len copies result }
 {
-    if has_copy(copies, y, z) {
-        return copies;
+    if has_copy(&copies, y, z) {
+        return Some(copies);
     }
-    let mut more = copies;
     let at = copies.originals + copies.number;
     if at == Code::WORDS {
-        more.fits = false;
-        return more;
+        return None;
     }
     if Code::SYMBOLS < copies.symbols + len {
-        more.fits = false;
-        return more;
+        return None;
     }
+    let mut more = copies;
     more.number = copies.number + 1;
     more.origins[at] = z;
     more.behind[at] = y;
     more.symbols = copies.symbols + len;
-    more.fits = true;
-    more
+    Some(more)
 }
 
-// The copies of the bans whose numbers stand three by three in `numbers`.
-pub fn collect(code: Code, numbers: &[u8], bans: usize) -> Copies
+// The copies of the bans whose numbers stand three by three in `numbers`; none where they pass a limit.
+pub fn collect(code: Code, numbers: &[u8], bans: usize) -> Option<Copies>
     requires { WellFormed limits code × (3 * bans ≤ length numbers.now) × Known code.count (bans_from numbers.now bans) }
     ensures { Gathered code (bans_from numbers.now bans) result }
 {
     let mut copies = no_copies(code.count, symbols_of(code));
-    let mut i: usize = 0;
-    while i < bans {
+    for i in 0..bans {
         let y = numbers[3 * i + 1];
         let z = numbers[3 * i + 2];
-        let of = z as usize;
-        let word = code.words[of];
-        copies = add_copy(copies, y, z, word.len);
-        if !copies.fits {
-            return copies;
-        }
-        i += 1;
+        let word = code.words[usize::from(z)];
+        copies = add_copy(copies, y, z, word.len)?;
     }
-    copies
+    Some(copies)
 }

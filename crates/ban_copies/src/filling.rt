@@ -1,8 +1,8 @@
 // The words and the matrix of a code with copies: which word may come after which, row by row.
 
-ghost use Rattle.std.specs.Prelude.{◌≡◌, ◌+◌, ◌*◌, ◌≤◌, ◌<◌, length, get_or, if◌then◌else◌};
+ghost use Rattle.std.specs.Prelude.{◌≡◌, ◌+◌, ◌*◌, ◌≤◌, ◌<◌, length, get_or};
 ghost use Rattle.code.specs.Definitions.Lists.{tabulate};
-ghost use Rattle.code.specs.Definitions.Bans.{is_ban, banned_by, copies_of, stands_after};
+ghost use Rattle.code.specs.Definitions.Bans.{banned_by, copies_of, stands_after};
 ghost use Rattle.code.specs.Definitions.Enlarged.{enlarged_code};
 ghost use Rattle.code.specs.Definitions.Sheets.{limits};
 ghost use Rattle.ban_theory.specs.Triples.{bans_from};
@@ -14,37 +14,12 @@ use crate::Copies;
 use crate::adding::has_copy;
 use code::{Code, Row};
 
-// Whether a ban on a after b then c says that x never follows y then z.
-fn is_ban(a: u8, b: u8, c: u8, x: u8, y: u8, z: u8) -> bool
-    ensures { result ≡ is_ban x y z (record { x = a; y = b; z = c }) }
-{
-    if a == x {
-        if b == y { c == z } else { false }
-    } else {
-        false
-    }
-}
-
 // Whether one of the bans in `numbers` says that x never follows y then z.
 fn is_banned(numbers: &[u8], bans: usize, x: u8, y: u8, z: u8) -> bool
     requires { 3 * bans ≤ length numbers.now }
     ensures { result ≡ banned_by (bans_from numbers.now bans) x y z }
 {
-    let mut i: usize = 0;
-    while i < bans {
-        if is_ban(
-            numbers[3 * i],
-            numbers[3 * i + 1],
-            numbers[3 * i + 2],
-            x,
-            y,
-            z,
-        ) {
-            return true;
-        }
-        i += 1;
-    }
-    false
+    (0..bans).any(|i| numbers[3 * i] == x && numbers[3 * i + 1] == y && numbers[3 * i + 2] == z)
 }
 
 // The number of the word of which x is a copy, or x itself.
@@ -61,7 +36,7 @@ fn stands_after(copies: Copies, x: usize, y: u8) -> bool
     ensures { result ≡ stands_after copies.originals (held copies) x y }
 {
     if x < copies.originals {
-        return !has_copy(copies, y, copies.origins[x]);
+        return !has_copy(&copies, y, copies.origins[x]);
     }
     copies.behind[x] == y
 }
@@ -98,12 +73,6 @@ fn may_come(row: Row, copies: Copies, numbers: &[u8], bans: usize, x: usize, y: 
     is_allowed(copies, numbers, bans, x, y)
 }
 
-fn bit(b: bool) -> u8
-    ensures { result ≡ (if b then 1 else 0) }
-{
-    if b { 1 } else { 0 }
-}
-
 // Row x of the matrix; `row` is that of the word of which x is a copy.
 fn fill_row(row: Row, copies: Copies, numbers: &[u8], bans: usize, x: usize) -> Row
     requires { Held copies.originals (copies_of (bans_from numbers.now bans)) copies × (3 * bans ≤ length numbers.now) × (x < copies.originals + copies.number) }
@@ -113,10 +82,8 @@ fn fill_row(row: Row, copies: Copies, numbers: &[u8], bans: usize, x: usize) -> 
     let mut filled = Row {
         entries: [0; Code::WORDS],
     };
-    let mut y: usize = 0;
-    while y < count {
-        filled.entries[y] = bit(may_come(row, copies, numbers, bans, x, y));
-        y += 1;
+    for y in 0..count {
+        filled.entries[y] = u8::from(may_come(row, copies, numbers, bans, x, y));
     }
     filled
 }
@@ -128,14 +95,10 @@ pub fn fill(code: Code, copies: Copies, numbers: &[u8], bans: usize) -> Code
 {
     let count = copies.originals + copies.number;
     let mut filled = code;
-    let mut x: usize = 0;
-    while x < count {
+    for x in 0..count {
         let origin = origin_of(copies, x);
-        let word = code.words[origin];
-        let row = fill_row(code.rows[origin], copies, numbers, bans, x);
-        filled.words[x] = word;
-        filled.rows[x] = row;
-        x += 1;
+        filled.words[x] = code.words[origin];
+        filled.rows[x] = fill_row(code.rows[origin], copies, numbers, bans, x);
     }
     filled.count = count;
     filled

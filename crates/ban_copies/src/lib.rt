@@ -16,7 +16,7 @@ ghost use Rattle.ban_copies.specs.Adding.{Collected};
 
 use adding::collect;
 use code::blanks::blank_code;
-use code::{Code, Enlarged, Enlargement, Refusal, SheetAnswer};
+use code::{Code, Enlarged, Enlargement, Refusal};
 use filling::fill;
 
 // Copies as they are collected, behind the words of a code. What stands past the last copy is zero.
@@ -32,8 +32,6 @@ pub struct Copies {
     pub behind: [u8; Code::WORDS],
     // the symbols of the words and the copies
     pub symbols: usize,
-    // whether the copies are within the limits
-    pub fits: bool,
 }
 
 // The table of a refused list: no words, and all zero.
@@ -70,17 +68,20 @@ pub fn enlarge_by(code: Code, numbers: &[u8], bans: usize) -> Enlargement
     requires { WellFormed limits code × (3 * bans ≤ length numbers.now) × Known code.count (bans_from numbers.now bans) }
     ensures { result ≡ enlargement limits code (bans_from numbers.now bans) }
 {
-    let copies = collect(code, numbers, bans);
-    if copies.fits {
-        let enlarged = with_copies(code, copies, numbers, bans);
-        return Enlargement {
-            answer: SheetAnswer::Accepted,
-            enlarged: enlarged,
-        };
-    }
-    let blank = blank_enlarged();
-    Enlargement {
-        answer: SheetAnswer::Refused(Refusal::BanLimit),
-        enlarged: blank,
+    match collect(code, numbers, bans) {
+        Some(copies) => {
+            let enlarged = with_copies(code, copies, numbers, bans);
+            Enlargement {
+                answer: Ok(()),
+                enlarged: enlarged,
+            }
+        }
+        None => {
+            let blank = blank_enlarged();
+            Enlargement {
+                answer: Err(Refusal::BanLimit),
+                enlarged: blank,
+            }
+        }
     }
 }

@@ -9,19 +9,15 @@ ghost use Rattle.code.specs.Laws.Exactly.{Exactly};
 ghost use Rattle.ban_enlarge.specs.Ways.{refused_list};
 
 use ban_copies::{blank_enlarged, enlarge_by};
-use ban_list::{BanList, read_bans};
-use code::{Enlarged, Enlargement, Refusal, Sheet, SheetAnswer};
+use ban_list::read_bans;
+use code::{Enlarged, Enlargement, Refusal, Sheet};
 use well_enlarged::well_enlarged;
 
 // Whether an accepted sheet gives the table, and it has no copies.
 fn without_copies(value: Enlarged) -> bool
     ensures { Exactly result (WithoutCopies limits value) }
 {
-    let code = value.code;
-    if well_enlarged(value) {
-        return value.originals == code.count;
-    }
-    false
+    well_enlarged(value) && value.originals == value.code.count
 }
 
 // A refused list gives the blank table.
@@ -30,7 +26,7 @@ fn refuse(r: Refusal) -> Enlargement
 {
     let blank = blank_enlarged();
     Enlargement {
-        answer: SheetAnswer::Refused(r),
+        answer: Err(r),
         enlarged: blank,
     }
 }
@@ -49,7 +45,7 @@ pub fn enlarge(value: Enlarged, list: &[u8]) -> Enlargement
     let code = value.code;
     let mut numbers = [0u8; Sheet::BYTES];
     match read_bans(list, code.count, &mut numbers) {
-        BanList::Wrong => refuse(Refusal::BanRecord),
-        BanList::Bans(k) => enlarge_by(code, &numbers, k),
+        None => refuse(Refusal::BanRecord),
+        Some(k) => enlarge_by(code, &numbers, k),
     }
 }

@@ -1,23 +1,18 @@
 -- A record of a ban list by its fields: the byte behind each tells whether there are three, and what was read of them whether they are a ban.
-use Rattle.std.specs.Prelude.{◌≡◌, Bool, ◌&&◌, ◌||◌, List, [], ◌∷◌, ℕ, ◌+◌, ◌≤◌, leb, length, drop, get_or}
+use Rattle.std.specs.Prelude.{◌≡◌, List, [], ◌∷◌, ℕ, ◌+◌, ◌≤◌, length, drop, get_or, Some, None}
 use Rattle.std.proofs.Math.Path.{refl}
-use Rattle.std.proofs.Common.{sym, ◌∙◌, arith, eqb-true, ne_eqb, leb-false}
-use Rattle.std.proofs.Math.Bool.{true, false, not}
+use Rattle.std.proofs.Common.{sym, ◌∙◌, arith, eqb-true, eq-eqb, ne_eqb}
+use Rattle.std.proofs.Math.Bool.{true, false, not, and-false}
 use Rattle.std.proofs.Math.Dec.{eqb}
 use Rattle.std.proofs.lemmas.Bool.{eqb-false, not-true, not-false}
 use Rattle.code.specs.Definitions.Lists.{any, every}
 use Rattle.code.specs.Definitions.BanLists.{number_of, is_number, bad_ban}
 use Rattle.code.specs.Laws.Clean.{Clean, record_fields}
-use Rattle.code.specs.Laws.Lists.{or_neither}
 use Rattle.csv_records.specs.Fields.{leading}
 use Rattle.csv_records.specs.Front.{Next, rest_of, comma_within, first_field_lem, joined, any_first, record_goes_on, record_ends}
 use Rattle.ban_list.specs.declared.fields.Field.{Field}
-use Rattle.ban_list.specs.Numbers.{number_in, number_some, number_read, number_wrong}
+use Rattle.ban_list.specs.Numbers.{number_some, number_read, number_wrong, number_below}
 use Rattle.ban_list.specs.Ensured.{FieldAt, BanFrom}
-
--- Three numbers that were read are no ban.
-abbrev pub wrong_numbers : ℕ → ℕ → ℕ → ℕ → Bool
-wrong_numbers n x y z = leb n x || leb n y || leb n z || eqb y z
 
 -- A record by the number of its fields.
 module _ (n : ℕ) (f g h : List ℕ) where
@@ -33,16 +28,23 @@ module _ (n : ℕ) (f g h : List ℕ) where
   unfolding bad_ban
   many_fields i r = rw (ne_eqb (length (f ∷ g ∷ h ∷ i ∷ r)) 3 (λ q. omega arith))
 
-  three_fields : bad_ban n (f ∷ g ∷ h ∷ []) ≡ wrong_numbers n (number_in n f) (number_in n g) (number_in n h)
+  -- three fields, of which one is no number
+  wrong_first : is_number n f ≡ false → bad_ban n (f ∷ g ∷ h ∷ []) ≡ true
   unfolding bad_ban every
-  three_fields = rw (number_wrong n f, number_wrong n g, number_wrong n h) (go (is_number n f) (is_number n g) (is_number n h) refl refl)
-    where
-      go : (t u v : Bool) → is_number n g ≡ u → is_number n h ≡ v
-          → (not (t && (u && (v && true))) || eqb (number_of g) (number_of h)) ≡ (not t || not u || not v || eqb (number_in n g) (number_in n h))
-      go false u v p q = refl
-      go true false v p q = refl
-      go true true false p q = refl
-      go true true true p q = rw (number_read n g p, number_read n h q)
+  wrong_first e = rw e
+
+  wrong_second : is_number n g ≡ false → bad_ban n (f ∷ g ∷ h ∷ []) ≡ true
+  unfolding bad_ban every
+  wrong_second e = rw (e, and-false)
+
+  wrong_third : is_number n h ≡ false → bad_ban n (f ∷ g ∷ h ∷ []) ≡ true
+  unfolding bad_ban every
+  wrong_third e = rw (e, and-false, and-false)
+
+  -- three numbers
+  three_numbers : is_number n f ≡ true → is_number n g ≡ true → is_number n h ≡ true → bad_ban n (f ∷ g ∷ h ∷ []) ≡ eqb (number_of g) (number_of h)
+  unfolding bad_ban every
+  three_numbers p q r = rw (p, q, r)
 
 -- a field that is not the last has a comma behind it, and another field behind that
 a_comma : (n : ℕ) (s : List ℕ) (from : ℕ) (f : Field) → FieldAt n s from f → f.last ≡ false → get_or s f.end 0 ≡ 44
@@ -60,12 +62,12 @@ module _ (n : ℕ) (s : List ℕ) (from : ℕ) (f : Field) (c : Clean (drop from
       → (record_fields (drop from s) ≡ (leading (drop from s) ∷ []) ∷ rest_of s (f.end + 2)) × (f.end + 2 ≤ length s → Clean (drop (f.end + 2) s))
   stops t = record_ends s from f.end c a.ends (eqb-false (get_or s f.end 0) 44 (not-true (eqb (get_or s f.end 0) 44) (sym a.stands ∙ t)))
 
-  -- a number that was read
-  number_here : leb n f.number ≡ false → is_number n (leading (drop from s)) ≡ true
-  number_here e = not-false (is_number n (leading (drop from s))) (sym (number_wrong n (leading (drop from s))) ∙ (rw a.read at e))
+  -- a number that was read, or none
+  number_here : {v : ℕ} → f.number ≡ Some v → (is_number n (leading (drop from s)) ≡ true) × (number_of (leading (drop from s)) ≡ v)
+  number_here e = number_read n (leading (drop from s)) (sym a.read ∙ e)
 
-  number_same : leb n f.number ≡ false → number_of (leading (drop from s)) ≡ f.number
-  number_same e = sym (a.read ∙ number_read n (leading (drop from s)) (number_here e))
+  number_none : f.number ≡ None → is_number n (leading (drop from s)) ≡ false
+  number_none e = number_wrong n (leading (drop from s)) (sym a.read ∙ e)
 
 -- The record that begins at `from`, in each of the ways that its fields can go.
 module _ (n : ℕ) (s : List ℕ) (from : ℕ) (c : Clean (drop from s)) (f : Field) (a : FieldAt n s from f) where
@@ -110,28 +112,45 @@ module _ (n : ℕ) (s : List ℕ) (from : ℕ) (c : Clean (drop from s)) (f : Fi
         third : record_fields (drop from s) ≡ three ∷ rest_of s (h.end + 2)
         third = from_second (leading (drop (g.end + 1) s) ∷ []) (rest_of s (h.end + 2)) (stops n s (g.end + 1) h second.clean d (not-false h.last v)).0
 
-        judged : bad_ban n three ≡ wrong_numbers n f.number g.number h.number
-        judged =
-            three_fields n (leading (drop from s)) (leading (drop (f.end + 1) s)) (leading (drop (g.end + 1) s)) ∙ rw (a.read, b.read, d.read)
+        refused : bad_ban n three ≡ true → any (bad_ban n) (record_fields (drop from s)) ≡ true
+        refused e = any_first (bad_ban n) three (rest_of s (h.end + 2)) third e
 
-        pub no_ban : {t : Bool} → t ≡ wrong_numbers n f.number g.number h.number → t ≡ true → any (bad_ban n) (record_fields (drop from s)) ≡ true
-        no_ban w e = any_first (bad_ban n) three (rest_of s (h.end + 2)) third (judged ∙ sym w ∙ e)
+        pub no_first : f.number ≡ None → any (bad_ban n) (record_fields (drop from s)) ≡ true
+        no_first e = refused (wrong_first n _ _ _ (number_none n s from f c a e))
 
-        pub one_ban : {t : Bool} → t ≡ wrong_numbers n f.number g.number h.number → t ≡ false → BanFrom n s from f.number g.number h.number (h.end + 2)
-        one_ban w z =
-            let e = sym w ∙ z in
-            let p = (or_neither (leb n f.number || leb n g.number || leb n h.number) (eqb g.number h.number) e).0 in
-            let q = or_neither (leb n f.number || leb n g.number) (leb n h.number) p in
-            let r = or_neither (leb n f.number) (leb n g.number) q.0 in
-            record {
-              fields = three;
-              first = third;
-              right = judged ∙ e;
-              same = rw (number_same n s from f c a r.0, number_same n s (f.end + 1) g first.clean b r.1, number_same n s (g.end + 1) h second.clean d q.1);
-              clean = (stops n s (g.end + 1) h second.clean d (not-false h.last v)).1;
-              low_x = leb-false n f.number r.0;
-              low_y = leb-false n g.number r.1;
-              low_z = leb-false n h.number q.1;
-              long = omega (arith, a.ends, b.ends, d.ends, number_some n (leading (drop (g.end + 1) s)) (number_here n s (g.end + 1) h second.clean d q.1));
-              within = omega (arith, d.within);
-            }
+        pub no_second : g.number ≡ None → any (bad_ban n) (record_fields (drop from s)) ≡ true
+        no_second e = refused (wrong_second n _ _ _ (number_none n s (f.end + 1) g first.clean b e))
+
+        pub no_third : h.number ≡ None → any (bad_ban n) (record_fields (drop from s)) ≡ true
+        no_third e = refused (wrong_third n _ _ _ (number_none n s (g.end + 1) h second.clean d e))
+
+        module _ {x y z : ℕ} (p : f.number ≡ Some x) (q : g.number ≡ Some y) (r : h.number ≡ Some z) where
+          x_read : (is_number n (leading (drop from s)) ≡ true) × (number_of (leading (drop from s)) ≡ x)
+          x_read = number_here n s from f c a p
+
+          y_read : (is_number n (leading (drop (f.end + 1) s)) ≡ true) × (number_of (leading (drop (f.end + 1) s)) ≡ y)
+          y_read = number_here n s (f.end + 1) g first.clean b q
+
+          z_read : (is_number n (leading (drop (g.end + 1) s)) ≡ true) × (number_of (leading (drop (g.end + 1) s)) ≡ z)
+          z_read = number_here n s (g.end + 1) h second.clean d r
+
+          judged : bad_ban n three ≡ eqb y z
+          judged = three_numbers n _ _ _ x_read.0 y_read.0 z_read.0 ∙ rw (y_read.1, z_read.1)
+
+          pub one_twice : y ≡ z → any (bad_ban n) (record_fields (drop from s)) ≡ true
+          one_twice e = refused (judged ∙ eq-eqb y z e)
+
+          pub one_ban : (y ≡ z → ⊥) → BanFrom n s from (record { x = x; y = y; z = z; next = h.end + 2 })
+          one_ban other =
+              record {
+                fields = three;
+                first = third;
+                right = judged ∙ ne_eqb y z other;
+                same = rw (x_read.1, y_read.1, z_read.1);
+                clean = (stops n s (g.end + 1) h second.clean d (not-false h.last v)).1;
+                low_x = rw x_read.1 at (number_below n (leading (drop from s)) x_read.0);
+                low_y = rw y_read.1 at (number_below n (leading (drop (f.end + 1) s)) y_read.0);
+                low_z = rw z_read.1 at (number_below n (leading (drop (g.end + 1) s)) z_read.0);
+                long = omega (arith, a.ends, b.ends, d.ends, number_some n (leading (drop (g.end + 1) s)) z_read.0);
+                within = omega (arith, d.within);
+              }

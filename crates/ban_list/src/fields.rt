@@ -1,73 +1,57 @@
 // The fields of a ban list: one number, and the three of a record.
 
-ghost use Rattle.std.specs.Prelude.{◌≡◌, ◌+◌, ◌-◌, ◌≤◌, length, drop};
+ghost use Rattle.std.specs.Prelude.{◌≡◌, ◌≤◌, length, drop};
 ghost use Rattle.code.specs.Laws.Clean.{Clean};
-ghost use Rattle.csv_records.specs.Fields.{leading};
 ghost use Rattle.ban_list.specs.Numbers.{value_in, number_in};
-ghost use Rattle.ban_list.specs.BanRecords.{wrong_numbers};
 ghost use Rattle.ban_list.specs.Ensured.{FieldAt, RecordFrom};
 
 use csv_records::{byte_at, field_end};
 
-// A field: its number, or how many words there are if it is none of theirs; where it ends; whether it is the last of its record.
+// A field: its number, if it is that of a word; where it ends; whether it is the last of its record.
 #[derive(Clone, Copy)]
 pub struct Field {
-    pub number: usize,
+    pub number: Option<usize>,
     pub end: usize,
     pub last: bool,
 }
 
-// That a record is no ban; or X, Y, Z, and where the next record begins.
+// The ban of a record, and where the next record begins.
 #[derive(Clone, Copy)]
-pub enum Record {
-    Wrong,
-    Ban(usize, usize, usize, usize),
+pub struct Record {
+    pub x: usize,
+    pub y: usize,
+    pub z: usize,
+    pub next: usize,
 }
 
-// What a decimal digit stands for.
-fn digit(b: u8) -> usize
-    requires { (48 ≤ b) × (b ≤ 57) }
-    ensures { (result ≡ b - 48) × (result ≤ 9) }
-{
-    (b - 48) as usize
-}
-
-// The number of the digits from `at` up to e, or `words` if that is no smaller or one of them is a letter.
-fn value(s: &[u8], at: usize, e: usize, words: usize) -> usize
-    requires { (e ≡ at + length (leading (drop at s.now))) × (e ≤ length s.now) × (words ≤ 256) }
-    ensures { result ≡ value_in words 0 (leading (drop at s.now)) }
+// The number that the bytes of a field stand for; none if one of them is no decimal digit, or the number is no smaller than `words`.
+fn value(field: &[u8], words: usize) -> Option<usize>
+    requires { (1 ≤ length field.now) × (words ≤ 256) }
+    ensures { result ≡ value_in words 0 field.now }
 {
     let mut sum: usize = 0;
-    let mut i = at;
-    while i < e {
-        let b = s[i];
-        if 57 < b {
-            return words;
+    for b in field {
+        if !b.is_ascii_digit() {
+            return None;
         }
-        sum = sum * 10 + digit(b);
+        sum = sum * 10 + usize::from(*b - b'0');
         if words <= sum {
-            return words;
+            return None;
         }
-        i += 1;
     }
-    sum
+    Some(sum)
 }
 
-// The number of the field from `at` up to e, or `words` if it is empty, has a leading zero, or is no number below `words`.
-fn number(s: &[u8], at: usize, e: usize, words: usize) -> usize
-    requires { (e ≡ at + length (leading (drop at s.now))) × (e ≤ length s.now) × (words ≤ 256) }
-    ensures { result ≡ number_in words (leading (drop at s.now)) }
+// The number of a field; none if it is empty, has a leading zero, or is no number below `words`.
+fn number(field: &[u8], words: usize) -> Option<usize>
+    requires { words ≤ 256 }
+    ensures { result ≡ number_in words field.now }
 {
-    if e == at {
-        return words;
+    if field.is_empty() {
+        return None;
     }
-    if e == at + 1 {
-        return value(s, at, e, words);
-    }
-    if s[at] == 48 {
-        return words;
-    }
-    value(s, at, e, words)
+    let padded = field.len() > 1 && field[0] == b'0';
+    if padded { None } else { value(field, words) }
 }
 
 // The field that begins at `at`.
@@ -75,49 +59,41 @@ fn read_field(s: &[u8], at: usize, words: usize) -> Field
     requires { (at ≤ length s.now) × (words ≤ 256) }
     ensures { FieldAt words s.now at result }
 {
-    let e = field_end(s, at);
+    let end = field_end(s, at);
     Field {
-        number: number(s, at, e, words),
-        end: e,
-        last: byte_at(s, e) != 44,
+        number: number(&s[at..end], words),
+        end,
+        last: byte_at(s, end) != b',',
     }
 }
 
-// Whether the numbers of three fields are no ban.
-fn wrong_numbers(x: usize, y: usize, z: usize, words: usize) -> bool
-    ensures { result ≡ wrong_numbers words x y z }
-{
-    if words <= x {
-        return true;
-    }
-    if words <= y {
-        return true;
-    }
-    if words <= z {
-        return true;
-    }
-    y == z
-}
-
-// The record that begins at `at`.
-pub fn read_record(s: &[u8], at: usize, words: usize) -> Record
+// The record that begins at `at`, if it is a ban.
+pub fn read_record(s: &[u8], at: usize, words: usize) -> Option<Record>
     requires { Clean (drop at s.now) × (at ≤ length s.now) × (words ≤ 256) }
     ensures { RecordFrom words s.now at result }
 {
-    let x = read_field(s, at, words);
-    if x.last {
-        return Record::Wrong;
+    let first = read_field(s, at, words);
+    if first.last {
+        return None;
     }
-    let y = read_field(s, x.end + 1, words);
-    if y.last {
-        return Record::Wrong;
+    let second = read_field(s, first.end + 1, words);
+    if second.last {
+        return None;
     }
-    let z = read_field(s, y.end + 1, words);
-    if !z.last {
-        return Record::Wrong;
+    let third = read_field(s, second.end + 1, words);
+    if !third.last {
+        return None;
     }
-    if wrong_numbers(x.number, y.number, z.number, words) {
-        return Record::Wrong;
+    let x = first.number?;
+    let y = second.number?;
+    let z = third.number?;
+    if y == z {
+        return None;
     }
-    Record::Ban(x.number, y.number, z.number, z.end + 2)
+    Some(Record {
+        x,
+        y,
+        z,
+        next: third.end + 2,
+    })
 }

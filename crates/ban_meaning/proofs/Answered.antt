@@ -1,11 +1,10 @@
 -- Lists of the same records get the same answer.
-use Rattle.std.specs.Prelude.{◌≡◌, refl, List, [], ◌∷◌, ◌↔◌, ℕ, ◌≤◌, length}
+use Rattle.std.specs.Prelude.{◌≡◌, refl, List, [], ◌∷◌, ◌↔◌, ℕ, ◌≤◌, length, Err}
 use Rattle.std.proofs.Common.{sym, ap, ◌∙◌, inl, inr, arith}
 use Rattle.code.specs.declared.Enlarged.{Enlarged}
 use Rattle.code.specs.declared.Enlargement.{Enlargement}
 use Rattle.code.specs.declared.Limits.{Limits}
 use Rattle.code.specs.declared.Refusal.{Refusal}
-use Rattle.code.specs.declared.SheetAnswer.TheVariants.{Refused}
 use Rattle.code.specs.Definitions.BanLists.{bans_of}
 use Rattle.code.specs.Definitions.Operations.{Condition, Lowest, NoneHolds, ban_conditions, Enlarges, refused, enlarged}
 use Rattle.code.specs.Laws.Conditions.{lowest_unique, lowest_none}
@@ -60,7 +59,7 @@ module _ (l : Limits) (e : Enlarged) (s u : List ℕ) (s-short : length s ≤ l.
   pub answers_same : {x y : Enlargement} → Enlarges l e s x → Enlarges l e u y → x.answer ≡ y.answer
   answers_same (refused {r} h p) (refused {r = i} k q) =
       ap (λ (z : Enlargement). z.answer) p
-      ∙ ap (λ (j : Refusal). Refused j) (lowest_unique (ban_conditions l e u) r i (lowest_same (ban_conditions l e s) (ban_conditions l e u) conditions_same r h) k)
+      ∙ ap (λ (j : Refusal). Err j) (lowest_unique (ban_conditions l e u) r i (lowest_same (ban_conditions l e s) (ban_conditions l e u) conditions_same r h) k)
       ∙ sym (ap (λ (z : Enlargement). z.answer) q)
   answers_same (refused {r} h p) (enlarged k q) = absurd (lowest_none (ban_conditions l e u) r (lowest_same (ban_conditions l e s) (ban_conditions l e u) conditions_same r h) k)
   answers_same (enlarged h p) (refused {r} k q) = absurd (lowest_none (ban_conditions l e u) r k (none_same (ban_conditions l e s) (ban_conditions l e u) conditions_same h))

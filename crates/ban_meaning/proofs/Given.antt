@@ -1,11 +1,10 @@
 -- A value that a sheet and a ban list give means the sheet's table with the list's bans.
-use Rattle.std.specs.Prelude.{◌≡◌, refl, Bool, List, [], ◌∷◌, ◌++◌, ◌↔◌, ℕ, ◌<◌}
+use Rattle.std.specs.Prelude.{◌≡◌, refl, Bool, List, [], ◌∷◌, ◌++◌, ◌↔◌, ℕ, ◌<◌, Ok}
 use Rattle.std.proofs.Math.Path.{sym}
 use Rattle.std.proofs.Common.{ap, ◌∙◌, ext_get_or}
 use Rattle.code.specs.declared.Code.{Code}
 use Rattle.code.specs.declared.Enlarged.{Enlarged}
 use Rattle.code.specs.declared.Limits.{Limits}
-use Rattle.code.specs.declared.SheetAnswer.TheVariants.{Accepted}
 use Rattle.code.specs.Definitions.Tables.{Table, size, word, Permitted, message, table_of}
 use Rattle.code.specs.Definitions.Bans.{banned_by, with_bans}
 use Rattle.code.specs.Definitions.BanLists.{bans_of}
@@ -53,12 +52,12 @@ module _ {l : Limits} {e : Enlarged} (g : FromBans l e) where
   bans_alike = record { words = same_words (value_covers (from_bans g)) (bans_covers g) bans_size; permitted = λ s. bans_permitted g }
 
 module _ {l : Limits} {e : Enlarged} where
-  given_covers : (c : Code) (s : List ℕ) → WellFormed l c → Enlarges l (plain_of l c) s (record { answer = Accepted; enlarged = e }) → Covers e (table_with c s)
+  given_covers : (c : Code) (s : List ℕ) → WellFormed l c → Enlarges l (plain_of l c) s (record { answer = Ok tt; enlarged = e }) → Covers e (table_with c s)
   unfolding given_by
   given_covers c s w (refused h x) = absurd (accepted_never x)
   given_covers c s w (enlarged h x) = bans_covers (given_by c s w (enlarged h x))
 
-  given_alike : (c : Code) (s : List ℕ) → WellFormed l c → Enlarges l (plain_of l c) s (record { answer = Accepted; enlarged = e }) → Alike (original_table e) (table_with c s)
+  given_alike : (c : Code) (s : List ℕ) → WellFormed l c → Enlarges l (plain_of l c) s (record { answer = Ok tt; enlarged = e }) → Alike (original_table e) (table_with c s)
   unfolding given_by
   given_alike c s w (refused h x) = absurd (accepted_never x)
   given_alike c s w (enlarged h x) = bans_alike (given_by c s w (enlarged h x))

@@ -1,5 +1,5 @@
 -- A list of 0 bytes is accepted, and gives the sheet's own table.
-use Rattle.std.specs.Prelude.{◌≡◌, refl, Bool, true, false, ℕ, ◌+◌, ◌≤◌, ◌<◌, eqb, get_or, if◌then◌else◌}
+use Rattle.std.specs.Prelude.{◌≡◌, refl, Bool, true, false, ℕ, ◌+◌, ◌≤◌, ◌<◌, eqb, get_or, if◌then◌else◌, Ok}
 use Rattle.std.proofs.Common.{sym, ◌∙◌, true≢false}
 use Rattle.std.proofs.Math.Path.{ap}
 use Rattle.std.proofs.Math.Bool.{and-true, and-false}
@@ -11,7 +11,6 @@ use borrow.Author.Tests.{eqb-true, eqb-false, lt-ltb, le-ltb}
 use Rattle.code.specs.declared.Code.{Code}
 use Rattle.code.specs.declared.Enlargement.{Enlargement}
 use Rattle.code.specs.declared.Limits.{Limits}
-use Rattle.code.specs.declared.SheetAnswer.TheVariants.{Accepted}
 use Rattle.code.specs.Definitions.Lists.{any, tabulate, sum}
 use Rattle.code.specs.Definitions.Tables.{no_word, no_row, entry_of, table_of}
 use Rattle.code.specs.Definitions.Sheets.{bad_bytes, FromSheet}
@@ -97,7 +96,7 @@ module _ {l : Limits} {c : Code} (given : WellFormed l c) where
       rw (le-ltb l.words (c.count + 0) (omega (arith, given.most))) (le-ltb l.total symbols short)
 
 -- 02, request 2: "0 bytes hold no ban"
-pub empty_list : {l : Limits} {c : Code} → FromSheet l c → Enlarges l (plain_of l c) [] (record { answer = Accepted; enlarged = plain_of l c })
+pub empty_list : {l : Limits} {c : Code} → FromSheet l c → Enlarges l (plain_of l c) [] (record { answer = Ok tt; enlarged = plain_of l c })
 unfolding plain_of
 empty_list {l} {c} given =
     accepted (
@@ -109,7 +108,7 @@ empty_list {l} {c} given =
     )
     (rw (none_listed, none_enlarged (well given)))
 
-pub empty_gives : {l : Limits} {c : Code} {x : Enlargement} → FromSheet l c → Enlarges l (plain_of l c) [] x → x ≡ record { answer = Accepted; enlarged = plain_of l c }
+pub empty_gives : {l : Limits} {c : Code} {x : Enlargement} → FromSheet l c → Enlarges l (plain_of l c) [] x → x ≡ record { answer = Ok tt; enlarged = plain_of l c }
 empty_gives given e = enlarges_unique e (empty_list given)
 
 -- So the value without copies of a sheet's code is one that a sheet and a list give.

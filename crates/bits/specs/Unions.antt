@@ -8,7 +8,7 @@ use Rattle.std.specs.Int.Bits.{bit_or}
 use Rattle.code.specs.Laws.Exactly.{Exactly, exactly_false, exactly_iff, exactly_itself}
 use Rattle.bits.specs.Bits.{bit_of, bit_none, bit_out, bit_below}
 use Rattle.bits.specs.Sets.{exactly_join}
-use Rattle.bits.specs.Lowest.{LowestOf, lowest_in, lowest_between}
+use Rattle.bits.specs.Lowest.{LowestOf, lowest_in, lowest_between, lowest_below, left_above, left_less}
 
 -- y is in one of the first z sets, and the number of this set is a member.
 pub record Within (sets : List ℕ) (members z y : ℕ) : Type 0 where
@@ -56,3 +56,6 @@ union_all {sets} members z few out u = record { is = λ y. exactly_iff (up y, do
         by : Dec (w.from < z) → Within sets members z y
         by (yes h) = record { from = w.from; below = h; member = w.member; has = w.has }
         by (no h) = absurd (false≢true (sym (bit_out members z w.from out (omega arith)) ∙ w.member))
+
+-- What a loop over the members rests on.
+pub ruleset union_steps = (lowest_below, left_above, left_less, union_none, union_more, union_all)

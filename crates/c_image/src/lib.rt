@@ -11,6 +11,7 @@ ghost use Rattle.c_image.specs.Image.{word_width, rows_place, code_length, image
 
 use code::{Code, Enlarged, Row, Word};
 use copying::copy_at;
+use std::array;
 
 #[derive(Clone, Copy)]
 pub struct Image {}
@@ -49,11 +50,8 @@ fn put_words(code: Code, table: &mut [u8])
     requires { PackableCode code × (code_length ≤ length table.old) }
     ensures { table.new ≡ sets table.old 0 (words_bytes code.words) }
 {
-    let mut k: usize = 0;
-    while k < Code::WORDS {
-        let w = code.words[k];
-        put_word(w, table, k * Image::WORD);
-        k += 1;
+    for k in 0..Code::WORDS {
+        put_word(code.words[k], table, k * Image::WORD);
     }
 }
 
@@ -62,12 +60,9 @@ fn put_rows(code: Code, table: &mut [u8])
     requires { PackableCode code × (code_length ≤ length table.old) }
     ensures { table.new ≡ sets table.old rows_place (rows_bytes code.rows) }
 {
-    let mut k: usize = 0;
-    while k < Code::WORDS {
-        let row = code.rows[k];
-        let entries = row.entries;
+    for k in 0..Code::WORDS {
+        let entries = code.rows[k].entries;
         copy_at(table, Image::ROWS + k * Code::WORDS, &entries, Code::WORDS);
-        k += 1;
     }
 }
 
@@ -102,16 +97,12 @@ fn word_in(table: &[u8], at: usize) -> Word
     requires { at + word_width ≤ length table.now }
     ensures { result ≡ word_in table.now at }
 {
-    let mut word = Word {
-        symbols: [0; Word::SYMBOLS],
-        len: table[at + Word::SYMBOLS] as usize,
-    };
-    let mut k: usize = 0;
-    while k < Word::SYMBOLS {
-        word.symbols[k] = table[at + k];
-        k += 1;
+    let mut symbols = [0u8; Word::SYMBOLS];
+    symbols.copy_from_slice(&table[at..at + Word::SYMBOLS]);
+    Word {
+        symbols,
+        len: usize::from(table[at + Word::SYMBOLS]),
     }
-    word
 }
 
 // The row, or the bytes of all words, that stand from `at` on.
@@ -119,15 +110,9 @@ fn row_in(table: &[u8], at: usize) -> Row
     requires { at + limits.words ≤ length table.now }
     ensures { result ≡ row_in table.now at }
 {
-    let mut row = Row {
-        entries: [0; Code::WORDS],
-    };
-    let mut y: usize = 0;
-    while y < Code::WORDS {
-        row.entries[y] = table[at + y];
-        y += 1;
-    }
-    row
+    let mut entries = [0u8; Code::WORDS];
+    entries.copy_from_slice(&table[at..at + Code::WORDS]);
+    Row { entries }
 }
 
 // The code that stands at the start of the bytes.
@@ -135,30 +120,16 @@ fn unpack_code(table: &[u8]) -> Code
     requires { code_length ≤ length table.now }
     ensures { result ≡ code_in table.now }
 {
-    let words = [Word {
-        symbols: [0; Word::SYMBOLS],
-        len: 0,
-    }; Code::WORDS];
-    let rows = [Row {
-        entries: [0; Code::WORDS],
-    }; Code::WORDS];
+    let words = array::from_fn(|k| word_in(table, k * Image::WORD));
+    let rows = array::from_fn(|k| row_in(table, Image::ROWS + k * Code::WORDS));
     let marks = row_in(table, Image::MARKS);
     let begins = marks.entries;
-    let mut code = Code {
-        words: words,
-        rows: rows,
-        begins: begins,
-        count: table[Image::COUNT] as usize,
-    };
-    let mut k: usize = 0;
-    while k < Code::WORDS {
-        let word = word_in(table, k * Image::WORD);
-        let row = row_in(table, Image::ROWS + k * Code::WORDS);
-        code.words[k] = word;
-        code.rows[k] = row;
-        k += 1;
+    Code {
+        words,
+        rows,
+        begins,
+        count: usize::from(table[Image::COUNT]),
     }
-    code
 }
 
 // The code with copies whose image stands at the start of the bytes.
@@ -172,9 +143,9 @@ pub fn unpack(table: &[u8]) -> Enlarged
     let origins = words.entries;
     let behind = others.entries;
     Enlarged {
-        code: code,
-        originals: table[Image::ORIGINALS] as usize,
-        origins: origins,
-        behind: behind,
+        code,
+        originals: usize::from(table[Image::ORIGINALS]),
+        origins,
+        behind,
     }
 }

@@ -1,21 +1,15 @@
 -- Where an answer is too short to be told: what an operation without room in any buffer refuses is refused, and where it refuses nothing 13 is.
-use Rattle.std.specs.Prelude.{◌≡◌, refl, List, [], ◌∷◌, ◌++◌, ℕ}
+use Rattle.std.specs.Prelude.{◌≡◌, refl, List, [], ◌∷◌, ◌++◌, ℕ, Err, Ok, Result}
 use Rattle.std.proofs.Common.{inl, inr, arith}
 use Rattle.c_answers.specs.Answers.{short_number}
 use Rattle.code.specs.declared.Classes.{Classes}
 use Rattle.code.specs.declared.Enlarged.{Enlarged}
 use Rattle.code.specs.declared.Refusal.{Refusal}
 use Rattle.code.specs.declared.Refusal.TheVariants.{ShortBuffer}
-use Rattle.code.specs.declared.Encoding.{Encoding}
-use Rattle.code.specs.declared.Encoding.TheVariants.{Encoded, Refused as Not-encoded}
-use Rattle.code.specs.declared.Reading.{Reading}
-use Rattle.code.specs.declared.Reading.TheVariants.{One, Two, Refused as Not-read}
-use Rattle.code.specs.declared.Judgement.{Judgement}
-use Rattle.code.specs.declared.Judgement.TheVariants.{Judged, Refused as Not-judged}
-use Rattle.code.specs.declared.Naming.{Naming}
-use Rattle.code.specs.declared.Naming.TheVariants.{Named, Refused as Not-named}
-use Rattle.code.specs.declared.Splitting.{Splitting}
-use Rattle.code.specs.declared.Splitting.TheVariants.{Split, Refused as Not-split}
+use Rattle.code.specs.declared.Readings.{Readings}
+use Rattle.code.specs.declared.Verdict.{Verdict}
+use Rattle.code.specs.declared.ByteCount.{ByteCount}
+use Rattle.code.specs.declared.SymbolCount.{SymbolCount}
 use Rattle.code.specs.Definitions.Answers.{refusal_number}
 use Rattle.code.specs.Definitions.NextWords.{naming_conditions, NamesNext}
 use Rattle.code.specs.Definitions.Operations.{Condition, Lowest, NoneHolds, encoding_conditions, reading_conditions, verdict_conditions, Encodes, ReadsMessage, Judges}
@@ -48,51 +42,34 @@ untold_none : {n : ℕ} (cs : List Condition) → NoneHolds cs → n ≡ short_n
 untold_none cs h e = record { refusal = ShortBuffer; lowest = none_more cs h; number = e }
 
 -- The number of an answer that cannot be told
-abbrev untold_encoding : Encoding → ℕ
-untold_encoding (Encoded k) = short_number
-untold_encoding (Not-encoded r) = refusal_number r
+abbrev pub untold_number : {T : Type 0} → Result T Refusal → ℕ
+untold_number (Ok x) = short_number
+untold_number (Err r) = refusal_number r
 
-pub untold_encoding_lem : {v : Enlarged} {s b : List ℕ} {e : Encoding} {n : ℕ} → Encodes limits v s [] b e → n ≡ untold_encoding e → Untold (encoding_conditions limits v s []) n
+pub untold_encoding_lem : {v : Enlarged} {s b : List ℕ} {e : Result SymbolCount Refusal} {n : ℕ} → Encodes limits v s [] b e → n ≡ untold_number e → Untold (encoding_conditions limits v s []) n
 untold_encoding_lem (Encodes.refused {r} h k) = untold_refused r _ h
 untold_encoding_lem (Encodes.encoded h k w) = untold_none _ h
 
-abbrev untold_splitting : Splitting → ℕ
-untold_splitting (Split k) = short_number
-untold_splitting (Not-split r) = refusal_number r
-
-pub untold_splitting_lem : {v : Enlarged} {classes : Classes} {s b m f g w : List ℕ} {e : Splitting} {n : ℕ} → SplitsText limits v classes s [] [] [] [] [] b m f g w e
-    → n ≡ untold_splitting e → Untold (splitting_conditions limits v classes s [] [] [] [] []) n
+pub untold_splitting_lem : {v : Enlarged} {classes : Classes} {s b m f g w : List ℕ} {e : Result ByteCount Refusal} {n : ℕ} → SplitsText limits v classes s [] [] [] [] [] b m f g w e
+    → n ≡ untold_number e → Untold (splitting_conditions limits v classes s [] [] [] [] []) n
 untold_splitting_lem (SplitsText.refused {r} h i j k l m) = untold_refused r _ h
 untold_splitting_lem (SplitsText.split h d c o i j k l) = untold_none _ h
 
-abbrev untold_reading : Reading → ℕ
-untold_reading (One k) = short_number
-untold_reading (Two k l) = short_number
-untold_reading (Not-read r) = refusal_number r
-
 -- Reading needs an entry of the working buffer even for the empty message, so it does not get as far as 14.
-pub untold_reading_lem : {v : Enlarged} {m f g w : List ℕ} {e : Reading} {n : ℕ} → ReadsMessage limits v m [] [] [] f g w e → n ≡ untold_reading e
+pub untold_reading_lem : {v : Enlarged} {m f g w : List ℕ} {e : Result Readings Refusal} {n : ℕ} → ReadsMessage limits v m [] [] [] f g w e → n ≡ untold_number e
     → Untold (reading_conditions limits v m [] [] []) n
 untold_reading_lem (ReadsMessage.refused {r} h i j k) = untold_refused r _ h
 untold_reading_lem (ReadsMessage.unreadable h none i j k) = absurd (h.1.1.1.0 (inr (inr (omega arith))))
 untold_reading_lem (ReadsMessage.one h only l i j k) = untold_none _ h
 untold_reading_lem (ReadsMessage.two h two l m i j k) = untold_none _ h
 
-abbrev untold_naming : Naming → ℕ
-untold_naming (Named x) = short_number
-untold_naming (Not-named r) = refusal_number r
-
 -- Naming needs the verdict's working buffer, so it does not get as far as 21, 12 and 14.
-pub untold_naming_lem : {v : Enlarged} {m w : List ℕ} {e : Naming} {n : ℕ} → NamesNext limits v m [] w e → n ≡ untold_naming e → Untold (naming_conditions limits v m []) n
+pub untold_naming_lem : {v : Enlarged} {m w : List ℕ} {e : Result ℕ Refusal} {n : ℕ} → NamesNext limits v m [] w e → n ≡ untold_number e → Untold (naming_conditions limits v m []) n
 untold_naming_lem (NamesNext.refused {r} h k) = untold_refused r _ h
 untold_naming_lem (NamesNext.unnamed h f k) = absurd (h.1.1.0 (omega arith))
 untold_naming_lem (NamesNext.named h n f k) = untold_none _ h
 
-abbrev untold_verdict : Judgement → ℕ
-untold_verdict (Judged v) = short_number
-untold_verdict (Not-judged r) = refusal_number r
-
-pub untold_verdict_lem : {v : Enlarged} {m f g w : List ℕ} {e : Judgement} {n : ℕ} → Judges limits v [] [] [] [] m f g w e → n ≡ untold_verdict e
+pub untold_verdict_lem : {v : Enlarged} {m f g w : List ℕ} {e : Result Verdict Refusal} {n : ℕ} → Judges limits v [] [] [] [] m f g w e → n ≡ untold_number e
     → Untold (verdict_conditions limits v [] [] [] []) n
 untold_verdict_lem (Judges.refused {r} h i j k l) = untold_refused r _ h
 untold_verdict_lem (Judges.judged x s u h means shown k) = untold_none _ h

@@ -1,13 +1,13 @@
 -- What reading a record of a class sheet promises.
 use Rattle.std.specs.Prelude.{◌≡◌, Bool, true, false, List, [], ◌∷◌, ℕ, ◌+◌, ◌≤◌, ◌<◌, length, drop}
+use Rattle.std.specs.Prelude.{Option, MatchOption}
 use Rattle.code.specs.Definitions.ClassSheets.{range_of, digits, malformed}
 use Rattle.code.specs.Definitions.Lists.{any}
 use Rattle.code.specs.Definitions.Texts.{other}
 use Rattle.code.specs.Laws.Clean.{Clean, record_fields}
 use Rattle.csv_records.specs.Fields.{leading}
 use Rattle.csv_records.specs.Front.{rest_of}
-use Rattle.class_records.specs.declared.Record.{Record}
-use Rattle.class_records.specs.declared.Record.TheVariants.{Wrong, Range as Found}
+use Rattle.class_records.specs.declared.ByteRange.{ByteRange}
 
 -- The record that begins at `from` in s has fields of two digits, two and one, so it has seven bytes; the next one begins behind its CR LF.
 pub record SevenBytes (s : List ℕ) (from : ℕ) : Type 0 where
@@ -22,18 +22,17 @@ pub record Formed (s : List ℕ) (from : ℕ) (r : Bool) : Type 0 where
   pub yes : r ≡ true → SevenBytes s from
   pub no : r ≡ false → any malformed (record_fields (drop from s)) ≡ true
 
--- The record that begins at `from` in s is the range from `lowest` to `highest`, and the next one begins at `next`.
-pub record RangeFrom (s : List ℕ) (from lowest highest symbol next : ℕ) : Type 0 where
+-- The record that begins at `from` in s is the range r.
+pub record RangeFrom (s : List ℕ) (from : ℕ) (r : ByteRange) : Type 0 where
   pub fields : List (List ℕ)
-  pub first : record_fields (drop from s) ≡ fields ∷ rest_of s next
+  pub first : record_fields (drop from s) ≡ fields ∷ rest_of s r.next
   pub right : malformed fields ≡ false
-  pub same : range_of fields ≡ record { lowest = lowest; highest = highest; symbol = symbol }
-  pub clean : next ≤ length s → Clean (drop next s)
-  pub letter : symbol < other
-  pub long : from < next
-  pub within : next ≤ length s + 2
+  pub same : range_of fields ≡ record { lowest = r.lowest; highest = r.highest; symbol = r.symbol }
+  pub clean : r.next ≤ length s → Clean (drop r.next s)
+  pub letter : r.symbol < other
+  pub long : from < r.next
+  pub within : r.next ≤ length s + 2
 
 -- The record that begins at `from` in s: it is malformed, or a range.
-pub data RecordFrom (s : List ℕ) (from : ℕ) : Record → Type 0 where
-  wrong : any malformed (record_fields (drop from s)) ≡ true → RecordFrom s from Wrong
-  found : {lowest highest symbol next : ℕ} → RangeFrom s from lowest highest symbol next → RecordFrom s from (Found lowest highest symbol next)
+abbrev pub RecordFrom : List ℕ → ℕ → Option ByteRange → Type 0
+RecordFrom s from r = MatchOption r (any malformed (record_fields (drop from s)) ≡ true) (RangeFrom s from)

@@ -11,14 +11,17 @@ ghost use Rattle.class_records.specs.Ensured.{Formed, RecordFrom};
 
 use csv_records::{byte_at, field_end, value_of};
 
-// That a record is malformed; or its lowest byte, its highest byte, its symbol, and where the next record begins.
+// The bytes from `lowest` to `highest`, the symbol of them all, and where the next record begins.
 #[derive(Clone, Copy)]
-pub enum Record {
-    Wrong,
-    Range(u8, u8, u8, usize),
+pub struct ByteRange {
+    pub lowest: u8,
+    pub highest: u8,
+    pub symbol: u8,
+    pub next: usize,
 }
 
 // Whether the field that begins at `at` has n digits and no more.
+#[tactic(auto, using(crate::proofs::Laws::Forms::digits_counted))]
 fn has_digits(s: &[u8], at: usize, n: usize) -> bool
     requires { at ≤ length s.now }
     ensures { result ≡ digits n (leading (drop at s.now)) }
@@ -31,22 +34,12 @@ fn is_formed(s: &[u8], at: usize) -> bool
     requires { Clean (drop at s.now) × (at ≤ length s.now) }
     ensures { Formed s.now at result }
 {
-    if !has_digits(s, at, 2) {
-        return false;
-    }
-    if byte_at(s, at + 2) != 44 {
-        return false;
-    }
-    if !has_digits(s, at + 3, 2) {
-        return false;
-    }
-    if byte_at(s, at + 5) != 44 {
-        return false;
-    }
-    if !has_digits(s, at + 6, 1) {
-        return false;
-    }
-    byte_at(s, at + 7) != 44
+    has_digits(s, at, 2)
+        && byte_at(s, at + 2) == b','
+        && has_digits(s, at + 3, 2)
+        && byte_at(s, at + 5) == b','
+        && has_digits(s, at + 6, 1)
+        && byte_at(s, at + 7) != b','
 }
 
 // The byte that a field stands for.
@@ -67,16 +60,19 @@ fn symbol_in(s: &[u8], at: usize) -> u8
     value_of(s[at])
 }
 
-// The record that begins at `at`. One that is not malformed has seven bytes, and behind them CR LF or the end of the sheet.
-pub fn read_range(s: &[u8], at: usize) -> Record
+// The record that begins at `at`, or None if it is malformed. One that is not has seven bytes, and behind them CR LF or the end of the sheet.
+#[tactic(auto, using(crate::proofs::Laws::Forms::range_read))]
+pub fn read_range(s: &[u8], at: usize) -> Option<ByteRange>
     requires { Clean (drop at s.now) × (at ≤ length s.now) }
     ensures { RecordFrom s.now at result }
 {
     if !is_formed(s, at) {
-        return Record::Wrong;
+        return None;
     }
-    let lowest = byte_in(s, at);
-    let highest = byte_in(s, at + 3);
-    let symbol = symbol_in(s, at + 6);
-    Record::Range(lowest, highest, symbol, at + 9)
+    Some(ByteRange {
+        lowest: byte_in(s, at),
+        highest: byte_in(s, at + 3),
+        symbol: symbol_in(s, at + 6),
+        next: at + 9,
+    })
 }

@@ -2,7 +2,7 @@
 use Rattle.std.specs.Prelude.{◌≡◌, refl, Bool, ◌&&◌, ◌||◌, List, ℕ, ◌+◌, ◌-◌, ◌≤◌, ◌<◌, ltb, leb, length, set, if◌then◌else◌}
 use Rattle.std.proofs.Math.Path.{sym, ap}
 use Rattle.std.proofs.Common.{◌∙◌, arith, get_or-set_same}
-use Rattle.std.proofs.Math.Bool.{true, false, and-false}
+use Rattle.std.proofs.Math.Bool.{true, false, and-false, or-true, or-false}
 use Rattle.std.proofs.Math.Decide.{dec_lt, dec_le, ℕ_discrete}
 use Rattle.std.proofs.Math.ListN.{length-set}
 use Rattle.std.proofs.Math.Seq.{get_or-set_other}
@@ -133,9 +133,11 @@ between_others low e b n = by_place (dec_lt b e)
         by_two (no k) = absurd (n (omega arith))
 
 module _ (low e : ℕ) {symbol : ℕ} {c d : List ℕ} {t : Bool} (f : FilledBy (between low e) symbol c d t) (from : low ≤ e) (within : e < different_bytes) where
-  pub filling_on : {d' : List ℕ} {r t' : Bool} → Gives e symbol d d' r → t' ≡ (r || t) → FilledBy (between low (e + 1)) symbol c d' t'
-  filling_on (had l p) q = rw (p, q) (filled_letter e within (between_new low e) (between low (e + 1)) (between_next low e from) (between_others low e) f l)
-  filling_on (got l p) q = rw (p, q) (filled_other e within (between_new low e) (between low (e + 1)) (between_next low e from) (between_others low e) f l)
+  pub filling_on : {d' : List ℕ} {r : Bool} → Gives e symbol d d' r → FilledBy (between low (e + 1)) symbol c d' (t || r)
+  filling_on (had l p) =
+      rw (p, or-true t) (filled_letter e within (between_new low e) (between low (e + 1)) (between_next low e from) (between_others low e) f l)
+  filling_on (got l p) =
+      rw (p, or-false t) (filled_other e within (between_new low e) (between low (e + 1)) (between_next low e from) (between_others low e) f l)
 
 -- Past the highest byte all of the range are.
 pub filling_ends : (low high e : ℕ) {symbol : ℕ} {c d : List ℕ} {t : Bool} → FilledBy (between low e) symbol c d t → e - low ≤ high + 1 - low → high < e

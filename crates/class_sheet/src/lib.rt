@@ -12,31 +12,25 @@ ghost use Rattle.code.specs.Laws.Clean.{Clean, record_fields};
 ghost use Rattle.class_sheet.specs.Filling.{from_to, Gives, FilledBy};
 ghost use Rattle.class_sheet.specs.Records.{taken_records, judged, Answers};
 
-use class_records::{Record, read_range};
-use code::bools::or;
-use code::{ClassSheet, Classes, Refusal, SheetAnswer, TakenClasses};
+use class_records::{ByteRange, read_range};
+use code::{ClassSheet, Classes, Refusal, TakenClasses};
 use csv_records::{bad_bytes, body_len};
 
+// The bytes that are put into a text: B7 and the brackets.
+pub const SIGNS: [u8; 5] = [0xB7, b'(', b')', b'[', b']'];
+
 // Whether a range takes in a byte.
-fn takes_in(lowest: u8, highest: u8, b: u8) -> bool
-    ensures { result ≡ from_to lowest highest b }
+fn takes_in(range: ByteRange, b: u8) -> bool
+    ensures { result ≡ from_to range.lowest range.highest b }
 {
-    if lowest <= b { b <= highest } else { false }
+    range.lowest <= b && b <= range.highest
 }
 
 // Whether a range takes in B7 or a bracket.
-fn takes_sign(lowest: u8, highest: u8) -> bool
-    ensures { result ≡ any (from_to lowest highest) signs }
+fn takes_sign(range: ByteRange) -> bool
+    ensures { result ≡ any (from_to range.lowest range.highest) signs }
 {
-    let round = or(
-        takes_in(lowest, highest, b'('),
-        takes_in(lowest, highest, b')'),
-    );
-    let square = or(
-        takes_in(lowest, highest, b'['),
-        takes_in(lowest, highest, b']'),
-    );
-    or(takes_in(lowest, highest, 0xB7), or(round, square))
+    SIGNS.iter().any(|b| takes_in(range, *b))
 }
 
 // Gives a byte its class, if it has none yet; says whether it had one.
@@ -52,57 +46,50 @@ fn give(entries: &mut [u8], b: usize, symbol: u8) -> bool
 }
 
 // The same for the bytes of a range.
-fn fill(entries: &mut [u8], lowest: u8, highest: u8, symbol: u8) -> bool
+fn fill(entries: &mut [u8], range: ByteRange) -> bool
     requires { length entries.old ≡ different_bytes }
-    ensures { FilledBy (from_to lowest highest) symbol entries.old entries.new result }
+    ensures { FilledBy (from_to range.lowest range.highest) range.symbol entries.old entries.new result }
 {
     let mut twice = false;
-    let mut b = lowest as usize;
-    while b <= highest as usize {
-        twice = or(give(entries, b, symbol), twice);
-        b += 1;
+    for b in range.lowest..=range.highest {
+        twice |= give(entries, b as usize, range.symbol);
     }
     twice
 }
 
 // The lowest refusal, by what was seen: a record that is malformed or takes in a sign, a range that is upside down, a byte in two records.
-fn judge(bad: bool, upside: bool, twice: bool) -> SheetAnswer
+fn judge(bad: bool, upside: bool, twice: bool) -> Result<(), Refusal>
     ensures { result ≡ judged bad upside twice }
 {
     if bad {
-        return SheetAnswer::Refused(Refusal::ClassRecord);
+        return Err(Refusal::ClassRecord);
     }
     if upside {
-        return SheetAnswer::Refused(Refusal::ClassRange);
+        return Err(Refusal::ClassRange);
     }
     if twice {
-        return SheetAnswer::Refused(Refusal::ClassOverlap);
+        return Err(Refusal::ClassOverlap);
     }
-    SheetAnswer::Accepted
+    Ok(())
 }
 
 // The answer to a sheet without wrong bytes and without a final CR LF. An accepted one's classes stand in `entries`, where no byte was a letter.
-fn take_records(s: &[u8], entries: &mut [u8]) -> SheetAnswer
+fn take_records(s: &[u8], entries: &mut [u8]) -> Result<(), Refusal>
     requires { Clean s.now × (entries.old ≡ replicate different_bytes other) }
     ensures { Answers (record_fields s.now) entries.new result }
 {
     let mut upside = false;
     let mut twice = false;
-    let mut at: usize = 0;
+    let mut at = 0;
+    // A while: a record says where the next one begins.
     while at <= s.len() {
-        match read_range(s, at) {
-            Record::Wrong => {
-                return judge(true, upside, twice);
-            }
-            Record::Range(lowest, highest, symbol, next) => {
-                if takes_sign(lowest, highest) {
-                    return judge(true, upside, twice);
-                }
-                upside = or(upside, highest < lowest);
-                twice = or(fill(entries, lowest, highest, symbol), twice);
-                at = next;
-            }
-        }
+        let range = match read_range(s, at) {
+            Some(range) if !takes_sign(range) => range,
+            _ => return judge(true, upside, twice),
+        };
+        upside |= range.highest < range.lowest;
+        twice |= fill(entries, range);
+        at = range.next;
     }
     judge(false, upside, twice)
 }
@@ -115,7 +102,7 @@ fn refuse(r: Refusal) -> TakenClasses
         entries: [Classes::OTHER; Classes::BYTES],
     };
     TakenClasses {
-        answer: SheetAnswer::Refused(r),
+        answer: Err(r),
         classes: classes,
     }
 }
@@ -128,9 +115,9 @@ fn take_body(s: &[u8]) -> TakenClasses
     let mut entries = [Classes::OTHER; Classes::BYTES];
     let answer = take_records(s, &mut entries);
     match answer {
-        SheetAnswer::Refused(r) => refuse(r),
-        SheetAnswer::Accepted => TakenClasses {
-            answer: SheetAnswer::Accepted,
+        Err(r) => refuse(r),
+        Ok(()) => TakenClasses {
+            answer: Ok(()),
             classes: Classes { entries: entries },
         },
     }

@@ -1,4 +1,4 @@
-// Copying a stretch of bytes from one slice into another.
+// Copying a stretch of bytes from one slice into another: std's `copy_from_slice` on two parts, with one law for where they stand.
 
 #![tactic(auto)]
 
@@ -10,9 +10,5 @@ pub fn copy_at(to: &mut [u8], at: usize, from: &[u8], count: usize)
     requires { (at + count ≤ length to.old) × (count ≤ length from.now) }
     ensures { to.new ≡ paste to.old at from.now count }
 {
-    let mut i: usize = 0;
-    while i < count {
-        to[at + i] = from[i];
-        i += 1;
-    }
+    to[at..at + count].copy_from_slice(&from[..count]);
 }

@@ -1,21 +1,13 @@
 -- How a pass over the bytes of a file meets refusal 2, the final CR LF, and the digits of a field.
 use Rattle.std.specs.Prelude.{◌≡◌, refl, Bool, true, false, not, ◌||◌, List, [], ◌∷◌, ℕ, zero, suc, ◌+◌, ◌-◌, ◌≤◌, ◌<◌, leb, eqb, length, take, drop, get_or, if◌then◌else◌}
-use Rattle.std.proofs.lemmas.Bool.{false≢true, lt-leb}
-use Rattle.std.proofs.Math.Bool.{and-true, and-false, or-false, or_assoc}
-use Rattle.std.proofs.Common.{add-one, arith, drop_of_length-le, drop-cons, le-leb, leb-true, eqb-true, ne_eqb, eq-eqb}
+use Rattle.std.proofs.lemmas.Bool.{false≢true}
+use Rattle.std.proofs.Math.Bool.{and-false}
+use Rattle.std.proofs.Common.{add-one, arith, drop_of_length-le, drop-cons, length-take-le, leb-true, eqb-true, ne_eqb}
 use Rattle.std.proofs.Math.Decide.{dec_lt}
 use Rattle.std.proofs.Math.Seq.{take-length}
-use Rattle.code.specs.Definitions.Sheets.{is_digit, value_of, bad_bytes, body, crlf}
-
--- a digit, by where its byte stands
-pub digit_low : (b : ℕ) → b ≤ 57 → leb 48 b ≡ is_digit b
-digit_low b h = rw (le-leb b 57 h, lt-leb 65 b (omega arith), and-true, or-false)
-
-pub digit_high : (b : ℕ) → 57 < b → 65 ≤ b → leb b 70 ≡ is_digit b
-digit_high b h k = rw (lt-leb b 57 h, le-leb 65 b k, and-false)
-
-pub digit_between : (b : ℕ) → 57 < b → b < 65 → false ≡ is_digit b
-digit_between b h k = rw (lt-leb b 57 h, lt-leb 65 b k, and-false)
+use Rattle.std.specs.List.{prefix_len}
+use Rattle.std.proofs.lemmas.Grind.{common_steps}
+use Rattle.code.specs.Definitions.Sheets.{is_digit, bad_bytes, body, crlf}
 
 -- a digit's byte is 48 at least
 pub digit_from : (b : ℕ) → is_digit b ≡ true → 48 ≤ b
@@ -26,18 +18,12 @@ digit_from b e = go (leb 48 b) (leb 65 b) refl refl
     go false true p q = omega (arith, leb-true 65 b q)
     go false false p q = absurd (false≢true (rw (p, q) at e))
 
-pub value_low : (b : ℕ) → b ≤ 57 → b - 48 ≡ value_of b
-value_low b h = rw (le-leb b 57 h)
-
-pub value_high : (b : ℕ) → 57 < b → b - 55 ≡ value_of b
-value_high b h = rw (lt-leb b 57 h)
-
 -- refusal 2 at one byte, and whether the byte after it stands after a CR
 abbrev pub bad_byte : Bool → ℕ → Bool
 bad_byte true a = not (eqb a 10)
 bad_byte false a = not (is_digit a || eqb a 44 || eqb a 13)
 
-abbrev pub after_cr : Bool → ℕ → Bool
+abbrev after_cr : Bool → ℕ → Bool
 after_cr true a = false
 after_cr false a = eqb a 13
 
@@ -46,24 +32,24 @@ unfolding bad_bytes
 bad_more true a s = refl
 bad_more false a s = refl
 
--- a pass over the bytes: what was bad so far, and what the rest adds
-pub bad_on : (bad cr : Bool) (s : List ℕ) (i : ℕ) → i < length s
-    → (bad || bad_byte cr (get_or s i 0)) || bad_bytes (after_cr cr (get_or s i 0)) (drop (i + 1) s) ≡ bad || bad_bytes cr (drop i s)
-bad_on bad cr s i h = rw (add-one i, drop-cons s i 0 h, bad_more, or_assoc)
+-- Behind a byte that is not wrong, the next stands after a CR exactly if it is one.
+after_right : (cr : Bool) (a : ℕ) → bad_byte cr a ≡ false → after_cr cr a ≡ eqb a 13
+after_right false a h = refl
+after_right true a h = grind (arith, common_steps)
 
-pub bad_end : (bad cr : Bool) (s : List ℕ) (i : ℕ) → length s ≤ i → bad || bad_bytes cr (drop i s) ≡ bad || cr
+-- A pass over the bytes: a wrong one, one that is not wrong, and the end.
+pub bad_here : (cr : Bool) (s : List ℕ) (i : ℕ) → i < length s → bad_byte cr (get_or s i 0) ≡ true → bad_bytes cr (drop i s) ≡ true
+bad_here cr s i h e = rw (drop-cons s i 0 h, bad_more, e)
+
+pub bad_on : (cr : Bool) (s : List ℕ) (i : ℕ) → i < length s → bad_byte cr (get_or s i 0) ≡ false
+    → bad_bytes (eqb (get_or s i 0) 13) (drop (i + 1) s) ≡ bad_bytes cr (drop i s)
+bad_on cr s i h e = rw (add-one i, drop-cons s i 0 h, bad_more, e, after_right cr (get_or s i 0) e)
+
+pub bad_end : (cr : Bool) (s : List ℕ) (i : ℕ) → length s ≤ i → bad_bytes cr (drop i s) ≡ cr
 unfolding bad_bytes
-bad_end bad cr s i h = rw (drop_of_length-le s h)
+bad_end cr s i h = rw (drop_of_length-le s h)
 
--- a wrong byte, by the tests in turn
-pub bad_plain : (cr : Bool) (b : ℕ) → cr ≡ false → is_digit b ≡ true → false ≡ bad_byte cr b
-bad_plain cr b p q = rw (p, q)
-
-pub bad_comma : (cr : Bool) (b : ℕ) → cr ≡ false → is_digit b ≡ false → b ≡ 44 → false ≡ bad_byte cr b
-bad_comma cr b p q e = rw (p, q, eq-eqb b 44 e)
-
-pub bad_other : (cr : Bool) (b : ℕ) → cr ≡ false → is_digit b ≡ false → (b ≡ 44 → ⊥) → not (eqb b 13) ≡ bad_byte cr b
-bad_other cr b p q n = rw (p, q, ne_eqb b 44 n)
+pub ruleset bad_steps = (bad_here, bad_on, bad_end)
 
 -- the final CR LF, by the tests in turn
 crlf_once : (a : ℕ) → crlf a a ≡ false
@@ -91,21 +77,33 @@ pub body_end : (s : List ℕ) → get_or s (length s - 2) 0 ≡ 13 → get_or s 
 unfolding body
 body_end s p q = rw (p, q)
 
+-- the same, by the length of what is left
+pub body_cut : (s : List ℕ) → 2 ≤ length s → get_or s (length s - 2) 0 ≡ 13 → get_or s (length s - 1) 0 ≡ 10
+    → take (length (take (length s - 2) s)) s ≡ body s
+body_cut s h p q = rw (length-take-le (length s - 2) s (omega arith)) (body_end s p q)
+
+pub ruleset body_ways = (body_short, body_no_cr, body_no_lf, body_cut)
+
 -- the digits at the front of a byte string
 unfoldable pub leading : List ℕ → List ℕ
 leading [] = []
 leading (a ∷ s) = if is_digit a then a ∷ leading s else []
 
--- a scan for the end of a field: one digit more, another byte, the end of the file
-pub leading_on : (s : List ℕ) (i : ℕ) → i < length s → is_digit (get_or s i 0) ≡ true → length (leading (drop i s)) ≡ length (leading (drop (i + 1) s)) + 1
+pub leading_count : (s : List ℕ) → length (leading s) ≡ prefix_len is_digit s
 unfolding leading
-leading_on s i h d = rw (add-one i, drop-cons s i 0 h, d, add-one)
+leading_count [] = refl
+leading_count (a ∷ s) = by_digit (is_digit a) refl (leading_count s)
+  where
+    by_digit : (d : Bool) → is_digit a ≡ d → length (leading s) ≡ prefix_len is_digit s → length (leading (a ∷ s)) ≡ prefix_len is_digit (a ∷ s)
+    by_digit true e rest = rw (e, rest) (omega arith)
+    by_digit false e rest = rw e
 
-pub leading_stop : (s : List ℕ) (i : ℕ) → i < length s → is_digit (get_or s i 0) ≡ false → length (leading (drop i s)) ≡ 0
+-- no digit stands in front of another byte, or at the end
+leading_stop : (s : List ℕ) (i : ℕ) → i < length s → is_digit (get_or s i 0) ≡ false → length (leading (drop i s)) ≡ 0
 unfolding leading
 leading_stop s i h d = rw (drop-cons s i 0 h, d)
 
-pub leading_end : (s : List ℕ) (i : ℕ) → length s ≤ i → length (leading (drop i s)) ≡ 0
+leading_end : (s : List ℕ) (i : ℕ) → length s ≤ i → length (leading (drop i s)) ≡ 0
 unfolding leading
 leading_end s i h = rw (drop_of_length-le s h)
 

@@ -1,5 +1,5 @@
 -- The message that the search found is the least that a walk to two ends reads, so it has two readings and no more symbols than there are unordered pairs.
-use Rattle.std.specs.Prelude.{◌≡◌, List, ℕ, ◌≤◌, length, take, drop}
+use Rattle.std.specs.Prelude.{◌≡◌, Option, Some, None, List, ℕ, ◌≤◌, length, take, drop}
 use Rattle.std.proofs.Common.{sym, ap, ◌∙◌, arith, length-take, take_at}
 use Rattle.code.specs.declared.Enlarged.{Enlarged}
 use Rattle.code.specs.Definitions.Operations.{written}
@@ -16,23 +16,21 @@ use Rattle.pair_graph.specs.RivalPairs.{Ended}
 use Rattle.pair_places.specs.Flat.{pair_count}
 use Rattle.pair_places.specs.Opens.{open_graph}
 use Rattle.pair_places.specs.Whole.{LaidOut}
-use Rattle.pair_shortest.specs.declared.Search.{Search}
-use Rattle.pair_shortest.specs.declared.Search.TheVariants.{Found, Nothing}
 use Rattle.pair_shortest.specs.Ensured.{Message, Answers, found, nothing}
 use Rattle.pair_theory.specs.Ambiguity.{ends→readings}
 use Rattle.pair_theory.specs.Searches.{least_goal}
 use Rattle.decipher.specs.Lengths.{least_laid}
 
 module _ {places m m' : List ℕ} where
-  pub was_found : {r : Search} {n : ℕ} → Answers places m m' r → r ≡ Found n → Message places m m' n
+  pub was_found : {r : Option ℕ} {n : ℕ} → Answers places m m' r → r ≡ Some n → Message places m m' n
   was_found {n = n} (found {n = k} h) e = let z : k ≡ n = cc in rw z at h
   was_found (nothing p h) e = let z : ◌≡◌ {A = ℕ} 0 1 = cc in absurd (omega arith)
 
-  pub was_nothing : {r : Search} → Answers places m m' r → r ≡ Nothing → (m' ≡ m) × NoGoal (open_graph places)
+  pub was_nothing : {r : Option ℕ} → Answers places m m' r → r ≡ None → (m' ≡ m) × NoGoal (open_graph places)
   was_nothing (found h) e = let z : ◌≡◌ {A = ℕ} 0 1 = cc in absurd (omega arith)
   was_nothing (nothing p h) e = (p, h)
 
-  module _ {r : Search} {n : ℕ} (answers : Answers places m m' r) (is : r ≡ Found n) where
+  module _ {r : Option ℕ} {n : ℕ} (answers : Answers places m m' r) (is : r ≡ Some n) where
     symbols_at_lem : take n m' ≡ (was_found answers is).symbols
     symbols_at_lem = let h = was_found answers is in ap (take n) h.list ∙ take_at h.symbols (drop n m) n h.long
 

@@ -1,10 +1,8 @@
 -- Of a value that a sheet and a list give, in buffers that are long enough, each kind of verdict is answered exactly when its definition holds of the table of
 -- original words: the answer is a verdict that holds, and a table has only one. Such a value is never refused with 8.
-use Rattle.std.specs.Prelude.{◌≡◌, refl, List, [], ◌↔◌, ℕ, length}
+use Rattle.std.specs.Prelude.{◌≡◌, refl, List, [], ◌↔◌, ℕ, length, Err, Ok, Result}
 use Rattle.std.proofs.Common.{ap, ◌∙◌, inl, inr, arith}
 use Rattle.code.specs.declared.Enlarged.{Enlarged}
-use Rattle.code.specs.declared.Judgement.{Judgement}
-use Rattle.code.specs.declared.Judgement.TheVariants.{Judged, Refused}
 use Rattle.code.specs.declared.Refusal.{Refusal}
 use Rattle.code.specs.declared.Refusal.TheVariants.{NotFromSheet, ShortBuffer}
 use Rattle.code.specs.declared.SymbolCount.{SymbolCount}
@@ -36,16 +34,16 @@ pub record IsAmbiguous (t : Table) : Type 0 where
   pub is : Ambiguous t m s u
 
 -- The answer is the verdict ambiguous, with some lengths.
-pub record SaysAmbiguous (r : Judgement) : Type 0 where
+pub record SaysAmbiguous (r : Result Verdict Refusal) : Type 0 where
   pub n : SymbolCount
   pub a : WordCount
   pub b : WordCount
-  pub is : r ≡ Judged (Two-ways n a b)
+  pub is : r ≡ Ok (Two-ways n a b)
 
 -- The answer is a verdict that holds.
-pub record Answered (t : Table) (r : Judgement) : Type 0 where
+pub record Answered (t : Table) (r : Result Verdict Refusal) : Type 0 where
   pub v : Verdict
-  pub is : r ≡ Judged v
+  pub is : r ≡ Ok v
   pub holds : Holds t v
 
 module _ {e : Enlarged} (lists : FromLists limits e) (m f g w : List ℕ) (r : Refusal) where
@@ -56,11 +54,11 @@ module _ {e : Enlarged} (lists : FromLists limits e) (m f g w : List ℕ) (r : R
 
 module _ {e : Enlarged} {m f g w m' f' g' w' : List ℕ} (lists : FromLists limits e) where
   -- A value that a sheet and a list give is refused only with 13, for a buffer that is too short.
-  pub only_13 : {r : Refusal} → Judges limits e m f g w m' f' g' w' (Refused r) → (r ≡ ShortBuffer) × Short (length m) (length f) (length g) (length w)
+  pub only_13 : {r : Refusal} → Judges limits e m f g w m' f' g' w' (Err r) → (r ≡ ShortBuffer) × Short (length m) (length f) (length g) (length w)
   only_13 {r} (refused h _ _ _ _) = lowest_13 lists m f g w r h
 
   -- It is never refused with 8.
-  pub never_8 : Judges limits e m f g w m' f' g' w' (Refused NotFromSheet) → ⊥
+  pub never_8 : Judges limits e m f g w m' f' g' w' (Err NotFromSheet) → ⊥
   never_8 h =
       let e = (only_13 h).0 in
       let z : ◌≡◌ {A = ℕ} 0 1 = cc in
@@ -68,22 +66,22 @@ module _ {e : Enlarged} {m f g w m' f' g' w' : List ℕ} (lists : FromLists limi
 
   module _ (room : Room (length m) (length f) (length g) (length w)) where
     -- The answer is a verdict that holds.
-    pub answered : {r : Judgement} → Judges limits e m f g w m' f' g' w' r → Answered (original_table e) r
+    pub answered : {r : Result Verdict Refusal} → Judges limits e m f g w m' f' g' w' r → Answered (original_table e) r
     answered (refused {r = q} h _ _ _ _) = absurd (room_not_short room (lowest_13 lists m f g w q h).1)
     answered (judged {v = v} x s u h means _ _) = record { v = v; is = refl; holds = record { x = x; s = s; u = u; means = means } }
 
-    module _ {r : Judgement} (judges : Judges limits e m f g w m' f' g' w' r) where
-      answer_holds : {v : Verdict} → r ≡ Judged v → Answered (original_table e) r → Holds (original_table e) v
+    module _ {r : Result Verdict Refusal} (judges : Judges limits e m f g w m' f' g' w' r) where
+      answer_holds : {v : Verdict} → r ≡ Ok v → Answered (original_table e) r → Holds (original_table e) v
       answer_holds {v} e h = let z : h.v ≡ v = cc in rw z at h.holds
 
       -- A verdict is answered exactly if it holds.
-      pub verdict_answered : (v : Verdict) → (r ≡ Judged v) ↔ Holds (original_table e) v
+      pub verdict_answered : (v : Verdict) → (r ≡ Ok v) ↔ Holds (original_table e) v
       verdict_answered v = (λ e. answer_holds e (answered judges), λ h. by h (answered judges))
         where
-          by : Holds (original_table e) v → Answered (original_table e) r → r ≡ Judged v
+          by : Holds (original_table e) v → Answered (original_table e) r → r ≡ Ok v
           by h y =
               let z = y.holds in
-              y.is ∙ ap Judged (verdict_unique (original_table e) z.x z.s z.u h.x h.s h.u y.v v z.means h.means)
+              y.is ∙ ap Ok (verdict_unique (original_table e) z.x z.s z.u h.x h.s h.u y.v v z.means h.means)
 
       is_ambiguous : {n : SymbolCount} {a b : WordCount} → Holds (original_table e) (Two-ways n a b) → IsAmbiguous (original_table e)
       is_ambiguous h = record { m = h.x; s = h.s; u = h.u; is = h.means.0 }
@@ -101,9 +99,9 @@ module _ {e : Enlarged} {m f g w m' f' g' w' : List ℕ} (lists : FromLists limi
       ambiguous_answered = (λ y. is_ambiguous ((verdict_answered (Two-ways y.n y.a y.b)).0 y.is), says_ambiguous)
 
       -- A delay is answered exactly if the code is decipherable and this is its delay.
-      pub finite_answered : (d : SymbolCount) → (r ≡ Judged (Finite d)) ↔ (Decipherable (original_table e) × Delay (original_table e) d.0)
+      pub finite_answered : (d : SymbolCount) → (r ≡ Ok (Finite d)) ↔ (Decipherable (original_table e) × Delay (original_table e) d.0)
       finite_answered d = (λ e. ((verdict_answered (Finite d)).0 e).means, λ h. (verdict_answered (Finite d)).1 (record { x = []; s = []; u = []; means = h }))
 
       -- Unbounded is answered exactly if the code is decipherable and without bound.
-      pub unbounded_answered : (r ≡ Judged Unbounded) ↔ (Decipherable (original_table e) × WithoutBound (original_table e))
+      pub unbounded_answered : (r ≡ Ok Unbounded) ↔ (Decipherable (original_table e) × WithoutBound (original_table e))
       unbounded_answered = (λ e. ((verdict_answered Unbounded).0 e).means, λ h. (verdict_answered Unbounded).1 (record { x = []; s = []; u = []; means = h }))

@@ -13,8 +13,7 @@ ghost use Rattle.decipher.specs.Buffers.{Short, Room};
 ghost use Rattle.decipher.specs.Decided.{Decided};
 ghost use Rattle.decipher.specs.Lent.{Searchable};
 
-use code::{Enlarged, Judgement, Pairs, Refusal, Verdict};
-use pair_shortest::Search;
+use code::{Enlarged, Pairs, Refusal, Verdict};
 use well_enlarged::well_enlarged;
 
 // Whether a buffer is too short for a verdict, by the lengths of the four.
@@ -35,13 +34,13 @@ fn is_short(message: usize, first: usize, second: usize, work: usize) -> bool
 }
 
 // All marks are clear at the start of a verdict: an array of them is laid over the working buffer, where the searches read and set them. What is lent behind it is
-// cleared too.
+// cleared too. (A `fill` of the whole would do the same: the array is the one that docs/DECISIONS.md, D44, promises.)
 fn clear_marks(work: &mut [u64])
     requires { verdict_work limits ≤ length work.old }
     ensures { work.new ≡ zeroed work.old }
 {
     let marks = [0u64; Pairs::MARKS];
-    bits::clear(&mut work[Pairs::MARKS..]);
+    work[Pairs::MARKS..].fill(0);
     pair_storage::lay(&marks, &mut work[..Pairs::MARKS]);
 }
 
@@ -59,9 +58,9 @@ fn search(
         message.new first.new second.new work.new result }
 {
     match pair_shortest::shortest(places, work, message) {
-        Search::Found(n) => decipher_ambiguous::ambiguous(e, &message[..n], first, second, work),
-        Search::Nothing => {
-            bits::clear(work);
+        Some(n) => decipher_ambiguous::ambiguous(e, &message[..n], first, second, work),
+        None => {
+            work.fill(0);
             decipher_delay::decipherable(places, work)
         }
     }
@@ -93,15 +92,15 @@ pub fn verdict(
     first: &mut [u8],
     second: &mut [u8],
     work: &mut [u64],
-) -> Judgement
+) -> Result<Verdict, Refusal>
     ensures { Judges limits e message.old first.old second.old work.old
         message.new first.new second.new work.new result }
 {
     if !well_enlarged(e) {
-        return Judgement::Refused(Refusal::NotFromSheet);
+        return Err(Refusal::NotFromSheet);
     }
     if is_short(message.len(), first.len(), second.len(), work.len()) {
-        return Judgement::Refused(Refusal::ShortBuffer);
+        return Err(Refusal::ShortBuffer);
     }
-    Judgement::Judged(decide(e, message, first, second, work))
+    Ok(decide(e, message, first, second, work))
 }

@@ -1,5 +1,5 @@
 -- Reading a message that has several readings finds the first two, and no other answer is possible.
-use Rattle.std.specs.Prelude.{◌≡◌, List, ℕ, length}
+use Rattle.std.specs.Prelude.{◌≡◌, List, ℕ, length, Option}
 use Rattle.std.proofs.Common.{sym, ◌∙◌}
 use Rattle.code.specs.declared.SymbolCount.{SymbolCount}
 use Rattle.code.specs.declared.WordCount.{WordCount}
@@ -8,7 +8,7 @@ use Rattle.code.specs.declared.Verdict.TheVariants.{Ambiguous as Two-ways}
 use Rattle.code.specs.Definitions.Operations.{written, zeroed}
 use Rattle.code.specs.Definitions.Readings.{FirstTwo, TwoReadings}
 use Rattle.code.specs.Definitions.Tables.{Table}
-use Rattle.read_walks.specs.declared.Found.{Found}
+use Rattle.code.specs.declared.Readings.{Readings}
 use Rattle.read_core.specs.Core.{Finds, unreadable, one, two, FindsAll}
 use Rattle.read_core.specs.Counts.{first_count, second_count}
 
@@ -19,11 +19,11 @@ pub data ReadTwice (t : Table) (m f g w f' g' w' : List ℕ) : Verdict → Type 
       → f' ≡ written s f → g' ≡ written u g → w' ≡ zeroed w → ReadTwice t m f g w f' g' w' (Two-ways n a b)
 
 -- A message with two readings gets no other answer, and the counts of what was found are the lengths of its first two.
-pub finds_twice : {t : Table} {m f g w f' g' w' : List ℕ} {r : Found} {n : SymbolCount} {a b : WordCount} → FindsAll t m f g w f' g' w' r → TwoReadings t m
+pub finds_twice : {t : Table} {m f g w f' g' w' : List ℕ} {r : Option Readings} {n : SymbolCount} {a b : WordCount} → FindsAll t m f g w f' g' w' r → TwoReadings t m
     → n.0 ≡ length m → a.0 ≡ first_count r → b.0 ≡ second_count r → ReadTwice t m f g w f' g' w' (Two-ways n a b)
 finds_twice {t} {m} {f} {g} {w} {f'} {g'} {w'} {r} {n} {a} {b} found h l i j = by found.finds i j
   where
-    by : {r : Found} → Finds t m f g f' g' r → a.0 ≡ first_count r → b.0 ≡ second_count r → ReadTwice t m f g w f' g' w' (Two-ways n a b)
+    by : {r : Option Readings} → Finds t m f g f' g' r → a.0 ≡ first_count r → b.0 ≡ second_count r → ReadTwice t m f g w f' g' w' (Two-ways n a b)
     by (unreadable none p q) i j = absurd (none h.s h.first)
     by (one o e p q) i j = absurd (h.differ (o.only h.s h.first ∙ sym (o.only h.u h.second)))
     by (two o e k p q) i j = twice o (sym l) (sym (i ∙ e)) (sym (j ∙ k)) p q found.work

@@ -1,11 +1,10 @@
 -- What the searches over a code's pairs say of its delay: where a walk leads to two ends, or walks have no bound, it has none; else it is that of the longest walk.
-use Rattle.std.specs.Prelude.{◌≡◌, refl, Bool, true, false, List, [], ℕ, ◌+◌, ◌≤◌, length, replicate}
+use Rattle.std.specs.Prelude.{◌≡◌, refl, Option, Some, None, Bool, true, false, List, [], ℕ, ◌+◌, ◌≤◌, length, replicate}
 use Rattle.std.proofs.Common.{ap, ◌∙◌, arith}
 use Rattle.std.proofs.lemmas.List.{length-replicate}
 use Rattle.code.specs.declared.SymbolCount.{SymbolCount}
-use Rattle.code.specs.declared.WordCount.{WordCount}
 use Rattle.code.specs.declared.Verdict.{Verdict}
-use Rattle.code.specs.declared.Verdict.TheVariants.{Ambiguous, Finite, Unbounded}
+use Rattle.code.specs.declared.Verdict.TheVariants.{Finite, Unbounded}
 use Rattle.code.specs.Definitions.Delays.{Delay}
 use Rattle.code.specs.Definitions.NextWords.{NoDelay}
 use Rattle.code.specs.Definitions.Operations.{unordered_pairs}
@@ -13,7 +12,7 @@ use Rattle.code.specs.Definitions.Sheets.{limits}
 use Rattle.code.specs.Definitions.Tables.{Table}
 use Rattle.code.proofs.Laws.Delays.{delay_bounds, delay_decipherable}
 use Rattle.code.specs.Laws.Readings.{decipherable_not_two}
-use Rattle.decipher_delay.specs.Delays.{delay_of, DelayBy, finite, unbounded, given, delay_means}
+use Rattle.decipher_delay.specs.Delays.{delay_of, verdict_of, DelayBy, finite, unbounded, given, delay_means}
 use Rattle.pair_longest.specs.Extents.{Given}
 use Rattle.graph.specs.Goals.{NoGoal}
 use Rattle.graph.specs.Graph.{Endless}
@@ -32,14 +31,12 @@ use Rattle.pair_storage.specs.Marks.{marks}
 use Rattle.pair_storage.specs.Rooms.{room_of, room_cells, room_pairs}
 use Rattle.code.specs.Laws.Exactly.{Exactly}
 use Rattle.pair_theory.specs.Ambiguity.{ends→readings}
-use Rattle.decipher_bound.specs.declared.Bound.{Bound}
-use Rattle.decipher_bound.specs.declared.Bound.TheVariants.{Delay as Known, Nothing}
 
 -- The delay by the walks over the pairs of f, or why there is none.
-pub data BoundBy (f : List ℕ) : Bound → Type 0 where
-  known : {d : SymbolCount} → NoGoal (open_graph f) → DelayBy f (Finite d) → BoundBy f (Known d)
-  ambiguous : SomeGoal (open_graph f) → BoundBy f Nothing
-  endless : NoGoal (open_graph f) → Endless (pair_graph f) → BoundBy f Nothing
+pub data BoundBy (f : List ℕ) : Option SymbolCount → Type 0 where
+  known : {d : SymbolCount} → NoGoal (open_graph f) → DelayBy f (Finite d) → BoundBy f (Some d)
+  ambiguous : SomeGoal (open_graph f) → BoundBy f None
+  endless : NoGoal (open_graph f) → Endless (pair_graph f) → BoundBy f None
 
 -- A clear list serves both searches.
 module _ (f w : List ℕ) {w' : List ℕ} (room : room_of f ≤ length w) (clear : w' ≡ replicate (length w) 0) where
@@ -54,30 +51,30 @@ module _ (f w : List ℕ) {w' : List ℕ} (room : room_of f ≤ length w) (clear
 
 -- What `find_delay` returns.
 module _ (f : List ℕ) {b : Bool} (x : Exactly b (SomeGoal (open_graph f))) where
-  pub bound_ends : b ≡ true → BoundBy f Nothing
+  pub bound_ends : b ≡ true → BoundBy f None
   bound_ends e = ambiguous (x.yes e)
 
   no_goal : b ≡ false → NoGoal (open_graph f)
   no_goal e m g = x.no e (record { symbols = m; goal = g })
 
   module _ (e : b ≡ false) where
-    pub bound_delay : {d : SymbolCount} {v : Verdict} → DelayBy f v → v ≡ Finite d → BoundBy f (Known d)
+    pub bound_delay : {d : SymbolCount} {v : Verdict} → DelayBy f v → v ≡ Finite d → BoundBy f (Some d)
     bound_delay {d} h q = known (no_goal e) (rw q at h)
 
-    pub bound_endless : {v : Verdict} → DelayBy f v → v ≡ Unbounded → BoundBy f Nothing
+    pub bound_endless : {v : Verdict} → DelayBy f v → v ≡ Unbounded → BoundBy f None
     bound_endless (finite l q) z = let w : ◌≡◌ {A = ℕ} 0 1 = cc in absurd (omega arith)
     bound_endless (unbounded u) z = endless (no_goal e) u
 
-    pub bound_never : {n : SymbolCount} {a c : WordCount} {v : Verdict} → DelayBy f v → v ≡ Ambiguous n a c → BoundBy f Nothing
-    bound_never (finite l q) z = let w : ◌≡◌ {A = ℕ} 0 1 = cc in absurd (omega arith)
-    bound_never (unbounded u) z = endless (no_goal e) u
+    pub bound_walks : {r : Option SymbolCount} → DelayBy f (verdict_of r) → BoundBy f r
+    bound_walks {r = Some d} h = bound_delay h refl
+    bound_walks {r = None} h = bound_endless h refl
 
 -- What a bound says: the delay, with its walks,
 pub record KnownBy (f : List ℕ) (d : SymbolCount) : Type 0 where
   pub none : NoGoal (open_graph f)
   pub delay : DelayBy f (Finite d)
 
-pub was_known : {f : List ℕ} {d : SymbolCount} {b : Bound} → BoundBy f b → b ≡ Known d → KnownBy f d
+pub was_known : {f : List ℕ} {d : SymbolCount} {b : Option SymbolCount} → BoundBy f b → b ≡ Some d → KnownBy f d
 was_known {f} {d} (known {d = c} n h) e =
     let z : c ≡ d = cc in
     let k : KnownBy f c = record { none = n; delay = h } in
@@ -100,7 +97,7 @@ delay_low {f} {d = d} l (finite {d = c} {r = r} w e) q =
     by h = omega (arith, pairs_limited l, w.low)
 delay_low l (unbounded u) q = let z : ◌≡◌ {A = ℕ} 0 1 = cc in absurd (omega arith)
 
-module _ {f : List ℕ} {d : SymbolCount} {b : Bound} (h : BoundBy f b) (e : b ≡ Known d) where
+module _ {f : List ℕ} {d : SymbolCount} {b : Option SymbolCount} (h : BoundBy f b) (e : b ≡ Some d) where
   pub known_low : Laid f → d.0 ≤ unordered_pairs limits + 1
   known_low l = delay_low l (was_known h e).delay refl
 
@@ -109,7 +106,7 @@ module _ {f : List ℕ} {d : SymbolCount} {b : Bound} (h : BoundBy f b) (e : b �
   known_means laid ended = (delay_means laid ended (was_known h e).none [] [] [] (was_known h e).delay).1
 
 -- or that it has none.
-pub nothing_means : {t : Table} {f : List ℕ} {b : Bound} → LaidOut t f → Ended t f → BoundBy f b → b ≡ Nothing → NoDelay t
+pub nothing_means : {t : Table} {f : List ℕ} {b : Option SymbolCount} → LaidOut t f → Ended t f → BoundBy f b → b ≡ None → NoDelay t
 nothing_means laid ended (known n h) e = let z : ◌≡◌ {A = ℕ} 0 1 = cc in absurd (omega arith)
 nothing_means laid ended (ambiguous g) e = λ N d.
     decipherable_not_two (ends→readings laid.fits.plain ((open_finds laid ended.closed).ends g.goal)) (delay_decipherable laid.fits.plain.some d)

@@ -8,29 +8,17 @@ ghost use Rattle.pair_places.specs.Roots.{Numbered};
 ghost use Rattle.pair_storage.specs.Rooms.{room_of};
 ghost use Rattle.decipher_bound.specs.Bounds.{BoundBy};
 
-use code::{SymbolCount, Verdict};
+use code::SymbolCount;
 
-// The delay, or that there is none: the code is ambiguous, or decipherable without bound.
-#[derive(Clone, Copy)]
-pub enum Bound {
-    Delay(SymbolCount),
-    Nothing,
-}
-
-// The delay of a code whose places are laid out. The list may hold anything before and after.
-pub fn find_delay(places: &[u8], work: &mut [u64]) -> Bound
+// The delay of a code whose places are laid out, or none: the code is ambiguous, or decipherable without bound. The list may hold anything before and after.
+pub fn find_delay(places: &[u8], work: &mut [u64]) -> Option<SymbolCount>
     requires { Laid places.now × Numbered places.now × (room_of places.now ≤ length work.old) }
     ensures { BoundBy places.now result }
 {
-    bits::clear(work);
+    work.fill(0);
     if pair_shortest::reaches_ends(places, work) {
-        return Bound::Nothing;
+        return None;
     }
-    bits::clear(work);
-    match decipher_delay::measure(places, work) {
-        Verdict::Finite(delay) => Bound::Delay(delay),
-        Verdict::Unbounded => Bound::Nothing,
-        // not reached: it is decipherable
-        Verdict::Ambiguous(_, _, _) => Bound::Nothing,
-    }
+    work.fill(0);
+    decipher_delay::measure(places, work)
 }

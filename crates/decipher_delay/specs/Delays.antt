@@ -1,5 +1,5 @@
 -- The verdict on a decipherable code, from the longest walk over its pairs.
-use Rattle.std.specs.Prelude.{◌≡◌, refl, Bool, true, false, List, ℕ, ◌+◌, ◌≤◌, length, replicate, if◌then◌else◌}
+use Rattle.std.specs.Prelude.{◌≡◌, refl, Option, Some, None, Bool, true, false, List, ℕ, ◌+◌, ◌≤◌, length, replicate, if◌then◌else◌}
 use Rattle.std.proofs.Common.{add-one, arith}
 use Rattle.std.proofs.lemmas.List.{length-replicate}
 use Rattle.code.specs.declared.SymbolCount.{SymbolCount}
@@ -12,8 +12,6 @@ use Rattle.code.specs.Definitions.Readings.{Decipherable}
 use Rattle.code.specs.Definitions.Sheets.{limits}
 use Rattle.code.specs.Definitions.Tables.{Table}
 use Rattle.code.proofs.Laws.Delays.{no_rivals_delay}
-use Rattle.pair_longest.specs.declared.Extent.{Extent}
-use Rattle.pair_longest.specs.declared.Extent.TheVariants.{Finite as Most, Unbounded as Without-most}
 use Rattle.pair_longest.specs.Answer.{was_finite}
 use Rattle.pair_longest.specs.Answer as Answer
 use Rattle.pair_longest.specs.Extents.{Given, LongestWalk, ExtentOf}
@@ -36,6 +34,11 @@ use Rattle.pair_theory.specs.Searches.{search_decipherable, search_delay, search
 abbrev pub delay_of : (rivals : Bool) (r : ℕ) → ℕ
 delay_of b r = if b then r + 1 else 0
 
+-- The verdict on a decipherable code, from its delay, if it has one.
+abbrev pub verdict_of : Option SymbolCount → Verdict
+verdict_of (Some d) = Finite d
+verdict_of None = Unbounded
+
 -- The delay, or that there is none, by the walks over the pairs of f.
 pub data DelayBy (f : List ℕ) : Verdict → Type 0 where
   finite : {d : SymbolCount} {r : ℕ} → LongestWalk f r → d.0 ≡ delay_of (some_rivals f) r → DelayBy f (Finite d)
@@ -54,14 +57,14 @@ pub given_laid : {f xs w : List ℕ} → Given f xs w → Laid f
 given_laid g = g.laid
 
 -- The longest walk reads few enough symbols that one more can be counted.
-pub extent_low : {f : List ℕ} {e : Extent} {r : ℕ} → Laid f → ExtentOf f e → e ≡ Most r → r ≤ unordered_pairs limits
+pub extent_low : {f : List ℕ} {e : Option ℕ} {r : ℕ} → Laid f → ExtentOf f e → e ≡ Some r → r ≤ unordered_pairs limits
 extent_low l x p = omega (arith, pairs_limited l, (was_finite x p).low)
 
 module _ {f : List ℕ} where
-  pub by_finite : {e : Extent} {r : ℕ} {b : Bool} {d : SymbolCount} → ExtentOf f e → e ≡ Most r → b ≡ some_rivals f → d.0 ≡ delay_of b r → DelayBy f (Finite d)
+  pub by_finite : {e : Option ℕ} {r : ℕ} {b : Bool} {d : SymbolCount} → ExtentOf f e → e ≡ Some r → b ≡ some_rivals f → d.0 ≡ delay_of b r → DelayBy f (Finite d)
   by_finite {r = r} x p q h = finite {r = r} (was_finite x p) (rw q at h)
 
-  pub by_unbounded : {e : Extent} → ExtentOf f e → e ≡ Without-most → DelayBy f Unbounded
+  pub by_unbounded : {e : Option ℕ} → ExtentOf f e → e ≡ None → DelayBy f Unbounded
   by_unbounded (Answer.finite p) q = let z : ◌≡◌ {A = ℕ} 0 1 = cc in absurd (omega arith)
   by_unbounded (Answer.unbounded u) q = unbounded u
 

@@ -7,10 +7,9 @@ ghost use Rattle.code.specs.Definitions.Operations.{unordered_pairs};
 ghost use Rattle.code.specs.Definitions.Sheets.{limits};
 ghost use Rattle.pair_longest.specs.Extents.{Given};
 ghost use Rattle.pair_storage.specs.Marks.{marks};
-ghost use Rattle.decipher_delay.specs.Delays.{delay_of, DelayBy, Measured};
+ghost use Rattle.decipher_delay.specs.Delays.{delay_of, verdict_of, DelayBy, Measured};
 
 use code::{SymbolCount, Verdict};
-use pair_longest::Extent;
 use pair_rivals::some_rivals;
 
 // The delay of a decipherable code, where the longest walk over its pairs reads `longest` symbols: 0 where no two words are rivals.
@@ -24,26 +23,24 @@ fn delay_of(rivals: bool, longest: usize) -> SymbolCount
     SymbolCount(0)
 }
 
-// The verdict on a decipherable code: its delay, or that it is without bound. No pair may be marked in the list.
-pub fn measure(places: &[u8], work: &mut [u64]) -> Verdict
+// The delay of a decipherable code, or none: it is without bound. No pair may be marked in the list.
+pub fn measure(places: &[u8], work: &mut [u64]) -> Option<SymbolCount>
     requires { Given places.now (marks places.now work.old) work.old }
-    ensures { DelayBy places.now result }
+    ensures { DelayBy places.now (verdict_of result) }
 {
-    match pair_longest::longest(places, work) {
-        Extent::Finite(longest) => {
-            let delay = delay_of(some_rivals(places), longest);
-            Verdict::Finite(delay)
-        }
-        Extent::Unbounded => Verdict::Unbounded,
-    }
+    let longest = pair_longest::longest(places, work)?;
+    Some(delay_of(some_rivals(places), longest))
 }
 
-// The same, with the list left zero.
+// The same as a verdict, with the list left zero.
 pub fn decipherable(places: &[u8], work: &mut [u64]) -> Verdict
     requires { Given places.now (marks places.now work.old) work.old }
     ensures { Measured places.now work.old work.new result }
 {
-    let verdict = measure(places, work);
-    bits::clear(work);
-    verdict
+    let delay = measure(places, work);
+    work.fill(0);
+    match delay {
+        Some(delay) => Verdict::Finite(delay),
+        None => Verdict::Unbounded,
+    }
 }

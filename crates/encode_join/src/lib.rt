@@ -18,14 +18,12 @@ pub fn message_len(code: Code, words: &[u8]) -> usize
     ensures { result ≡ min (length (message_of code words.now)) (limits.message + 1) }
 {
     let mut sum: usize = 0;
-    let mut i: usize = 0;
-    while i < words.len() {
-        let w = code.words[words[i] as usize];
+    for &x in words {
+        let w = code.words[usize::from(x)];
         sum += w.len;
         if Message::SYMBOLS < sum {
             return Message::SYMBOLS + 1;
         }
-        i += 1;
     }
     sum
 }
@@ -35,8 +33,7 @@ fn write_word(w: Word, message: &mut [u8], at: usize) -> usize
     requires { (w.len ≤ limits.symbols) × (at + w.len ≤ length message.old) }
     ensures { (result ≡ at + w.len) × (message.new ≡ paste message.old at w.symbols w.len) }
 {
-    let symbols = w.symbols;
-    copy_at(message, at, &symbols, w.len);
+    copy_at(message, at, &w.symbols, w.len);
     at + w.len
 }
 
@@ -46,10 +43,7 @@ pub fn write_message(code: Code, words: &[u8], message: &mut [u8])
     ensures { message.new ≡ written (message_of code words.now) message.old }
 {
     let mut at: usize = 0;
-    let mut i: usize = 0;
-    while i < words.len() {
-        let w = code.words[words[i] as usize];
-        at = write_word(w, message, at);
-        i += 1;
+    for &x in words {
+        at = write_word(code.words[usize::from(x)], message, at);
     }
 }

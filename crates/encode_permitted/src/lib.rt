@@ -10,21 +10,14 @@ ghost use Rattle.code.specs.Laws.Exactly.{Exactly};
 ghost use Rattle.encode_permitted.specs.Originals.{Original};
 
 use code::Enlarged;
-use well_enlarged::number_after;
+use well_enlarged::number_in;
 
 // Refusal 9: some entry is no original word's number.
 pub fn has_unknown(e: Enlarged, words: &[u8]) -> bool
     requires { WellEnlarged limits e }
     ensures { Exactly result (HasUnknown (original_table e) words.now) }
 {
-    let mut i: usize = 0;
-    while i < words.len() {
-        if e.originals <= words[i] as usize {
-            return true;
-        }
-        i += 1;
-    }
-    false
+    words.iter().any(|&x| e.originals <= usize::from(x))
 }
 
 // Refusal 10: the first word may not begin, or some word may not come where it stands. The walk keeps the number that a word has after the one before it: what may
@@ -33,27 +26,20 @@ pub fn has_forbidden(e: Enlarged, words: &[u8]) -> bool
     requires { Original limits e words.now }
     ensures { Exactly result (HasForbidden (original_table e) words.now) }
 {
-    if words.len() == 0 {
+    let Some(&first) = words.first() else {
         return false;
-    }
-    let code = e.code;
-    let origins = e.origins;
-    let behind = e.behind;
-    let mut last = words[0] as usize;
-    if code.begins[last] != 1 {
+    };
+    let mut last = usize::from(first);
+    if e.code.begins[last] != 1 {
         return true;
     }
-    let mut i: usize = 0;
-    while i + 1 < words.len() {
-        let y = words[i] as usize;
-        let x = words[i + 1] as usize;
-        let next = number_after(&origins, &behind, e.originals, code.count, y, x);
-        let row = code.rows[next];
+    for pair in words.windows(2) {
+        let next = number_in(&e, usize::from(pair[0]), usize::from(pair[1]));
+        let row = e.code.rows[next];
         if row.entries[last] != 1 {
             return true;
         }
         last = next;
-        i += 1;
     }
     false
 }

@@ -1,13 +1,12 @@
 -- What an accepted sheet or an accepted ban list gives can be packed, and so can the code of the twelve Turkish types.
-use Rattle.std.specs.Prelude.{◌≡◌, List, ℕ, ◌≤◌, ◌<◌}
+use Rattle.std.specs.Prelude.{◌≡◌, List, ℕ, ◌≤◌, ◌<◌, Err, Ok, Result}
 use Rattle.std.proofs.Common.{sym, subst, ap, ◌∙◌, arith}
 use Rattle.std.proofs.Math.Decide.{dec_lt}
 use Rattle.code.specs.declared.Code.{Code}
 use Rattle.code.specs.declared.Enlarged.{Enlarged}
 use Rattle.code.specs.declared.Enlargement.{Enlargement}
-use Rattle.code.specs.declared.SheetAnswer.{SheetAnswer}
-use Rattle.code.specs.declared.SheetAnswer.TheVariants.{Accepted, Refused}
 use Rattle.code.specs.declared.Taken.{Taken}
+use Rattle.code.specs.declared.Refusal.{Refusal}
 use Rattle.code.specs.Definitions.Enlarged.{plain_of}
 use Rattle.code.specs.Definitions.Operations.{WithoutCopies, Enlarges, refused, enlarged}
 use Rattle.code.specs.Definitions.Sheets.{limits, taken}
@@ -35,7 +34,7 @@ packs w = record {
   behind = w.numbers.behind;
 }
 
-pub sheet_packs : (s : List ℕ) {t : Taken} {e : Enlarged} → t ≡ taken limits s → e ≡ plain_of limits t.code → t.answer ≡ Accepted → Packable e
+pub sheet_packs : (s : List ℕ) {t : Taken} {e : Enlarged} → t ≡ taken limits s → e ≡ plain_of limits t.code → t.answer ≡ Ok tt → Packable e
 sheet_packs s g p a = rw p (packs (plain_well (well (record { sheet = s; gives = sym g ∙ rw a }))))
 
 pub turkish_packs : {c : Code} {e : Enlarged} → c ≡ code_of_types limits types → e ≡ plain_of limits c → Packable e
@@ -70,17 +69,17 @@ module _ {e : Enlarged} (n : (Packable e → ⊥) → ⊥) where
   }
 
 module _ {v : Enlarged} {s : List ℕ} {x : Enlargement} where
-  pub list_accepted : Enlarges limits v s x → x.answer ≡ Accepted → Enlarges limits v s (record { answer = Accepted; enlarged = x.enlarged })
-  list_accepted g a = subst (λ (y : SheetAnswer). Enlarges limits v s (record { answer = y; enlarged = x.enlarged })) a g
+  pub list_accepted : Enlarges limits v s x → x.answer ≡ Ok tt → Enlarges limits v s (record { answer = Ok tt; enlarged = x.enlarged })
+  list_accepted g a = subst (λ (y : Result Unit Refusal). Enlarges limits v s (record { answer = y; enlarged = x.enlarged })) a g
 
-  not_refused_8 : Enlarges limits v s x → x.answer ≡ Accepted → (WithoutCopies limits v → ⊥) → ⊥
+  not_refused_8 : Enlarges limits v s x → x.answer ≡ Ok tt → (WithoutCopies limits v → ⊥) → ⊥
   not_refused_8 (refused {r} h d) a =
-      let b : Accepted ≡ Refused r = sym a ∙ ap (λ (y : Enlargement). y.answer) d in
+      let b : (Ok tt) ≡ Err r = sym a ∙ ap (λ (y : Enlargement). y.answer) d in
       let y : ◌≡◌ {A = ℕ} 0 1 = cc in
       absurd (omega arith)
   not_refused_8 (enlarged h d) a = h.1.0
 
-  pub list_packs : Enlarges limits v s x → x.answer ≡ Accepted → Packable x.enlarged
+  pub list_packs : Enlarges limits v s x → x.answer ≡ Ok tt → Packable x.enlarged
   list_packs g a =
       packs_after_all
       (λ no. not_refused_8 g a
@@ -88,5 +87,5 @@ module _ {v : Enlarged} {s : List ℕ} {x : Enlargement} where
         table = v.code;
         given = p.given;
         list = s;
-        gives = subst (λ (w : Enlarged). Enlarges limits w s (record { answer = Accepted; enlarged = x.enlarged })) p.plain (list_accepted g a);
+        gives = subst (λ (w : Enlarged). Enlarges limits w s (record { answer = Ok tt; enlarged = x.enlarged })) p.plain (list_accepted g a);
       })))))

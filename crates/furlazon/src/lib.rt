@@ -6,16 +6,14 @@
 
 ghost use Rattle.furlazon.specs.Calls.{TakesIn, ClassesCall, TurkishCall, TurkishClassesCall, EnlargeCall, EncodeCall, ReadCall, NextCall, SplitCall, VerdictCall};
 
-use c_answers::{
-    is_short, number, put_encoding, put_judgement, put_naming, put_reading, put_splitting,
-};
+use c_answers::{is_short, number, put_answer};
 use c_image::{Image, unpack};
 use c_results::{classes_in, put_classes, put_table};
 use c_short_answers::{
     untold_encoding, untold_naming, untold_reading, untold_splitting, untold_verdict,
 };
 use class_sheet::take_classes;
-use code::{Classes, Refusal, SheetAnswer};
+use code::{Classes, Refusal};
 use well_enlarged::plain;
 
 // Takes in a sheet. 0: accepted, and the table's image stands at the start of `table`. Else the refusal's number, and `table` is as it was.
@@ -44,7 +42,7 @@ pub fn furlazon_turkish(table: &mut [u8]) -> u64
     ensures { TurkishCall table.old table.new result }
 {
     let value = plain(turkish::twelve());
-    put_table(SheetAnswer::Accepted, value, table)
+    put_table(Ok(()), value, table)
 }
 
 // Gives the built-in classes of the Turkish letters. 0: they stand at the start of `classes`. Else 13, and `classes` is as it was.
@@ -52,7 +50,7 @@ pub fn furlazon_turkish_classes(classes: &mut [u8]) -> u64
     ensures { TurkishClassesCall classes.old classes.new result }
 {
     let given = turkish_letters::turkish();
-    put_classes(SheetAnswer::Accepted, given, classes)
+    put_classes(Ok(()), given, classes)
 }
 
 // Enlarges a table by a list of bans that look two words back. 0: accepted, and the image of the enlarged table stands at the start of `enlarged`. Else the
@@ -84,7 +82,7 @@ pub fn furlazon_encode(table: &[u8], words: &[u8], message: &mut [u8], answer: &
         return untold_encoding(value, words);
     }
     let e = encoding::encode(value, words, message);
-    put_encoding(e, answer)
+    put_answer(e, answer)
 }
 
 // Reads a message. 0: the only reading or the first two stand at the start of `first` and `second`; `answer` has 1 or 2, and their lengths. Else the
@@ -108,7 +106,7 @@ pub fn furlazon_read(
         return untold_reading(value, message);
     }
     let e = reading::read(value, message, first, second, work);
-    put_reading(e, answer)
+    put_answer(e, answer)
 }
 
 // Names the next word of a message from as many symbols as the table's delay. 0: `answer` has its number, and `work` is all zero. Else the refusal's number, the first
@@ -124,7 +122,7 @@ pub fn furlazon_next(table: &[u8], message: &[u8], work: &mut [u64], answer: &mu
         return untold_naming(value, message);
     }
     let e = next_word::next_word(value, message, work);
-    put_naming(e, answer)
+    put_answer(e, answer)
 }
 
 // Gives the verdict on a table. 0: `answer` has 1, 2 or 3 for ambiguous, decipherable with a delay, or without bound, and the lengths or the delay. For
@@ -148,11 +146,11 @@ pub fn furlazon_verdict(
         return untold_verdict(value);
     }
     let e = decipher::verdict(value, message, first, second, work);
-    put_judgement(e, answer)
+    put_answer(e, answer)
 }
 
-// Splits a text of letters of these classes into syllables. 0: the output stands at the start of `out`, `answer` has its length, and `message`, `first`, `second` and `work`
-// are all zero. Else the refusal's number, and nothing is changed.
+// Splits a text of letters of these classes into syllables. 0: the output stands at the start of `out`, `answer` has its length, and `message`, `first`, `second` and
+// `work` are all zero. Else the refusal's number, and nothing is changed.
 pub fn furlazon_split(
     table: &[u8],
     classes: &[u8],
@@ -180,5 +178,5 @@ pub fn furlazon_split(
         return untold_splitting(value, letters, text);
     }
     let e = text_split::split(value, letters, text, out, message, first, second, work);
-    put_splitting(e, answer)
+    put_answer(e, answer)
 }

@@ -1,11 +1,9 @@
 -- What the contract says of the word that is named: no other fits; it is the first word of every reading, and a message with a reading is not refused; symbols behind
 -- as many as the delay make no difference. And when what is left behind a word can be asked for its next word in turn.
-use Rattle.std.specs.Prelude.{◌≡◌, refl, true, List, [], ◌∷◌, ◌↔◌, ℕ, ◌≤◌, ◌<◌, length, take, drop, get_or}
+use Rattle.std.specs.Prelude.{◌≡◌, refl, true, List, [], ◌∷◌, ◌↔◌, ℕ, ◌≤◌, ◌<◌, length, take, drop, get_or, Ok, Result}
 use Rattle.std.proofs.Common.{sym, ap, ◌∙◌, subst, inl, inr, arith, length-take, get_or-take, drop_at}
 use Rattle.code.specs.declared.Enlarged.{Enlarged}
 use Rattle.code.specs.declared.Limits.{Limits}
-use Rattle.code.specs.declared.Naming.{Naming}
-use Rattle.code.specs.declared.Naming.TheVariants.{Named}
 use Rattle.code.specs.declared.Refusal.{Refusal}
 use Rattle.code.specs.Definitions.Delays.{Delay}
 use Rattle.code.specs.Definitions.Enlarged.{original_table}
@@ -24,15 +22,15 @@ use Rattle.well_enlarged.specs.WellEnlarged.{WellEnlarged}
 use Rattle.pair_places.specs.Codes.{code_fits}
 
 module _ {l : Limits} {e : Enlarged} {m w w' : List ℕ} where
-  pub told_by : {x : ℕ} → NamesNext l e m w w' (Named x) → Foretells (original_table e) m x
+  pub told_by : {x : ℕ} → NamesNext l e m w w' (Ok x) → Foretells (original_table e) m x
   told_by (named _ _ f _) = f
 
   -- 02, request 7: "name the one word". By the delay no other word is one.
-  pub named_only : {x : ℕ} (h : NamesNext l e m w w' (Named x)) {y : ℕ} → NextWord (original_table e) (told_by h).N m y → x ≡ y
+  pub named_only : {x : ℕ} (h : NamesNext l e m w w' (Ok x)) {y : ℕ} → NextWord (original_table e) (told_by h).N m y → x ≡ y
   named_only h a = let f = told_by h in next_only f.delay f.next a
 
   -- "For a non-empty message with a reading, this is that reading's first word."
-  pub named_first : {x : ℕ} → NamesNext l e m w w' (Named x) → {y : ℕ} {s : List ℕ} → Reads (original_table e) m (y ∷ s) → x ≡ y
+  pub named_first : {x : ℕ} → NamesNext l e m w w' (Ok x) → {y : ℕ} {s : List ℕ} → Reads (original_table e) m (y ∷ s) → x ≡ y
   named_first h r = let f = told_by h in next_is_first f.delay r f.next
 
 -- What is left behind the first word is a message of its own where the next word may begin. So where every word may, words are named one after the other.
@@ -58,8 +56,8 @@ module _ {e : Enlarged} (from : FromLists limits e) {m : List ℕ} {y : ℕ} {s 
   not_high N h = omega (arith, h.high, get_or-take N m h.at 0 (omega (arith, h.within, length-take N m)), reading_low h.at)
 
   -- Where a non-empty message has a reading, and the table a delay, the answer is the reading's first word.
-  pub reading_named : {w w' : List ℕ} {r : Naming} {N : ℕ} → Delay (original_table e) N → 0 < length m → length m ≤ limits.message → verdict_work limits ≤ length w
-      → NamesNext limits e m w w' r → r ≡ Named y
+  pub reading_named : {w w' : List ℕ} {r : Result ℕ Refusal} {N : ℕ} → Delay (original_table e) N → 0 < length m → length m ≤ limits.message → verdict_work limits ≤ length w
+      → NamesNext limits e m w w' r → r ≡ Ok y
   reading_named {w} {w'} {r} {N} d some few room = by
     where
       none_refused : NoneHolds (naming_conditions limits e m w)
@@ -75,10 +73,10 @@ module _ {e : Enlarged} (from : FromLists limits e) {m : List ℕ} {y : ℕ} {s 
       none_untold : NoneHolds (foretelling_conditions limits e m)
       none_untold = (λ n. n N d, (λ h. not_high N (high_by d h), (is_told, tt)))
 
-      by : {q : Naming} → NamesNext limits e m w w' q → q ≡ Named y
+      by : {q : Result ℕ Refusal} → NamesNext limits e m w w' q → q ≡ Ok y
       by (refused {r = q} h z) = absurd (lowest_none (naming_conditions limits e m w) q h none_refused)
       by (unnamed {r = q} h f z) = absurd (lowest_none (foretelling_conditions limits e m) q f none_untold)
-      by (named h n f z) = ap Named (next_is_first f.delay reads f.next)
+      by (named h n f z) = ap Ok (next_is_first f.delay reads f.next)
 
 -- The answer depends on the first N symbols, N being the delay, and on whether the message is empty or too long. A message that ends before N symbols shares them with
 -- none but itself, so whether it ends there is among what they tell.
@@ -99,7 +97,7 @@ module _ (l : Limits) (e : Enlarged) {N : ℕ} (d : Delay (original_table e) N) 
   told_alike r (inr (a, inr (b, inl p))) = inr (a, inr (λ h. b (high_back h), inl (not_foretold_alike d same empty.0 p.0, p.1)))
   told_alike r (inr (a, inr (b, inr p))) = absurd p.1
 
-  pub names_alike : {w w' : List ℕ} {r : Naming} → NamesNext l e m w w' r → NamesNext l e n w w' r
+  pub names_alike : {w w' : List ℕ} {r : Result ℕ Refusal} → NamesNext l e m w w' r → NamesNext l e n w w' r
   names_alike {w} (refused {r} h z) = refused (refused_alike w r h) z
   names_alike (unnamed {r} h f z) = unnamed (h.0, (λ k. h.1.0 (few.0 k), h.1.1)) (told_alike r f) z
   names_alike (named h k f z) =

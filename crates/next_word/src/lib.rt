@@ -14,8 +14,7 @@ ghost use Rattle.well_enlarged.specs.WellEnlarged.{WellEnlarged};
 ghost use Rattle.code.specs.Laws.Exactly.{Exactly};
 ghost use Rattle.next_word.specs.Told.{Told};
 
-use code::{Enlarged, Message, Naming, Pairs, Refusal};
-use decipher_bound::Bound;
+use code::{Enlarged, Message, Pairs, Refusal};
 use read_symbols::has_high;
 use telling::tell;
 use well_enlarged::well_enlarged;
@@ -31,52 +30,46 @@ fn high_soon(n: usize, message: &[u8]) -> bool
 }
 
 // The next word, by a delay of `n` symbols, or refusal 12 or 14.
-fn name(e: Enlarged, n: usize, message: &[u8], work: &mut [u64]) -> Naming
+fn name(e: Enlarged, n: usize, message: &[u8], work: &mut [u64]) -> Result<usize, Refusal>
     requires { WellEnlarged limits e × Delay (original_table e) n × (n < length work.old) }
     ensures { Told e message.now result }
 {
     if high_soon(n, message) {
-        return Naming::Refused(Refusal::MessageSymbol);
+        return Err(Refusal::MessageSymbol);
     }
     if message.len() == 0 {
-        return Naming::Refused(Refusal::NoReading);
+        return Err(Refusal::NoReading);
     }
-    let code = e.code;
-    let x = tell(code, n, message, work);
-    if code.count <= x {
-        return Naming::Refused(Refusal::NoReading);
-    }
-    Naming::Named(x)
+    tell(e.code, n, message, work).ok_or(Refusal::NoReading)
 }
 
 // The next word, or refusal 21, 12 or 14, in a working buffer that is long enough.
-fn foretell(e: Enlarged, message: &[u8], work: &mut [u64]) -> Naming
+fn foretell(e: Enlarged, message: &[u8], work: &mut [u64]) -> Result<usize, Refusal>
     requires { WellEnlarged limits e × (verdict_work limits ≤ length work.old) }
     ensures { Told e message.now result }
 {
     let places = pair_endings::lay_out(e.code);
     let room = pair_storage::room(&places);
-    match decipher_bound::find_delay(&places, &mut work[..room]) {
-        Bound::Delay(n) => name(e, n.0, message, work),
-        Bound::Nothing => Naming::Refused(Refusal::NoFiniteDelay),
-    }
+    let found = decipher_bound::find_delay(&places, &mut work[..room]);
+    let delay = found.ok_or(Refusal::NoFiniteDelay)?;
+    name(e, delay.0, message, work)
 }
 
 // Names the next word of a message, or gives the first refusal that holds of 8, 11, 13, 21, 12 and 14, in this order. The working buffer is left zero unless 8, 11 or
 // 13 is returned.
-pub fn next_word(e: Enlarged, message: &[u8], work: &mut [u64]) -> Naming
+pub fn next_word(e: Enlarged, message: &[u8], work: &mut [u64]) -> Result<usize, Refusal>
     ensures { NamesNext limits e message.now work.old work.new result }
 {
     if !well_enlarged(e) {
-        return Naming::Refused(Refusal::NotFromSheet);
+        return Err(Refusal::NotFromSheet);
     }
     if Message::SYMBOLS < message.len() {
-        return Naming::Refused(Refusal::MessageLength);
+        return Err(Refusal::MessageLength);
     }
     if work.len() < Pairs::MARKS {
-        return Naming::Refused(Refusal::ShortBuffer);
+        return Err(Refusal::ShortBuffer);
     }
     let r = foretell(e, message, work);
-    bits::clear(work);
+    work.fill(0);
     r
 }

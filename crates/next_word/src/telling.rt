@@ -12,23 +12,15 @@ ghost use Rattle.next_word.specs.Picked.{Picked, PickedBySets};
 use code::{Code, Word};
 use read_sets::Sets;
 
-// The least word that may begin, or the number of words.
-fn first_beginning(code: Code) -> usize
+// The least word that may begin, if one may.
+fn first_beginning(code: Code) -> Option<usize>
     requires { WellFormed limits code }
     ensures { Picked (λ x. (table_of code).begins x ≡ true) code.count result }
 {
-    let begins = code.begins;
-    let mut x: usize = 0;
-    while x < code.count {
-        if begins[x] == 1 {
-            return x;
-        }
-        x += 1;
-    }
-    x
+    code.begins[..code.count].iter().position(|mark| *mark == 1)
 }
 
-// The least word that begins a sequence with these symbols, by the sets of a code's words, or `n`. If `cut`, the symbols may end inside a word.
+// The least word that begins a sequence with these symbols, by the sets of a code's words, if one does. If `cut`, the symbols may end inside a word.
 fn find_word(
     having: &[u64],
     ends: &[u64],
@@ -39,7 +31,7 @@ fn find_word(
     prefix: &[u8],
     cut: bool,
     work: &mut [u64],
-) -> usize
+) -> Option<usize>
     requires { SetsOf having.now ends.now rows.now lengths.now n longest × (length work.old ≡ length prefix.now + 1) × (0 < length prefix.now) }
     ensures { PickedBySets having.now ends.now rows.now lengths.now n longest cut prefix.now result }
 {
@@ -47,8 +39,8 @@ fn find_word(
     read_choices::seek(rows, n, work, 0, n, 0)
 }
 
-// The least word that begins a sequence of a code with these symbols, or the number of words. If `cut`, the symbols may end inside a word.
-fn first_word(code: Code, prefix: &[u8], cut: bool, work: &mut [u64]) -> usize
+// The least word that begins a sequence of a code with these symbols, if one does. If `cut`, the symbols may end inside a word.
+fn first_word(code: Code, prefix: &[u8], cut: bool, work: &mut [u64]) -> Option<usize>
     requires { WellFormed limits code × (length prefix.now < length work.old) × (0 < length prefix.now) }
     ensures { Picked (Opens (table_of code) cut prefix.now) code.count result }
 {
@@ -71,8 +63,8 @@ fn first_word(code: Code, prefix: &[u8], cut: bool, work: &mut [u64]) -> usize
     )
 }
 
-// The least word that begins a sequence with the same first `n` symbols as the message, or the number of words. No other symbol is looked at.
-pub fn tell(code: Code, n: usize, message: &[u8], work: &mut [u64]) -> usize
+// The least word that begins a sequence with the same first `n` symbols as the message, if one does. No other symbol is looked at.
+pub fn tell(code: Code, n: usize, message: &[u8], work: &mut [u64]) -> Option<usize>
     requires { WellFormed limits code × (n < length work.old) × (0 < length message.now) }
     ensures { Picked (NextWord (table_of code) n message.now) code.count result }
 {

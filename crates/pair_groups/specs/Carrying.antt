@@ -49,9 +49,8 @@ module _ {f ms q : List ℕ} {tail a b t k c : ℕ} {p : Pair} (x : Expanding f 
   pub member_number : node_at (entries_in f q) k ≡ cell f p.low p.high
   member_number = sym member_pair.node
 
-  module _ {y : ℕ} (e : y ≡ turning f (cell f p.low p.high)) where
-    pub member_turns : y < straight_on → Turned f (node_at (entries_in f q) k) y
-    member_turns l = goes_behind x.laid p member_pair e l
+  pub member_turns : {y : ℕ} → Turned f (cell f p.low p.high) y → Turned f (node_at (entries_in f q) k) y
+  member_turns t = goes_behind x.laid p member_pair t
 
-    pub member_straight : y ≤ straight_on → straight_on ≤ y → Straight f p
-    member_straight l m = goes_straight x.laid p e l m member_high
+  pub member_straight : turning f (cell f p.low p.high) ≡ straight_on → Straight f p
+  member_straight e = goes_straight x.laid p e member_high

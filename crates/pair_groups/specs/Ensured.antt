@@ -1,12 +1,11 @@
 -- What the functions on one group promise: how a search stands after a part of it.
+use Rattle.std.proofs.Common.{ControlFlow, Continue, Break}
 use Rattle.std.specs.Prelude.{◌≡◌, List, ◌∷◌, reverse, ℕ, ◌+◌, ◌≤◌, ◌<◌, length}
 use Rattle.graph.specs.Goals.{LeastGoal}
 use Rattle.pair_places.specs.Flat.{Laid, cell_count, pair_count}
 use Rattle.pair_places.specs.Opens.{toward, open_graph}
 use Rattle.pair_places.specs.Roots.{Numbered}
 use Rattle.pair_storage.specs.Entries.{node_at, entries_in}
-use Rattle.pair_slots.specs.declared.Progress.{Progress}
-use Rattle.pair_slots.specs.declared.Progress.TheVariants.{Goal, Tail}
 use Rattle.pair_groups.specs.Labels.{Label, Labelled}
 use Rattle.pair_groups.specs.Slots.{SlotStage}
 
@@ -44,6 +43,6 @@ pub record GoalNext (f q : List ℕ) (a t : ℕ) : Type 0 where
   pub labelled : Labelled (open_graph f) q a
   pub least : (l : List ℕ) → Label (open_graph f) q a l → LeastGoal (open_graph f) (reverse (t ∷ l))
 
-pub data Progressed (f ms q : List ℕ) (a b t k c : ℕ) : Progress → Type 0 where
-  met : {x : ℕ} → GoalNext f q a x → Progressed f ms q a b t k c (Goal x)
-  went : {e : ℕ} → Stands f ms q e a b t k c → Progressed f ms q a b t k c (Tail e)
+pub data Progressed (f ms q : List ℕ) (a b t k c : ℕ) : ControlFlow ℕ ℕ → Type 0 where
+  met : {x : ℕ} → GoalNext f q a x → Progressed f ms q a b t k c (Break x)
+  went : {e : ℕ} → Stands f ms q e a b t k c → Progressed f ms q a b t k c (Continue e)

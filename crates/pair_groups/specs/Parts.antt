@@ -1,12 +1,10 @@
 -- The loops of one group: the slots of a member, the members, the symbols.
 use Rattle.std.specs.Prelude.{◌≡◌, List, ℕ, ◌+◌, ◌≤◌, ◌<◌, length}
-use Rattle.std.proofs.Common.{arith}
+use Rattle.std.proofs.Common.{ControlFlow, Continue, Break, arith}
 use Rattle.pair_places.specs.Flat.{Laid, pair_count}
 use Rattle.pair_places.specs.Opens.{open_graph}
 use Rattle.pair_places.specs.Roots.{Numbered}
 use Rattle.pair_storage.specs.Entries.{entries_in}
-use Rattle.pair_slots.specs.declared.Progress.{Progress}
-use Rattle.pair_slots.specs.declared.Progress.TheVariants.{Goal, Tail}
 use Rattle.pair_slots.specs.Ensured.{Space}
 use Rattle.pair_groups.specs.Ensured.{Known, Stands, Ready, Expanding, GoalNext, Progressed, met, went}
 use Rattle.pair_groups.specs.Queue.{Queue, entry_most}
@@ -16,17 +14,17 @@ use Rattle.pair_groups.specs.Turns.{next_symbol_lem}
 
 -- What each progress says.
 module _ {f ms q : List ℕ} {a b t k c : ℕ} where
-  pub was_goal : {x : ℕ} {r : Progress} → Progressed f ms q a b t k c r → r ≡ Goal x → GoalNext f q a x
+  pub was_goal : {x : ℕ} {r : ControlFlow ℕ ℕ} → Progressed f ms q a b t k c r → r ≡ Break x → GoalNext f q a x
   was_goal {x} (met {x = y} h) e = let z : y ≡ x = cc in rw z at h
   was_goal (went h) e = let z : ◌≡◌ {A = ℕ} 0 1 = cc in absurd (omega arith)
 
-  pub was_tail : {e : ℕ} {r : Progress} → Progressed f ms q a b t k c r → r ≡ Tail e → Stands f ms q e a b t k c
+  pub was_tail : {e : ℕ} {r : ControlFlow ℕ ℕ} → Progressed f ms q a b t k c r → r ≡ Continue e → Stands f ms q e a b t k c
   was_tail (met h) d = let z : ◌≡◌ {A = ℕ} 0 1 = cc in absurd (omega arith)
   was_tail {e} (went {e = y} h) d = let z : y ≡ e = cc in rw z at h
 
 -- A goal that a part of a group meets, the group meets.
-pub goal_again : {f ms q : List ℕ} {a b t k c t' k' c' x : ℕ} {r : Progress} → Progressed f ms q a b t k c r → r ≡ Goal x
-    → Progressed f ms q a b t' k' c' (Goal x)
+pub goal_again : {f ms q : List ℕ} {a b t k c t' k' c' x : ℕ} {r : ControlFlow ℕ ℕ} → Progressed f ms q a b t k c r → r ≡ Break x
+    → Progressed f ms q a b t' k' c' (Break x)
 goal_again h e = met (was_goal h e)
 
 pub space : {f ms q : List ℕ} {tail a b t k : ℕ} → Ready f ms q tail a b t k → Space f ms q tail a
@@ -39,7 +37,7 @@ entries_known s l = record { nodes = λ i h. entry_most s i (omega arith) }
 pub group_known : {f ms q : List ℕ} {tail a b t k c : ℕ} → Stands f ms q tail a b t k c → Known f q b
 group_known s = entries_known s.stage.queue s.stage.group.ends
 
-pub known_again : {f ms q : List ℕ} {a b t k c e : ℕ} {r : Progress} → Progressed f ms q a b t k c r → r ≡ Tail e → Known f q b
+pub known_again : {f ms q : List ℕ} {a b t k c e : ℕ} {r : ControlFlow ℕ ℕ} → Progressed f ms q a b t k c r → r ≡ Continue e → Known f q b
 known_again h d = group_known (was_tail h d)
 
 module _ {f ms : List ℕ} (q : List ℕ) {tail a b t k c : ℕ} (laid : Laid f) (n : Numbered f) (s : Stands f ms (entries_in f q) tail a b t k c) where
@@ -69,16 +67,16 @@ module _ {f ms : List ℕ} (q : List ℕ) {tail a b t k c : ℕ} (laid : Laid f)
   ready_again r e = ready (let w = r.wide in omega arith) r.member r.low
 
   -- After the last member, the next symbol.
-  pub symbol_end : b ≤ k → t < 16 → Progressed f ms (entries_in f q) a b (t + 1) a 0 (Tail tail)
+  pub symbol_end : b ≤ k → t < 16 → Progressed f ms (entries_in f q) a b (t + 1) a 0 (Continue tail)
   symbol_end l h = went (slots_begin (next_symbol_lem s.stage l h))
 
 -- From one slot to another.
-pub expanding_next : {f ms q ms₀ q₀ : List ℕ} {tail₀ a b t k c c₀ e : ℕ} {r : Progress} → Expanding f ms₀ q₀ tail₀ a b t k c₀
-    → Progressed f ms (entries_in f q) a b t k c r → r ≡ Tail e → length q ≡ length q₀ → Expanding f ms q e a b t k c
+pub expanding_next : {f ms q ms₀ q₀ : List ℕ} {tail₀ a b t k c c₀ e : ℕ} {r : ControlFlow ℕ ℕ} → Expanding f ms₀ q₀ tail₀ a b t k c₀
+    → Progressed f ms (entries_in f q) a b t k c r → r ≡ Continue e → length q ≡ length q₀ → Expanding f ms q e a b t k c
 expanding_next {q = q} x h d l =
     let s = was_tail h d in
     record { laid = x.laid; numbered = x.numbered; stands = s; ready = ready_again q x.laid x.numbered s x.ready l }
 
 -- After the last symbol, every symbol is done.
-pub group_done : {f ms q : List ℕ} {tail a b t k c : ℕ} → Stands f ms q tail a b t k c → 16 ≤ t → Progressed f ms q a b 16 k c (Tail tail)
+pub group_done : {f ms q : List ℕ} {tail a b t k c : ℕ} → Stands f ms q tail a b t k c → 16 ≤ t → Progressed f ms q a b 16 k c (Continue tail)
 group_done {t = t} s l = let e : t ≡ 16 = let h = s.stage.high in omega arith in went (rw e at s)

@@ -1,6 +1,6 @@
 -- The symbols that lead no member of a group on are passed over: by such a symbol nothing comes next.
-use Rattle.std.specs.Prelude.{◌≡◌, List, ℕ, ◌+◌, ◌≤◌, ◌<◌, get_or}
-use Rattle.std.proofs.Common.{sym, ap, ◌∙◌, arith, below_more}
+use Rattle.std.specs.Prelude.{◌≡◌, Option, Some, None, is_some, Bool, false, List, ℕ, ◌+◌, ◌≤◌, ◌<◌, get_or}
+use Rattle.std.proofs.Common.{ControlFlow, Continue, sym, ap, ◌∙◌, arith, true≢false, below_more}
 use Rattle.std.proofs.Math.Decide.{dec_lt}
 use Rattle.graph.specs.Graph.{Graph}
 use Rattle.pair_places.specs.declared.Pair.{Pair}
@@ -9,8 +9,7 @@ use Rattle.pair_places.specs.Opens.{straight_on, turning}
 use Rattle.pair_places.specs.Roots.{Numbered}
 use Rattle.pair_storage.specs.Entries.{node_at, entries_in}
 use Rattle.pair_storage.specs.Fields.{Carries}
-use Rattle.pair_slots.specs.declared.Progress.{Progress}
-use Rattle.pair_slots.specs.declared.Progress.TheVariants.{Tail}
+use Rattle.pair_slots.specs.Ensured.{TurnedBy}
 use Rattle.pair_slots.specs.Leaves.{goes_straight, width_none}
 use Rattle.pair_slots.specs.Widths.{inner_of, width}
 use Rattle.pair_groups.specs.Carrying.{known_pair}
@@ -31,11 +30,16 @@ pub record NoneLed (f q : List ℕ) (a b t u : ℕ) : Type 0 where
   pub order : t ≤ u
   pub none : (i : ℕ) → i < b → a ≤ i → (s : ℕ) → t ≤ s → s < u → width f (node_at q i) s ≡ 0
 
+-- A number of which `turning` says nothing goes straight on.
+pub straight_none : (f : List ℕ) (v : ℕ) (r : Option ℕ) {b : Bool} → TurnedBy f v r → b ≡ is_some r → b ≡ false → turning f v ≡ straight_on
+straight_none f v None t e z = t
+straight_none f v (Some y) t e z = absurd (true≢false (sym e ∙ z))
+
 -- A symbol other than that after the inner place p leads no pair on.
-module _ {f : List ℕ} (laid : Laid f) (pair : Pair) {p t u y : ℕ} (z : y ≡ turning f (cell f pair.low pair.high)) (l : y ≤ straight_on) (m : straight_on ≤ y)
+module _ {f : List ℕ} (laid : Laid f) (pair : Pair) {p t u : ℕ} (z : turning f (cell f pair.low pair.high) ≡ straight_on)
     (h : pair.high < place_count f) (e : p ≡ inner_of f pair.low pair.high) (o : t ≤ u) where
   not_led : ((s : ℕ) → t ≤ s → s < u → get_or f (p + 1) 0 ≡ s → ⊥) → NotLed f (cell f pair.low pair.high) t u
-  not_led n = record { order = o; none = λ s a b. sym (width_none laid pair s (goes_straight laid pair z l m h) e (n s a b)) }
+  not_led n = record { order = o; none = λ s a b. sym (width_none laid pair s (goes_straight laid pair z h) e (n s a b)) }
 
   pub not_led_above : u ≤ get_or f (p + 1) 0 → NotLed f (cell f pair.low pair.high) t u
   not_led_above d = not_led (λ s a b z. omega arith)
@@ -94,6 +98,6 @@ pub symbols_passed : {f ms q : List ℕ} {tail a b t u : ℕ} → Laid f → Num
 symbols_passed laid n s r h = slots_begin (pass_symbols (pair_slots laid n) s.stage r.none r.order h)
 
 -- After a symbol, the next one that may lead a member on.
-pub symbol_next : {f ms q : List ℕ} {a b t u e : ℕ} {r : Progress} → Laid f → Numbered f → Progressed f ms q a b t a 0 r → r ≡ Tail e → NoneLed f q a b t u
+pub symbol_next : {f ms q : List ℕ} {a b t u e : ℕ} {r : ControlFlow ℕ ℕ} → Laid f → Numbered f → Progressed f ms q a b t a 0 r → r ≡ Continue e → NoneLed f q a b t u
     → u ≤ 16 → Stands f ms q e a b u a 0
 symbol_next laid n h d = symbols_passed laid n (was_tail h d)

@@ -16,10 +16,11 @@ ghost use Rattle.pair_groups.specs.Queue.{Ascending, IsGroup};
 ghost use Rattle.pair_groups.specs.Symbols.{NotLed, NoneLed};
 
 use code::Word;
-use members::expand_member;
+use members::{Member, expand_member};
 use pair_places::Pair;
-use pair_slots::{Progress, Turns, inner, key, turning};
+use pair_slots::{Progress, inner, key, turning};
 use pair_storage::pair_at;
+use std::ops::ControlFlow;
 
 // A group of the queue: entries `start` to `end` - 1.
 #[derive(Clone, Copy)]
@@ -44,16 +45,16 @@ fn expand_symbol(
     ensures { Progressed places.now (marks places.now work.new) (entries_in places.now work.new)
         group.start group.end (symbol + 1) group.start 0 result }
 {
-    let mut member = group.start;
     let mut tail = tail;
-    while member < group.end {
-        match expand_member(places, work, group, symbol, member, tail) {
-            Progress::Goal(x) => return Progress::Goal(x),
-            Progress::Tail(e) => tail = e,
-        }
-        member += 1;
+    for index in group.start..group.end {
+        let member = Member {
+            group,
+            symbol,
+            index,
+        };
+        tail = expand_member(places, work, member, tail)?;
     }
-    Progress::Tail(tail)
+    ControlFlow::Continue(tail)
 }
 
 // The lesser of `least` and the symbol, not below `symbol`, that leads a pair on. Any symbol may lead the source on.
@@ -61,20 +62,19 @@ fn sooner(places: &[u8], pair: Pair, symbol: usize, least: usize) -> usize
     requires { Laid places.now × (pair.high < place_count places.now) × (symbol ≤ least) }
     ensures { NotLed places.now (pair_cell places.now pair) symbol result × (result ≤ least) }
 {
-    if turning(places, pair) < Turns::NOT {
+    if turning(places, pair).is_some() {
         return symbol;
     }
     let place = inner(places, pair);
     let next = places[place + 1] as usize;
-    if symbol <= next {
-        if next < least {
-            return next;
-        }
+    if next < symbol {
+        return least;
     }
-    least
+    next.min(least)
 }
 
-// The least symbol, not below `symbol`, that may lead a member of a group on; 16 if there is none.
+// The least symbol, not below `symbol`, that may lead a member of a group on. 16 if there is none, the end of the symbols, from which the least is taken down:
+// with an Option for the least so far each step would have another case.
 fn next_symbol(places: &[u8], work: &[u64], group: Group, symbol: usize) -> usize
     requires { Laid places.now
         × Known places.now (entries_in places.now work.now) group.end
@@ -83,10 +83,8 @@ fn next_symbol(places: &[u8], work: &[u64], group: Group, symbol: usize) -> usiz
     ensures { NoneLed places.now (entries_in places.now work.now) group.start group.end symbol result × (result ≤ 16) }
 {
     let mut least = Word::ALPHABET as usize;
-    let mut member = group.start;
-    while member < group.end {
+    for member in group.start..group.end {
         least = sooner(places, pair_at(work, member), symbol, least);
-        member += 1;
     }
     least
 }
@@ -102,14 +100,12 @@ pub fn expand_group(places: &[u8], work: &mut [u64], group: Group, tail: usize) 
 {
     let mut symbol = next_symbol(places, work, group, 0);
     let mut tail = tail;
+    // A while: the members say which symbol is next.
     while symbol < Word::ALPHABET as usize {
-        match expand_symbol(places, work, group, symbol, tail) {
-            Progress::Goal(x) => return Progress::Goal(x),
-            Progress::Tail(e) => tail = e,
-        }
+        tail = expand_symbol(places, work, group, symbol, tail)?;
         symbol = next_symbol(places, work, group, symbol + 1);
     }
-    Progress::Tail(tail)
+    ControlFlow::Continue(tail)
 }
 
 // The end of the group that starts at an entry.
@@ -122,12 +118,10 @@ pub fn group_end(places: &[u8], work: &[u64], start: usize, tail: usize) -> usiz
     ensures { IsGroup (open_graph places.now) (entries_in places.now work.now) tail start result }
 {
     let first = key(places, work, start);
-    let mut end = start + 1;
-    while end < tail {
+    for end in start + 1..tail {
         if key(places, work, end) != first {
             return end;
         }
-        end += 1;
     }
-    end
+    tail
 }

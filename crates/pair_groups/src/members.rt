@@ -13,118 +13,97 @@ ghost use Rattle.pair_groups.specs.Ensured.{Expanding, Progressed};
 use crate::Group;
 use pair_places::Pair;
 use pair_slots::meeting::{leads, least_in_order, meet, meet_words};
-use pair_slots::{Progress, Turns, turning, width};
+use pair_slots::{Progress, Step, turning, width};
 use pair_storage::pair_at;
+use std::ops::ControlFlow;
+
+// A member of a group, which is entry `index` of the queue, and a symbol by which it goes on.
+#[derive(Clone, Copy)]
+pub struct Member {
+    pub group: Group,
+    pub symbol: usize,
+    pub index: usize,
+}
 
 // Meets the pairs where the slots of a member lead that does not turn.
 fn expand_slots(
     places: &[u8],
     work: &mut [u64],
-    group: Group,
-    symbol: usize,
-    member: usize,
+    member: Member,
     pair: Pair,
     tail: usize,
 ) -> Progress
-    requires { Expanding places.now (marks places.now work.old) work.old tail group.start group.end symbol member 0
-        × (node_at (entries_in places.now work.old) member ≡ pair_cell places.now pair)
+    requires { Expanding places.now (marks places.now work.old) work.old tail member.group.start member.group.end member.symbol member.index 0
+        × (node_at (entries_in places.now work.old) member.index ≡ pair_cell places.now pair)
         × Straight places.now pair }
     ensures { Progressed places.now (marks places.now work.new) (entries_in places.now work.new)
-        group.start group.end symbol (member + 1) 0 result }
+        member.group.start member.group.end member.symbol (member.index + 1) 0 result }
 {
-    let end = width(places, pair, symbol);
-    let mut slot: usize = 0;
+    let step = Step {
+        start: member.group.start,
+        symbol: member.symbol,
+    };
     let mut tail = tail;
-    while slot < end {
+    for slot in 0..width(places, pair, member.symbol) {
         let next = pair_places::successor(places, pair.low, pair.high, slot);
-        match meet(places, work, group.start, symbol, next, tail) {
-            Progress::Goal(x) => return Progress::Goal(x),
-            Progress::Tail(e) => tail = e,
-        }
-        slot += 1;
+        tail = meet(places, work, step, next, tail)?;
     }
-    Progress::Tail(tail)
+    ControlFlow::Continue(tail)
 }
 
 // Meets the pairs of word `x` and another, from a member that turns behind `y`.
 fn expand_word(
     places: &[u8],
     work: &mut [u64],
-    group: Group,
-    symbol: usize,
-    member: usize,
+    member: Member,
     y: usize,
     x: usize,
     tail: usize,
 ) -> Progress
-    requires { Expanding places.now (marks places.now work.old) work.old tail group.start group.end symbol member (x * limits.words)
-        × Turned places.now (node_at (entries_in places.now work.old) member) y
+    requires { Expanding places.now (marks places.now work.old) work.old tail member.group.start member.group.end member.symbol member.index (x * limits.words)
+        × Turned places.now (node_at (entries_in places.now work.old) member.index) y
         × (x < word_count places.now) }
     ensures { Progressed places.now (marks places.now work.new) (entries_in places.now work.new)
-        group.start group.end symbol member ((x + 1) * limits.words) result
-        × Turned places.now (node_at (entries_in places.now work.new) member) y }
+        member.group.start member.group.end member.symbol member.index ((x + 1) * limits.words) result
+        × Turned places.now (node_at (entries_in places.now work.new) member.index) y }
 {
-    if !leads(places, symbol, y, x) {
-        return Progress::Tail(tail);
+    if !leads(places, member.symbol, y, x) {
+        return ControlFlow::Continue(tail);
     }
-    let n = pair_places::word_count(places);
-    let mut z = least_in_order(places, x);
+    let step = Step {
+        start: member.group.start,
+        symbol: member.symbol,
+    };
     let mut tail = tail;
-    while z < n {
-        match meet_words(places, work, group.start, symbol, y, x, z, tail) {
-            Progress::Goal(g) => return Progress::Goal(g),
-            Progress::Tail(e) => tail = e,
-        }
-        z += 1;
+    for z in least_in_order(places, x)..pair_places::word_count(places) {
+        tail = meet_words(places, work, step, y, x, z, tail)?;
     }
-    Progress::Tail(tail)
+    ControlFlow::Continue(tail)
 }
 
 // Meets the pairs of words that come next from a member that turns behind `y`.
-fn expand_words(
-    places: &[u8],
-    work: &mut [u64],
-    group: Group,
-    symbol: usize,
-    member: usize,
-    y: usize,
-    tail: usize,
-) -> Progress
-    requires { Expanding places.now (marks places.now work.old) work.old tail group.start group.end symbol member 0
-        × Turned places.now (node_at (entries_in places.now work.old) member) y }
+fn expand_words(places: &[u8], work: &mut [u64], member: Member, y: usize, tail: usize) -> Progress
+    requires { Expanding places.now (marks places.now work.old) work.old tail member.group.start member.group.end member.symbol member.index 0
+        × Turned places.now (node_at (entries_in places.now work.old) member.index) y }
     ensures { Progressed places.now (marks places.now work.new) (entries_in places.now work.new)
-        group.start group.end symbol (member + 1) 0 result }
+        member.group.start member.group.end member.symbol (member.index + 1) 0 result }
 {
-    let n = pair_places::word_count(places);
-    let mut x: usize = 0;
     let mut tail = tail;
-    while x < n {
-        match expand_word(places, work, group, symbol, member, y, x, tail) {
-            Progress::Goal(g) => return Progress::Goal(g),
-            Progress::Tail(e) => tail = e,
-        }
-        x += 1;
+    for x in 0..pair_places::word_count(places) {
+        tail = expand_word(places, work, member, y, x, tail)?;
     }
-    Progress::Tail(tail)
+    ControlFlow::Continue(tail)
 }
 
-// Meets all pairs that come next from a member by one symbol.
-pub fn expand_member(
-    places: &[u8],
-    work: &mut [u64],
-    group: Group,
-    symbol: usize,
-    member: usize,
-    tail: usize,
-) -> Progress
-    requires { Expanding places.now (marks places.now work.old) work.old tail group.start group.end symbol member 0 }
+// Meets all pairs that come next from a member.
+pub fn expand_member(places: &[u8], work: &mut [u64], member: Member, tail: usize) -> Progress
+    requires { Expanding places.now (marks places.now work.old) work.old tail member.group.start member.group.end member.symbol member.index 0 }
     ensures { Progressed places.now (marks places.now work.new) (entries_in places.now work.new)
-        group.start group.end symbol (member + 1) 0 result }
+        member.group.start member.group.end member.symbol (member.index + 1) 0 result }
 {
-    let pair = pair_at(work, member);
-    let y = turning(places, pair);
-    if y < Turns::NOT {
-        return expand_words(places, work, group, symbol, member, y, tail);
+    let pair = pair_at(work, member.index);
+    match turning(places, pair) {
+        Some(y) => expand_words(places, work, member, y, tail),
+        None => expand_slots(places, work, member, pair, tail),
     }
-    expand_slots(places, work, group, symbol, member, pair, tail)
 }

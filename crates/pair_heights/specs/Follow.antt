@@ -1,5 +1,5 @@
 -- The next slot of the pair on top is followed: what the function asks and promises, and a lemma for each way through it.
-use Rattle.std.specs.Prelude.{◌≡◌, List, ℕ, ◌+◌, ◌-◌, ◌^◌, ◌≤◌, ◌<◌, length, get_or, set}
+use Rattle.std.specs.Prelude.{◌≡◌, Some, None, List, ℕ, ◌+◌, ◌-◌, ◌^◌, ◌≤◌, ◌<◌, length, get_or, set}
 use Rattle.std.proofs.Common.{sym, arith}
 use Rattle.code.specs.Definitions.Sheets.{limits}
 use Rattle.pair_places.specs.declared.Pair.{Pair}
@@ -11,7 +11,6 @@ use Rattle.pair_storage.specs.Fields.{pair_room}
 use Rattle.pair_storage.specs.Entries.{entries_in, entry_of, node_entry, above_entry, length_entries_in}
 use Rattle.pair_storage.specs.Marks.{marks}
 use Rattle.pair_storage.specs.Stores.{Marked, mark_of, Stored}
-use Rattle.pair_heights.specs.declared.Progress.TheVariants.{Depth, Cycle}
 use Rattle.pair_heights.specs.Marks.{stacked, stacked_le}
 use Rattle.pair_heights.specs.Pairs.{leads}
 use Rattle.pair_heights.specs.Stack.{Next}
@@ -36,7 +35,7 @@ module _ {f xs sk : List ℕ} {d j n : ℕ} {p next : Pair} (s : Following f xs 
   target = rw s.node at (leads f p j s.pair.high a)
 
   -- The slot leads nowhere.
-  pub follow_nowhere : {xs' sk' : List ℕ} → n ≤ next.low → xs' ≡ set xs (pair_cell f p) (j + 2) → sk' ≡ sk → Advanced f xs xs' sk' (Depth d)
+  pub follow_nowhere : {xs' sk' : List ℕ} → n ≤ next.low → xs' ≡ set xs (pair_cell f p) (j + 2) → sk' ≡ sk → Advanced f xs xs' sk' (Some d)
   follow_nowhere h m k =
       let z : get_or xs (top sk d) 0 - 1 ≡ j = omega (arith, s.slot) in
       let y : j + 2 ≡ get_or xs (top sk d) 0 + 1 = omega (arith, s.slot) in
@@ -54,11 +53,11 @@ module _ {f xs sk : List ℕ} {d j n : ℕ} {p next : Pair} (s : Following f xs 
 
     module _ {m : ℕ} (mark : m ≡ mark_of f xs next) where
       -- That pair is finished.
-      pub follow_pass : {xs' sk' : List ℕ} → finished_from ≤ m → Passed xs sk d (m - finished_from + 1) xs' sk' → Advanced f xs xs' sk' (Depth d)
+      pub follow_pass : {xs' sk' : List ℕ} → finished_from ≤ m → Passed xs sk d (m - finished_from + 1) xs' sk' → Advanced f xs xs' sk' (Some d)
       follow_pass q t = moved (passed s.pair.laid s.searching.state s.searching.numbers.some edge (omega arith) (rw mark) t)
 
       -- It is on the stack.
-      pub follow_cycle : {xs' sk' : List ℕ} → (m ≡ 0 → ⊥) → m < finished_from → Advanced f xs xs' sk' Cycle
+      pub follow_cycle : {xs' sk' : List ℕ} → (m ≡ 0 → ⊥) → m < finished_from → Advanced f xs xs' sk' None
       follow_cycle q r = closed (cycle s.searching.state s.searching.numbers.some (pair_cell f next) edge.edge (omega arith, omega arith))
 
       -- It is not met before, and there is room for it on the stack.
@@ -75,7 +74,7 @@ module _ (f w : List ℕ) {d j m n : ℕ} {p next : Pair} (s : Following f (mark
   push_small =
       omega (arith, s.searching.state.stack.room, total_le (stacked (pair_graph f)) (marks f w) (stacked_le (pair_graph f)), s.pair.size, cells_most s.pair.laid)
 
-  pub follow_push : (w' : List ℕ) → Stored f w d 0 next 1 w' → Advanced f (marks f w) (marks f w') (entries_in f w') (Depth (d + 1))
+  pub follow_push : (w' : List ℕ) → Stored f w d 0 next 1 w' → Advanced f (marks f w) (marks f w') (entries_in f w') (Some (d + 1))
   follow_push w' t =
       let e = edge s a count h in
       let v : ℕ = pair_cell f next in

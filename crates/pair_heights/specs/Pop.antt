@@ -1,5 +1,5 @@
 -- A pair with no slot left is finished and popped, and the pair below passes the slot that led to it: what the function asks, and a lemma for each way through it.
-use Rattle.std.specs.Prelude.{◌≡◌, List, ℕ, ◌+◌, ◌-◌, ◌≤◌, ◌<◌, length, get_or, set}
+use Rattle.std.specs.Prelude.{◌≡◌, Some, List, ℕ, ◌+◌, ◌-◌, ◌≤◌, ◌<◌, length, get_or, set}
 use Rattle.std.proofs.Common.{arith, get_or-set_same}
 use Rattle.pair_places.specs.declared.Pair.{Pair}
 use Rattle.pair_places.specs.Flat.{cell_count, pair_graph}
@@ -8,7 +8,6 @@ use Rattle.pair_storage.specs.Fields.{above_room, mark_room}
 use Rattle.pair_storage.specs.Entries.{entries_in, above_at, links}
 use Rattle.pair_storage.specs.Marks.{marks}
 use Rattle.pair_storage.specs.Stores.{Marked, mark_of, MarkStored}
-use Rattle.pair_heights.specs.declared.Progress.TheVariants.{Depth}
 use Rattle.pair_heights.specs.State.{top}
 use Rattle.pair_heights.specs.Transitions.{Stepped, stepped_on, below_next}
 use Rattle.pair_heights.specs.Transitions as Transitions
@@ -43,7 +42,7 @@ module _ (f w : List ℕ) {d : ℕ} {p : Pair} (s : Popping f (marks f w) (entri
       popped = rw (finished, e.entries) (Transitions.pop s.searching.state s.searching.numbers.some s.nowhere)
 
       -- It was the last on the stack.
-      pub pop_last : Advanced f (marks f w) (marks f w₁) (entries_in f w₁) (Depth (d - 1))
+      pub pop_last : Advanced f (marks f w) (marks f w₁) (entries_in f w₁) (Some (d - 1))
       pop_last = moved popped
 
       -- The pair below passes the slot that led to it.
@@ -55,7 +54,7 @@ module _ (f w : List ℕ) {d : ℕ} {p : Pair} (s : Popping f (marks f w) (entri
           rw e.marks
           (get_or-set_same (marks f w) (pair_cell f p) (a + finished_from) 0 (omega (arith, s.node, s.searching.numbers.node, s.searching.numbers.size)))
 
-      pub pop_passed : {xs' sk' : List ℕ} → (d - 1 ≡ 0 → ⊥) → Passed (marks f w₁) (entries_in f w₁) (d - 1) (a + 1) xs' sk' → Advanced f (marks f w) xs' sk' (Depth (d - 1))
+      pub pop_passed : {xs' sk' : List ℕ} → (d - 1 ≡ 0 → ⊥) → Passed (marks f w₁) (entries_in f w₁) (d - 1) (a + 1) xs' sk' → Advanced f (marks f w) xs' sk' (Some (d - 1))
       pop_passed more r =
           let led = below_next s.searching.state s.searching.numbers.some (omega arith) (above_at (entries_in f w) (d - 1) + finished_from) in
           moved (stepped_on popped

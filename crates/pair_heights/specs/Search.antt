@@ -1,5 +1,5 @@
 -- A search over pairs that is under way: what its functions ask, and what a transition promises.
-use Rattle.std.specs.Prelude.{◌≡◌, List, ℕ, ◌+◌, ◌-◌, ◌≤◌, ◌<◌, length, get_or}
+use Rattle.std.specs.Prelude.{◌≡◌, Option, Some, None, List, ℕ, ◌+◌, ◌-◌, ◌≤◌, ◌<◌, length, get_or}
 use Rattle.std.proofs.Common.{sym, ◌∙◌, arith}
 use Rattle.code.specs.Definitions.Sheets.{limits}
 use Rattle.pair_places.specs.declared.Pair.{Pair}
@@ -11,8 +11,6 @@ use Rattle.graph.specs.Graph.{Endless}
 use Rattle.pair_storage.specs.Fields.{mark_room, Carries}
 use Rattle.pair_storage.specs.Entries.{entries_in, above_at, links, length_entries_in, above_entries_in}
 use Rattle.pair_storage.specs.Stores.{Marked, mark_of}
-use Rattle.pair_heights.specs.declared.Progress.{Progress}
-use Rattle.pair_heights.specs.declared.Progress.TheVariants.{Depth, Cycle}
 use Rattle.pair_heights.specs.Carrying.{CarriesNode, carries_node}
 use Rattle.pair_heights.specs.Marks.{finished, finished_le}
 use Rattle.pair_heights.specs.State.{State, top, has_entries, at_top}
@@ -91,6 +89,6 @@ pub searching : {f xs sk : List ℕ} {d : ℕ} → Laid f → State (pair_graph 
 searching l s some = record { state = s; numbers = top_numbers l s some }
 
 -- A transition of the state; or a cycle is closed, so that there are walks of every length.
-pub data Advanced (f xs xs' sk' : List ℕ) : Progress → Type 0 where
-  moved : {d : ℕ} → Stepped (pair_graph f) xs xs' sk' d → Advanced f xs xs' sk' (Depth d)
-  closed : Endless (pair_graph f) → Advanced f xs xs' sk' Cycle
+pub data Advanced (f xs xs' sk' : List ℕ) : Option ℕ → Type 0 where
+  moved : {d : ℕ} → Stepped (pair_graph f) xs xs' sk' d → Advanced f xs xs' sk' (Some d)
+  closed : Endless (pair_graph f) → Advanced f xs xs' sk' None

@@ -4,7 +4,7 @@
 
 #![tactic(auto)]
 
-ghost use Rattle.std.specs.Prelude.{◌≡◌, ◌-◌, ◌≤◌, ◌<◌, max};
+ghost use Rattle.std.specs.Prelude.{◌≡◌, ◌-◌, ◌≤◌, ◌<◌};
 ghost use Rattle.pair_storage.specs.Fields.{above_room, mark_room};
 ghost use Rattle.pair_storage.specs.Entries.{entries_in};
 ghost use Rattle.pair_storage.specs.Marks.{marks};
@@ -17,15 +17,8 @@ ghost use Rattle.pair_heights.specs.Pop.{Popping};
 use code::Code;
 use pair_places::Pair;
 
-// After one transition: how many entries the stack has, or that a cycle is closed.
-#[derive(Clone, Copy)]
-pub enum Progress {
-    Depth(usize),
-    Cycle,
-}
-
 // The mark of a pair is 0 before the search meets it, 1 more than its next slot while it is on the stack, and `FINISHED` more than its
-// height after that.
+// height after that. A number, since it stands in a field of the list that the caller lends: memory is fixed.
 #[derive(Clone, Copy)]
 struct Mark {}
 
@@ -41,13 +34,6 @@ pub fn height_at(places: &[u8], work: &[u64], pair: Pair) -> usize
     pair_storage::mark(places, work, pair) - Mark::FINISHED
 }
 
-// The greater of two heights.
-fn greater(a: usize, b: usize) -> usize
-    ensures { result ≡ max a b }
-{
-    if a < b { b } else { a }
-}
-
 // Passes the next slot of the pair on top, which leads to a finished pair. The height through that slot, one more than that pair's, is `through`.
 fn pass(places: &[u8], work: &mut [u64], depth: usize, through: usize)
     requires { Top places.now (marks places.now work.old) (entries_in places.now work.old) depth × (through < above_room) }
@@ -56,37 +42,36 @@ fn pass(places: &[u8], work: &mut [u64], depth: usize, through: usize)
 {
     let rest = depth - 1;
     let pair = pair_storage::pair_at(work, rest);
-    let height = greater(pair_storage::above_at(work, rest), through);
+    let height = pair_storage::above_at(work, rest).max(through);
     let mark = pair_storage::mark(places, work, pair) + 1;
     pair_storage::store(places, work, rest, height, pair, mark);
 }
 
-// Follows the next slot of the pair on top: it is passed, or leads to a pair that is pushed.
-fn follow(places: &[u8], work: &mut [u64], depth: usize, pair: Pair, slot: usize) -> Progress
+// Follows the next slot of the pair on top: it is passed, or leads to a pair that is pushed. How many entries the stack has then; None, if a cycle is closed.
+fn follow(places: &[u8], work: &mut [u64], depth: usize, pair: Pair, slot: usize) -> Option<usize>
     requires { Following places.now (marks places.now work.old) (entries_in places.now work.old) depth pair slot }
     ensures { Advanced places.now (marks places.now work.old) (marks places.now work.new) (entries_in places.now work.new) result }
 {
     let next = pair_places::successor(places, pair.low, pair.high, slot);
     if pair_places::place_count(places) <= next.low {
         pair_storage::set_mark(places, work, pair, slot + 2);
-        return Progress::Depth(depth);
+        return Some(depth);
     }
     let met = pair_storage::mark(places, work, next);
     if met == 0 {
         pair_storage::store(places, work, depth, 0, next, 1);
-        let deeper = depth + 1;
-        return Progress::Depth(deeper);
+        return Some(depth + 1);
     }
     if met < Mark::FINISHED {
-        return Progress::Cycle;
+        return None;
     }
     let through = met - Mark::FINISHED + 1;
     pass(places, work, depth, through);
-    Progress::Depth(depth)
+    Some(depth)
 }
 
-// Finishes the pair on top, which has no slot left, and pops it; the pair below passes the slot that led to it.
-fn pop(places: &[u8], work: &mut [u64], depth: usize, pair: Pair) -> Progress
+// Finishes the pair on top, which has no slot left, and pops it; the pair below passes the slot that led to it. How many entries the stack has then.
+fn pop(places: &[u8], work: &mut [u64], depth: usize, pair: Pair) -> Option<usize>
     requires { Popping places.now (marks places.now work.old) (entries_in places.now work.old) depth pair }
     ensures { Advanced places.now (marks places.now work.old) (marks places.now work.new) (entries_in places.now work.new) result }
 {
@@ -94,14 +79,15 @@ fn pop(places: &[u8], work: &mut [u64], depth: usize, pair: Pair) -> Progress
     let height = pair_storage::above_at(work, rest);
     pair_storage::set_mark(places, work, pair, height + Mark::FINISHED);
     if rest == 0 {
-        return Progress::Depth(rest);
+        return Some(rest);
     }
     pass(places, work, rest, height + 1);
-    Progress::Depth(rest)
+    Some(rest)
 }
 
-// One transition: the next slot of the pair on top is followed, or with no slot left the pair is popped.
-pub fn advance(places: &[u8], work: &mut [u64], depth: usize) -> Progress
+// One transition: the next slot of the pair on top is followed, or with no slot left the pair is popped. How many entries the stack has then; None, if a cycle is
+// closed.
+pub fn advance(places: &[u8], work: &mut [u64], depth: usize) -> Option<usize>
     requires { Searching places.now (marks places.now work.old) (entries_in places.now work.old) depth }
     ensures { Advanced places.now (marks places.now work.old) (marks places.now work.new) (entries_in places.now work.new) result }
 {

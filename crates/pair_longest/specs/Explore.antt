@@ -1,5 +1,5 @@
 -- The search from one root: what the functions promise, and a lemma for each way through them.
-use Rattle.std.specs.Prelude.{◌≡◌, refl, true, List, ℕ, ◌+◌, ◌-◌, ◌≤◌, ◌<◌, length, get_or}
+use Rattle.std.specs.Prelude.{◌≡◌, Option, Some, None, refl, true, List, ℕ, ◌+◌, ◌-◌, ◌≤◌, ◌<◌, length, get_or}
 use Rattle.std.proofs.Common.{arith, length-set, get_or-set_same}
 use Rattle.pair_places.specs.declared.Pair.{Pair}
 use Rattle.pair_places.specs.Flat.{cell_count, pair_graph}
@@ -7,9 +7,6 @@ use Rattle.pair_places.specs.Nodes.{cell_inside, cells_most}
 use Rattle.pair_places.specs.Steps.{pair_cell}
 use Rattle.code.specs.Laws.Cells.{total}
 use Rattle.graph.specs.Heights.{Height}
-use Rattle.pair_longest.specs.declared.Extent.TheVariants.{Finite, Unbounded}
-use Rattle.pair_heights.specs.declared.Progress.{Progress}
-use Rattle.pair_heights.specs.declared.Progress.TheVariants.{Depth, Cycle}
 use Rattle.pair_storage.specs.Fields.{pair_room}
 use Rattle.pair_storage.specs.Entries.{entries_in, entry_of, node_entry, above_entry, length_entries_in}
 use Rattle.pair_storage.specs.Marks.{marks}
@@ -63,12 +60,12 @@ running w w' {f} {p = p} r mark new s =
     }
 
 -- A transition that closes no cycle leads to another state of the search.
-was_moved : {f xs xs' sk' : List ℕ} {e : ℕ} {t : Progress} → Advanced f xs xs' sk' t → t ≡ Depth e → Stepped (pair_graph f) xs xs' sk' e
+was_moved : {f xs xs' sk' : List ℕ} {e : ℕ} {t : Option ℕ} → Advanced f xs xs' sk' t → t ≡ Some e → Stepped (pair_graph f) xs xs' sk' e
 was_moved {e = e} (moved {d = d} s) q = let z : d ≡ e = cc in rw z at s
 was_moved (closed x) q = let z : ◌≡◌ {A = ℕ} 0 1 = cc in absurd (omega arith)
 
-pub run_on : {f xs xs' sk sk' : List ℕ} {p : Pair} {d e : ℕ} {t : Progress}
-    → Running f xs sk p d → Advanced f xs xs' sk' t → t ≡ Depth e → Running f xs' sk' p e
+pub run_on : {f xs xs' sk sk' : List ℕ} {p : Pair} {d e : ℕ} {t : Option ℕ}
+    → Running f xs sk p d → Advanced f xs xs' sk' t → t ≡ Some e → Running f xs' sk' p e
 run_on {f} {p = p} r a q =
     let s = was_moved a q in
     record {
@@ -77,15 +74,15 @@ run_on {f} {p = p} r a q =
       met = s.met (pair_cell f p) r.met;
     }
 
-pub run_less : {f xs xs' sk' : List ℕ} {e : ℕ} {t : Progress} → Advanced f xs xs' sk' t → t ≡ Depth e
+pub run_less : {f xs xs' sk' : List ℕ} {e : ℕ} {t : Option ℕ} → Advanced f xs xs' sk' t → t ≡ Some e
     → total (left (pair_graph f)) xs' < total (left (pair_graph f)) xs
 run_less a q = (was_moved a q).less
 
-pub run_cycle : {f xs xs' sk' : List ℕ} {t : Progress} {P : ℕ → Type 0} → Advanced f xs xs' sk' t → t ≡ Cycle → Answer f P Unbounded
+pub run_cycle : {f xs xs' sk' : List ℕ} {t : Option ℕ} {P : ℕ → Type 0} → Advanced f xs xs' sk' t → t ≡ None → Answer f P None
 run_cycle (moved s) q = let z : ◌≡◌ {A = ℕ} 0 1 = cc in absurd (omega arith)
 run_cycle (closed x) q = unbounded x
 
-by_mark : {f xs : List ℕ} {v h : ℕ} → Idle (pair_graph f) xs → 1 ≤ get_or xs v 0 → h ≡ get_or xs v 0 - finished_from → Answer f (Explored f v xs) (Finite (h + 1))
+by_mark : {f xs : List ℕ} {v h : ℕ} → Idle (pair_graph f) xs → 1 ≤ get_or xs v 0 → h ≡ get_or xs v 0 - finished_from → Answer f (Explored f v xs) (Some (h + 1))
 by_mark {v = v} {h = h} i m e =
     let d = all_finished i v m in
     finite (record { idle = i; edges = h; more = refl; height = rw e (i.marks.height v d); low = omega (arith, i.marks.low v d) })
@@ -95,7 +92,7 @@ module _ {f xs : List ℕ} {p : Pair} where
   pub run_mark : {sk : List ℕ} {d : ℕ} → Running f xs sk p d → d ≤ 0 → finished_from ≤ mark_of f xs p
   run_mark {d = d} r l = let e : d ≡ 0 = omega arith in all_finished (ended (rw e at r.state)) (pair_cell f p) r.met
 
-  pub run_end : {sk : List ℕ} {d h : ℕ} → Running f xs sk p d → d ≤ 0 → h ≡ mark_of f xs p - finished_from → Answer f (Explored f (pair_cell f p) xs) (Finite (h + 1))
+  pub run_end : {sk : List ℕ} {d h : ℕ} → Running f xs sk p d → d ≤ 0 → h ≡ mark_of f xs p - finished_from → Answer f (Explored f (pair_cell f p) xs) (Some (h + 1))
   run_end {d = d} r l q = let e : d ≡ 0 = omega arith in by_mark (ended (rw e at r.state)) r.met q
 
   -- The root was met before: it is finished.
@@ -103,5 +100,5 @@ module _ {f xs : List ℕ} {p : Pair} where
     pub known_mark : finished_from ≤ mark_of f xs p
     known_mark = all_finished r.idle (pair_cell f p) (omega arith)
 
-    pub known : {h : ℕ} → h ≡ mark_of f xs p - finished_from → Answer f (Explored f (pair_cell f p) xs) (Finite (h + 1))
+    pub known : {h : ℕ} → h ≡ mark_of f xs p - finished_from → Answer f (Explored f (pair_cell f p) xs) (Some (h + 1))
     known q = by_mark r.idle (omega arith) q

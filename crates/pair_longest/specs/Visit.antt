@@ -1,6 +1,7 @@
 -- The searches from all first pairs, one after the other: what the functions promise, and a lemma for each way through them.
-use Rattle.std.specs.Prelude.{◌≡◌, List, ℕ, suc, ◌+◌, ◌≤◌, ◌<◌, length}
+use Rattle.std.specs.Prelude.{◌≡◌, Option, Some, List, ℕ, suc, ◌+◌, ◌≤◌, ◌<◌, max, length}
 use Rattle.std.proofs.Common.{sym, arith}
+use Rattle.std.proofs.Math.Decide.{dec_lt}
 use Rattle.code.specs.Definitions.Sheets.{limits}
 use Rattle.pair_places.specs.declared.Pair.{Pair}
 use Rattle.pair_places.specs.Flat.{Laid, word_count, place_count, cell_count, pair_count, first_node, pair_graph}
@@ -9,8 +10,6 @@ use Rattle.pair_places.specs.Roots.{Numbered, starts_root}
 use Rattle.pair_places.specs.Steps.{pair_cell, Arrives}
 use Rattle.graph.specs.Paths.{shorter, RootPath}
 use Rattle.pair_storage.specs.Stores.{Marked}
-use Rattle.pair_longest.specs.declared.Extent.{Extent}
-use Rattle.pair_longest.specs.declared.Extent.TheVariants.{Finite}
 use Rattle.pair_longest.specs.Answer.{Answer, finite, was_finite}
 use Rattle.pair_heights.specs.State.{Idle}
 use Rattle.pair_longest.specs.Bound.{pairs_few}
@@ -39,11 +38,11 @@ visiting sk c o k e l w = record { counting = c; order = o; known = omega arith;
 
 module _ {f xs sk : List ℕ} {x y b m : ℕ} {p : Pair} (s : Visiting f xs sk x y b) (a : Arrives f (first_node f x y) p) (count : m ≡ place_count f) where
   -- The walks from the first pair of x and y are no longer than those before.
-  same : {xs' : List ℕ} → Idle (pair_graph f) xs' → NoPath f b x y → Answer f (Counting f xs' x (y + 1)) (Finite b)
+  same : {xs' : List ℕ} → Idle (pair_graph f) xs' → NoPath f b x y → Answer f (Counting f xs' x (y + 1)) (Some b)
   same i n = let c = s.counting in finite (record { laid = c.laid; numbered = c.numbered; idle = i; most = most_same c.most n; low = c.low })
 
   -- The words have no first pair.
-  pub visit_nowhere : m ≤ p.low → Answer f (Counting f xs x (y + 1)) (Finite b)
+  pub visit_nowhere : m ≤ p.low → Answer f (Counting f xs x (y + 1)) (Some b)
   visit_nowhere l = same s.counting.idle (λ n. absurd (omega (arith, a.node, cell_outside f p.low p.high (omega arith))))
 
   module _ (l : p.low < m) where
@@ -64,13 +63,13 @@ module _ {f xs sk : List ℕ} {x y b m : ℕ} {p : Pair} (s : Visiting f xs sk x
     explored_none : {xs' : List ℕ} {n k : ℕ} → Explored f (pair_cell f p) xs' n → n ≤ k → NoPath f k x y
     explored_none t h i q = t.height.none (shorter (suc t.edges) (omega (arith, t.more)) (rw (← a.node) at q))
 
-    pub visit_lower : {xs' : List ℕ} {n : ℕ} {t : Extent} → Answer f (Explored f (pair_cell f p) xs') t → t ≡ Finite n → n ≤ b
-        → Answer f (Counting f xs' x (y + 1)) (Finite b)
+    pub visit_lower : {xs' : List ℕ} {n : ℕ} {t : Option ℕ} → Answer f (Explored f (pair_cell f p) xs') t → t ≡ Some n → n ≤ b
+        → Answer f (Counting f xs' x (y + 1)) (Some b)
     visit_lower t q h = let d = was_finite t q in same d.idle (explored_none d h)
 
     -- They are longer.
-    pub visit_higher : {xs' : List ℕ} {n : ℕ} {t : Extent} → Answer f (Explored f (pair_cell f p) xs') t → t ≡ Finite n → b < n
-        → Answer f (Counting f xs' x (y + 1)) (Finite n)
+    pub visit_higher : {xs' : List ℕ} {n : ℕ} {t : Option ℕ} → Answer f (Explored f (pair_cell f p) xs') t → t ≡ Some n → b < n
+        → Answer f (Counting f xs' x (y + 1)) (Some n)
     visit_higher {n = n} t q h =
         let c = s.counting in
         let d = was_finite t q in
@@ -85,9 +84,18 @@ module _ {f xs sk : List ℕ} {x y b m : ℕ} {p : Pair} (s : Visiting f xs sk x
           low = omega (arith, d.low, pairs_few c.laid c.numbered d.idle.marks);
         }
 
-pub counted : {f xs : List ℕ} {x y b : ℕ} {t : Extent} → Answer f (Counting f xs x y) t → t ≡ Finite b → Counting f xs x y b
+    -- The greater of both counts.
+    pub visit_more : {xs' : List ℕ} {n m : ℕ} {t : Option ℕ} → Answer f (Explored f (pair_cell f p) xs') t → t ≡ Some n → m ≡ max b n
+        → Answer f (Counting f xs' x (y + 1)) (Some m)
+    visit_more {xs'} {n} {m} t q e = go (dec_lt b n)
+      where
+        go : Dec (b < n) → Answer f (Counting f xs' x (y + 1)) (Some m)
+        go (yes h) = let z : m ≡ n = omega arith in rw z (visit_higher t q h)
+        go (no h) = let z : m ≡ b = omega arith in rw z (visit_lower t q (omega arith))
+
+pub counted : {f xs : List ℕ} {x y b : ℕ} {t : Option ℕ} → Answer f (Counting f xs x y) t → t ≡ Some b → Counting f xs x y b
 counted a q = was_finite a q
 
 -- The row of x is done.
-pub row_end : {f xs : List ℕ} {x y b n : ℕ} → Counting f xs x y b → n ≡ word_count f → n ≤ y → Answer f (Counting f xs (x + 1) (x + 1 + 1)) (Finite b)
+pub row_end : {f xs : List ℕ} {x y b n : ℕ} → Counting f xs x y b → n ≡ word_count f → n ≤ y → Answer f (Counting f xs (x + 1) (x + 1 + 1)) (Some b)
 row_end c e l = finite (record { laid = c.laid; numbered = c.numbered; idle = c.idle; most = most_row c.most (omega arith); low = c.low })

@@ -15,15 +15,8 @@ ghost use Rattle.pair_longest.specs.Answer.{Answer};
 ghost use Rattle.pair_longest.specs.Visit.{Counting, Visiting};
 ghost use Rattle.pair_longest.specs.Extents.{Given, ExtentOf};
 
-use pair_heights::{Progress, advance, height_at};
+use pair_heights::{advance, height_at};
 use pair_places::Pair;
-
-// How many symbols the longest walk reads, or that no walk is the longest.
-#[derive(Clone, Copy)]
-pub enum Extent {
-    Finite(usize),
-    Unbounded,
-}
 
 // Puts a root on the empty stack.
 fn start(places: &[u8], work: &mut [u64], root: Pair)
@@ -33,27 +26,21 @@ fn start(places: &[u8], work: &mut [u64], root: Pair)
     pair_storage::store(places, work, 0, 0, root, 1);
 }
 
-// Searches from a root, which alone is on the stack: how many symbols the longest walk from it reads.
-fn run(places: &[u8], work: &mut [u64], root: Pair) -> Extent
+// Searches from a root, which alone is on the stack: how many symbols the longest walk from it reads, if there is a longest.
+fn run(places: &[u8], work: &mut [u64], root: Pair) -> Option<usize>
     requires { Running places.now (marks places.now work.old) (entries_in places.now work.old) root 1 }
     ensures { Answer places.now (Explored places.now (pair_cell places.now root) (marks places.now work.new)) result }
 {
     let mut depth: usize = 1;
+    // A while: the stack grows and shrinks until it is empty.
     while 0 < depth {
-        match advance(places, work, depth) {
-            Progress::Depth(next) => {
-                depth = next;
-            }
-            Progress::Cycle => {
-                return Extent::Unbounded;
-            }
-        }
+        depth = advance(places, work, depth)?;
     }
-    Extent::Finite(height_at(places, work, root) + 1)
+    Some(height_at(places, work, root) + 1)
 }
 
 // How many symbols the longest walk from a root reads; a root that an earlier search met is finished.
-fn explore(places: &[u8], work: &mut [u64], first: Pair) -> Extent
+fn explore(places: &[u8], work: &mut [u64], first: Pair) -> Option<usize>
     requires { AtRoot places.now (marks places.now work.old) work.old first }
     ensures { Answer places.now (Explored places.now (pair_cell places.now first) (marks places.now work.new)) result }
 {
@@ -61,69 +48,42 @@ fn explore(places: &[u8], work: &mut [u64], first: Pair) -> Extent
         start(places, work, first);
         return run(places, work, first);
     }
-    Extent::Finite(height_at(places, work, first) + 1)
+    Some(height_at(places, work, first) + 1)
 }
 
 // Counts the first pair of words `x` and `y`, after those whose longest walk reads `most` symbols.
-fn visit(places: &[u8], work: &mut [u64], x: usize, y: usize, most: usize) -> Extent
+fn visit(places: &[u8], work: &mut [u64], x: usize, y: usize, most: usize) -> Option<usize>
     requires { Visiting places.now (marks places.now work.old) work.old x y most }
     ensures { Answer places.now (Counting places.now (marks places.now work.new) x (y + 1)) result }
 {
     let first = pair_rivals::rival_pair(places, x, y);
     if pair_places::place_count(places) <= first.low {
-        return Extent::Finite(most);
+        return Some(most);
     }
-    match explore(places, work, first) {
-        Extent::Finite(count) => {
-            if most < count {
-                return Extent::Finite(count);
-            }
-            Extent::Finite(most)
-        }
-        Extent::Unbounded => Extent::Unbounded,
-    }
+    let count = explore(places, work, first)?;
+    Some(most.max(count))
 }
 
 // Counts the first pairs of word `x` and each word after it.
-fn row(places: &[u8], work: &mut [u64], x: usize, before: usize) -> Extent
+fn row(places: &[u8], work: &mut [u64], x: usize, before: usize) -> Option<usize>
     requires { Counting places.now (marks places.now work.old) x (x + 1) before × (x < limits.words) × (cell_count places.now ≤ length work.old) }
     ensures { Answer places.now (Counting places.now (marks places.now work.new) (x + 1) (x + 1 + 1)) result }
 {
-    let words = pair_places::word_count(places);
     let mut most = before;
-    let mut y = x + 1;
-    while y < words {
-        match visit(places, work, x, y, most) {
-            Extent::Finite(count) => {
-                most = count;
-            }
-            Extent::Unbounded => {
-                return Extent::Unbounded;
-            }
-        }
-        y += 1;
+    for y in x + 1..pair_places::word_count(places) {
+        most = visit(places, work, x, y, most)?;
     }
-    Extent::Finite(most)
+    Some(most)
 }
 
-// How many symbols the longest walk over the pairs of a code reads, the first pairs being its roots.
-pub fn longest(places: &[u8], work: &mut [u64]) -> Extent
+// How many symbols the longest walk over the pairs of a code reads, the first pairs being its roots. None: there are walks of every length.
+pub fn longest(places: &[u8], work: &mut [u64]) -> Option<usize>
     requires { Given places.now (marks places.now work.old) work.old }
     ensures { ExtentOf places.now result }
 {
-    let words = pair_places::word_count(places);
-    let mut most: usize = 0;
-    let mut x: usize = 0;
-    while x < words {
-        match row(places, work, x, most) {
-            Extent::Finite(count) => {
-                most = count;
-            }
-            Extent::Unbounded => {
-                return Extent::Unbounded;
-            }
-        }
-        x += 1;
+    let mut most = 0;
+    for x in 0..pair_places::word_count(places) {
+        most = row(places, work, x, most)?;
     }
-    Extent::Finite(most)
+    Some(most)
 }

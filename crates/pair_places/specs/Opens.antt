@@ -14,7 +14,7 @@ use Rattle.code.specs.Definitions.Sheets.{limits}
 use Rattle.code.specs.Laws.Below.{or_cases}
 use Rattle.graph.specs.Graph.{Graph, Edge}
 use Rattle.pair_places.specs.Cells.{high_below}
-use Rattle.pair_places.specs.Flat.{symbol_at, owner_at, end_at, first_at, may_follow, begins_at, at_start, may_come, opens_at, word_count, place_count, cell_count, cell, lower, higher, Laid, is_first, onward, slots_of, arc_from}
+use Rattle.pair_places.specs.Flat.{symbol_at, owner_at, end_at, first_at, begins_at, at_start, may_come, opens_at, word_count, place_count, cell_count, cell, lower, higher, Laid, is_first, onward, slots_of, arc_from}
 use Rattle.pair_places.specs.Nodes.{NodeOf, Leads, node_of, of_node, node_below, parts, slots_few, lower_below, in_cell}
 use Rattle.pair_places.specs.Onward.{arc_within, arc_past}
 use Rattle.pair_places.specs.Roots.{Numbered}
@@ -65,13 +65,6 @@ module _ (f : List ℕ) where
     symbol = λ v. symbol_at f (higher f v);
     goal = λ v. apart_ends (lower f v) (higher f v);
   }
-
--- What `may_come` returns.
-pub come_start : (f : List ℕ) (x y : ℕ) {b : Bool} → b ≡ begins_at f x → y ≡ at_start → b ≡ may_come f x y
-come_start f x y e z = rw z e
-
-pub come_word : (f : List ℕ) (x y : ℕ) {b : Bool} → b ≡ may_follow f x y → (y ≡ at_start → ⊥) → b ≡ may_come f x y
-come_word f x y e z = rw (ne_eqb y at_start z) e
 
 module _ (f : List ℕ) (x z : ℕ) where
   -- Words in order are in order.

@@ -43,6 +43,3 @@ module _ (f : List ℕ) (p q : ℕ) where
 
   pub in_order_lem : p < place_count f → q < place_count f → symbol_at f p ≡ symbol_at f q → p ≤ q → Arrives f (pair_node f p q) (record { low = p; high = q })
   in_order_lem a b e l = record { node = let m : min p q ≡ p = omega arith in let n : max p q ≡ q = omega arith in sym (pair_node_lem a b e ∙ ap₂ (cell f) m n); low = omega arith; high = b; order = λ _. l }
-
-  pub turned : p < place_count f → q < place_count f → symbol_at f p ≡ symbol_at f q → q ≤ p → Arrives f (pair_node f p q) (record { low = q; high = p })
-  turned a b e l = record { node = let m : min p q ≡ q = omega arith in let n : max p q ≡ p = omega arith in sym (pair_node_lem a b e ∙ ap₂ (cell f) m n); low = omega arith; high = a; order = λ _. l }

@@ -12,17 +12,11 @@ use code::Code;
 use pair_places::{Layout, Pair, first_pair, may_come, no_pair, word_count};
 
 // Whether words `x` and `y` may both come behind `z`, which ends a permitted sequence or is the start.
-#[tactic(auto, using(crate::specs::Rivals::behind_none))]
 fn both_behind(places: &[u8], x: usize, y: usize, z: usize) -> bool
     requires { Laid places.now × (x < limits.words) × (y < limits.words) × (z ≤ limits.words) }
     ensures { result ≡ both_behind places.now x y z }
 {
-    if places[Layout::ENDINGS + z] == 1 {
-        if may_come(places, x, z) {
-            return may_come(places, y, z);
-        }
-    }
-    false
+    places[Layout::ENDINGS + z] == 1 && may_come(places, x, z) && may_come(places, y, z)
 }
 
 // Whether words `x` and `y` are rivals. The start is asked first: most words may begin.
@@ -30,14 +24,7 @@ pub fn are_rivals(places: &[u8], x: usize, y: usize) -> bool
     requires { Laid places.now × (x < limits.words) × (y < limits.words) }
     ensures { result ≡ rivals_at places.now x y }
 {
-    let mut z: usize = Code::WORDS + 1;
-    while 0 < z {
-        z -= 1;
-        if both_behind(places, x, y, z) {
-            return true;
-        }
-    }
-    false
+    both_behind(places, x, y, Code::WORDS) || (0..Code::WORDS).any(|z| both_behind(places, x, y, z))
 }
 
 // The first pair of words `x` and `y`, if they are rivals with the same first symbol.
@@ -56,14 +43,7 @@ fn has_rival(places: &[u8], x: usize) -> bool
     requires { Laid places.now × (x < limits.words) }
     ensures { result ≡ rival_before places.now x }
 {
-    let mut y: usize = 0;
-    while y < x {
-        if are_rivals(places, x, y) {
-            return true;
-        }
-        y += 1;
-    }
-    false
+    (0..x).any(|y| are_rivals(places, x, y))
 }
 
 // Whether two different words are rivals, whatever their symbols.
@@ -71,13 +51,5 @@ pub fn some_rivals(places: &[u8]) -> bool
     requires { Laid places.now }
     ensures { result ≡ some_rivals places.now }
 {
-    let n = word_count(places);
-    let mut x: usize = 0;
-    while x < n {
-        if has_rival(places, x) {
-            return true;
-        }
-        x += 1;
-    }
-    false
+    (0..word_count(places)).any(|x| has_rival(places, x))
 }

@@ -1,28 +1,25 @@
 -- What the functions of the search promise: the answer, and how a search stands after each group and after all.
-use Rattle.std.specs.Prelude.{◌≡◌, List, ◌++◌, ℕ, ◌<◌, length, get_or, drop}
+use Rattle.std.specs.Prelude.{◌≡◌, Option, Some, None, List, ◌++◌, ℕ, ◌<◌, length, get_or, drop}
+use Rattle.std.proofs.Common.{ControlFlow, Continue, Break}
 use Rattle.graph.specs.Goals.{GoalBy, NoGoal, LeastGoal}
 use Rattle.graph.specs.Graph.{Graph}
 use Rattle.pair_places.specs.Flat.{cell_count}
 use Rattle.pair_places.specs.Opens.{open_graph}
 use Rattle.pair_storage.specs.Entries.{node_at, above_at}
+use Rattle.pair_slots.specs.declared.Step.{Step}
 use Rattle.pair_groups.specs.Ensured.{GoalNext}
 use Rattle.pair_groups.specs.Queue.{Between}
-use Rattle.pair_shortest.specs.declared.Expansion.{Expansion}
-use Rattle.pair_shortest.specs.declared.Expansion.TheVariants.{Goal as Ended, Next}
-use Rattle.pair_shortest.specs.declared.Exploration.{Exploration}
-use Rattle.pair_shortest.specs.declared.Exploration.TheVariants.{Goal as Reached, Exhausted}
-use Rattle.pair_shortest.specs.declared.Search.{Search}
-use Rattle.pair_shortest.specs.declared.Search.TheVariants.{Found, Nothing}
+use Rattle.pair_shortest.specs.declared.Rest.{Rest}
 
 -- After the group that begins at a.
-pub data Expanded (f ms q : List ℕ) (a : ℕ) : Expansion → Type 0 where
-  ended : {x : ℕ} → GoalNext f q a x → Expanded f ms q a (Ended x)
-  moved : {b e : ℕ} → a < b → Between (open_graph f) ms q e b → Expanded f ms q a (Next b e)
+pub data Expanded (f ms q : List ℕ) (a : ℕ) : ControlFlow ℕ Rest → Type 0 where
+  ended : {x : ℕ} → GoalNext f q a x → Expanded f ms q a (Break x)
+  moved : {r : Rest} → a < r.start → Between (open_graph f) ms q r.tail r.start → Expanded f ms q a (Continue r)
 
 -- After all groups.
-pub data Explored (f q : List ℕ) : Exploration → Type 0 where
-  reached : {a x : ℕ} → GoalNext f q a x → Explored f q (Reached a x)
-  exhausted : NoGoal (open_graph f) → Explored f q Exhausted
+pub data Explored (f q : List ℕ) : Option Step → Type 0 where
+  reached : {s : Step} → GoalNext f q s.start s.symbol → Explored f q (Some s)
+  exhausted : NoGoal (open_graph f) → Explored f q None
 
 -- The source stands at the front of the queue.
 pub record Seeded (f q : List ℕ) : Type 0 where
@@ -47,6 +44,6 @@ pub record Message (f o p : List ℕ) (n : ℕ) : Type 0 where
   pub list : p ≡ symbols ++ drop n o
 
 -- The answer, and what becomes of the message list o.
-pub data Answers (f o p : List ℕ) : Search → Type 0 where
-  found : {n : ℕ} → Message f o p n → Answers f o p (Found n)
-  nothing : p ≡ o → NoGoal (open_graph f) → Answers f o p Nothing
+pub data Answers (f o p : List ℕ) : Option ℕ → Type 0 where
+  found : {n : ℕ} → Message f o p n → Answers f o p (Some n)
+  nothing : p ≡ o → NoGoal (open_graph f) → Answers f o p None

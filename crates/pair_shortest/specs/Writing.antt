@@ -1,5 +1,5 @@
 -- From the goal that was met to the message in its buffer, and the whole search from its start to its answer.
-use Rattle.std.specs.Prelude.{◌≡◌, refl, true, false, ℕ, suc, ◌+◌, ◌-◌, ◌≤◌, ◌<◌, length, get_or, drop, set, replicate}
+use Rattle.std.specs.Prelude.{◌≡◌, refl, Option, Some, None, is_some, Bool, true, false, ℕ, suc, ◌+◌, ◌-◌, ◌≤◌, ◌<◌, length, get_or, drop, set, replicate}
 use Rattle.std.proofs.Common.{sym, ap, ◌∙◌, add-one, arith, length-set, drop-cons, drop-set-lt, get_or-set_same}
 use mathlib.Core.List.{List, ◌∷◌, ◌++◌, append_assoc, reverse, reverse-cons}
 use Rattle.std.proofs.lemmas.List.{length-reverse, length-replicate}
@@ -17,14 +17,12 @@ use Rattle.pair_storage.specs.Fields.{pair_room, above_in, Carries}
 use Rattle.pair_storage.specs.Marks.{marks}
 use Rattle.pair_storage.specs.Stores.{with_link, EntryStored, entry_stored}
 use Rattle.pair_slots.specs.Leaves.{places_symbol}
+use Rattle.pair_slots.specs.declared.Step.{Step}
 use Rattle.pair_groups.specs.Carrying.{known_pair, known_high}
 use Rattle.pair_groups.specs.Ensured.{Known, GoalNext}
 use Rattle.pair_groups.specs.Pairs.{pair_bounded}
 use Rattle.pair_groups.specs.Queue.{Between}
 use Rattle.pair_groups.specs.Turns.{begun}
-use Rattle.pair_shortest.specs.declared.Exploration.{Exploration}
-use Rattle.pair_shortest.specs.declared.Exploration.TheVariants.{Goal as Reached, Exhausted}
-use Rattle.pair_shortest.specs.declared.Search.TheVariants.{Nothing}
 use Rattle.code.specs.Laws.Exactly.{Exactly, exactly_true, exactly_false}
 use Rattle.pair_shortest.specs.Ensured.{Explored, reached, exhausted, Seeded, Clear, Message, Answers, nothing, SomeGoal}
 use Rattle.pair_shortest.specs.Depth.{Depth, HasDepth, label_depth, depth_held, depth_unique}
@@ -110,22 +108,26 @@ started laid n c s e = rw e (begun (pair_bounded laid n) c.long c.clear s.node s
 
 -- What the exploration says.
 module _ {f q : List ℕ} where
-  pub was_reached : {a x : ℕ} {r : Exploration} → Explored f q r → r ≡ Reached a x → GoalNext f q a x
-  was_reached {a} {x} (reached {a = b} {x = y} m) e = let z : b ≡ a = cc in let w : y ≡ x = cc in rw (z, w) at m
+  pub was_reached : {s : Step} {r : Option Step} → Explored f q r → r ≡ Some s → GoalNext f q s.start s.symbol
+  was_reached {s} (reached {s = h} m) e = let z : h ≡ s = cc in rw z at m
   was_reached (exhausted h) e = let z : ◌≡◌ {A = ℕ} 0 1 = cc in absurd (omega arith)
 
-  was_exhausted : {r : Exploration} → Explored f q r → r ≡ Exhausted → NoGoal (open_graph f)
+  was_exhausted : {r : Option Step} → Explored f q r → r ≡ None → NoGoal (open_graph f)
   was_exhausted (reached m) e = let z : ◌≡◌ {A = ℕ} 0 1 = cc in absurd (omega arith)
   was_exhausted (exhausted h) e = h
 
-  pub answer_nothing : {o : List ℕ} {r : Exploration} → Explored f q r → r ≡ Exhausted → Answers f o o Nothing
+  pub answer_nothing : {o : List ℕ} {r : Option Step} → Explored f q r → r ≡ None → Answers f o o None
   answer_nothing h e = nothing refl (was_exhausted h e)
 
   -- A walk leads to a goal exactly where one was met.
-  pub goal_reached : {a x : ℕ} {r : Exploration} → Explored f q r → r ≡ Reached a x → Exactly true (SomeGoal (open_graph f))
-  goal_reached {x = x} h e =
+  pub goal_reached : {s : Step} {r : Option Step} → Explored f q r → r ≡ Some s → Exactly true (SomeGoal (open_graph f))
+  goal_reached {s} h e =
       let m = was_reached h e in
-      exactly_true (record { symbols = reverse (x ∷ m.labelled.message); goal = (m.least m.labelled.message m.labelled.label).goal })
+      exactly_true (record { symbols = reverse (s.symbol ∷ m.labelled.message); goal = (m.least m.labelled.message m.labelled.label).goal })
 
-  pub goal_exhausted : {r : Exploration} → Explored f q r → r ≡ Exhausted → Exactly false (SomeGoal (open_graph f))
+  pub goal_exhausted : {r : Option Step} → Explored f q r → r ≡ None → Exactly false (SomeGoal (open_graph f))
   goal_exhausted h e = exactly_false (λ s. was_exhausted h e s.symbols s.goal)
+
+  pub goal_met : {r : Option Step} {b : Bool} → Explored f q r → b ≡ is_some r → Exactly b (SomeGoal (open_graph f))
+  goal_met {r = Some s} h e = rw e (goal_reached h refl)
+  goal_met {r = None} h e = rw e (goal_exhausted h refl)

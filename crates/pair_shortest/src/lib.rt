@@ -22,70 +22,59 @@ ghost use Rattle.pair_shortest.specs.Ensured.{Expanded, Explored, Seeded, Clear,
 
 use message::write;
 use pair_groups::{Group, expand_group, group_end};
-use pair_slots::Progress;
+use pair_slots::Step;
+use std::ops::ControlFlow;
 
-// The length of the message, or that there is none.
+// The rest of the queue, whose groups were not dealt with: entries `start` to `tail` - 1.
 #[derive(Clone, Copy)]
-pub enum Search {
-    Found(usize),
-    Nothing,
+struct Rest {
+    start: usize,
+    tail: usize,
 }
 
-// After a group: a goal comes next by a symbol; or where the next group starts, and how many entries the queue has.
-#[derive(Clone, Copy)]
-enum Expansion {
-    Goal(usize),
-    Next(usize, usize),
-}
-
-// After the whole search: a goal comes next after the group that starts at an entry, by a symbol; or there is none.
-#[derive(Clone, Copy)]
-enum Exploration {
-    Goal(usize, usize),
-    Exhausted,
-}
-
-// Deals with the group that starts at an entry.
-fn advance(places: &[u8], work: &mut [u64], start: usize, tail: usize) -> Expansion
+// Deals with the group that starts the rest of the queue. Break: a goal comes next by a symbol. Continue: the rest of the queue.
+fn advance(places: &[u8], work: &mut [u64], rest: Rest) -> ControlFlow<usize, Rest>
     requires { Laid places.now
         × Numbered places.now
         × (pair_count places.now + 2 ≤ length work.old)
-        × (start < tail)
-        × (tail ≤ pair_count places.now + 1)
-        × Between (open_graph places.now) (marks places.now work.old) (entries_in places.now work.old) tail start }
-    ensures { Expanded places.now (marks places.now work.new) (entries_in places.now work.new) start result }
+        × (rest.start < rest.tail)
+        × (rest.tail ≤ pair_count places.now + 1)
+        × Between (open_graph places.now) (marks places.now work.old) (entries_in places.now work.old) rest.tail rest.start }
+    ensures { Expanded places.now (marks places.now work.new) (entries_in places.now work.new) rest.start result }
 {
-    let end = group_end(places, work, start, tail);
     let group = Group {
-        start: start,
-        end: end,
+        start: rest.start,
+        end: group_end(places, work, rest.start, rest.tail),
     };
-    match expand_group(places, work, group, tail) {
-        Progress::Goal(x) => Expansion::Goal(x),
-        Progress::Tail(e) => Expansion::Next(end, e),
-    }
+    let tail = expand_group(places, work, group, rest.tail)?;
+    ControlFlow::Continue(Rest {
+        start: group.end,
+        tail,
+    })
 }
 
-// Deals with group after group.
-fn explore(places: &[u8], work: &mut [u64]) -> Exploration
+// Deals with group after group. The step to the first goal that comes next, if there is one.
+fn explore(places: &[u8], work: &mut [u64]) -> Option<Step>
     requires { Laid places.now
         × Numbered places.now
         × (pair_count places.now + 2 ≤ length work.old)
         × Between (open_graph places.now) (marks places.now work.old) (entries_in places.now work.old) 1 0 }
     ensures { Explored places.now (entries_in places.now work.new) result }
 {
-    let mut start: usize = 0;
-    let mut tail: usize = 1;
-    while start < tail {
-        match advance(places, work, start, tail) {
-            Expansion::Goal(x) => return Exploration::Goal(start, x),
-            Expansion::Next(b, e) => {
-                start = b;
-                tail = e;
+    let mut rest = Rest { start: 0, tail: 1 };
+    // A while: each group says where the next one starts, and the queue grows.
+    while rest.start < rest.tail {
+        match advance(places, work, rest) {
+            ControlFlow::Break(symbol) => {
+                return Some(Step {
+                    start: rest.start,
+                    symbol,
+                });
             }
+            ControlFlow::Continue(next) => rest = next,
         }
     }
-    Exploration::Exhausted
+    None
 }
 
 // Puts the source at the front of the queue. No mark changes.
@@ -97,9 +86,9 @@ fn seed(places: &[u8], work: &mut [u64])
     pair_storage::set_entry(work, 0, 0, pair_places::no_pair(places));
 }
 
-// The length of the shortest message of a walk from a first pair to a pair of two ends, the earliest in symbol order among equals; the
+// The length of the shortest message of a walk from a first pair to a pair of two ends, the earliest in symbol order among equals, if there is one; the
 // message stands at the front of its buffer. No pair may be marked in the working list. What it holds at the end is of no use to the caller.
-pub fn shortest(places: &[u8], work: &mut [u64], message: &mut [u8]) -> Search
+pub fn shortest(places: &[u8], work: &mut [u64], message: &mut [u8]) -> Option<usize>
     requires { Laid places.now
         × Numbered places.now
         × Clear places.now (marks places.now work.old)
@@ -108,10 +97,8 @@ pub fn shortest(places: &[u8], work: &mut [u64], message: &mut [u8]) -> Search
     ensures { Answers places.now message.old message.new result }
 {
     seed(places, work);
-    match explore(places, work) {
-        Exploration::Goal(a, x) => Search::Found(write(places, work, message, a, x)),
-        Exploration::Exhausted => Search::Nothing,
-    }
+    let step = explore(places, work)?;
+    Some(write(places, work, message, step))
 }
 
 // Whether a walk leads from a first pair to a pair of two ends at all. No pair may be marked in the working list.
@@ -123,8 +110,5 @@ pub fn reaches_ends(places: &[u8], work: &mut [u64]) -> bool
     ensures { Exactly result (SomeGoal (open_graph places.now)) }
 {
     seed(places, work);
-    match explore(places, work) {
-        Exploration::Goal(_, _) => true,
-        Exploration::Exhausted => false,
-    }
+    explore(places, work).is_some()
 }

@@ -9,15 +9,17 @@ ghost use Rattle.pair_shortest.specs.Ensured.{Message};
 ghost use Rattle.pair_shortest.specs.Spelling.{Spelled, Stored};
 ghost use Rattle.pair_shortest.specs.Depth.{HasDepth, Depth};
 
+use pair_slots::Step;
 use pair_storage::{above_at, pair_at};
 
-// How many steps along `from` lead from an entry to the source.
+// How many steps, each to where the group of the predecessor begins, lead from an entry to the source.
 fn depth(work: &[u64], start: usize) -> usize
     requires { HasDepth (links work.now) start × (start < length work.now) }
     ensures { Depth (links work.now) start result × (result ≤ start) }
 {
     let mut index = start;
     let mut count: usize = 0;
+    // A while: it follows the entries back to the source.
     while 0 < index {
         index = above_at(work, index) - 1;
         count += 1;
@@ -37,25 +39,24 @@ fn fill(places: &[u8], work: &[u64], message: &mut [u8], start: usize, count: us
 {
     let mut index = start;
     let mut at = count;
+    // A while: it follows the entries back to the source.
     while 0 < index {
-        let pair = pair_at(work, index);
-        let high = pair.high;
         at -= 1;
-        message[at] = places[high];
+        message[at] = places[pair_at(work, index).high];
         index = above_at(work, index) - 1;
     }
 }
 
-// Writes the label of a group and one symbol more.
-pub fn write(places: &[u8], work: &[u64], message: &mut [u8], start: usize, symbol: usize) -> usize
+// Writes the label of a group and the symbol of the step from there.
+pub fn write(places: &[u8], work: &[u64], message: &mut [u8], step: Step) -> usize
     requires { Laid places.now
-        × GoalNext places.now (entries_in places.now work.now) start symbol
+        × GoalNext places.now (entries_in places.now work.now) step.start step.symbol
         × (pair_count places.now + 2 ≤ length work.now)
         × (pair_count places.now ≤ length message.old) }
     ensures { Message places.now message.old message.new result }
 {
-    let count = depth(work, start);
-    message[count] = symbol as u8;
-    fill(places, work, message, start, count);
+    let count = depth(work, step.start);
+    message[count] = step.symbol as u8;
+    fill(places, work, message, step.start, count);
     count + 1
 }

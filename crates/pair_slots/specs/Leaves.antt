@@ -30,42 +30,45 @@ module _ {f : List ℕ} (q : List ℕ) (laid : Laid f) (i : ℕ) {p : Pair} (n :
 module _ {f : List ℕ} (laid : Laid f) where
   -- What `turning` returns. The number n of places is read from the list.
   module _ (low high : ℕ) {n : ℕ} (e : n ≡ place_count f) where
-    pub turns_source : n ≤ low → at_start ≡ turning f (cell f low high)
-    turns_source l = sym (turning_source f (cell f low high) (cell_outside f low high (omega arith)))
+    pub turns_source : n ≤ low → Turned f (cell f low high) at_start
+    turns_source l = record { behind = sym (turning_source f (cell f low high) (cell_outside f low high (omega arith))); turns = omega arith }
 
     module _ (l : low < n) (h : high < place_count f) where
       cell_known : cell f low high < cell_count f
       cell_known = cell_inside f low high h (omega arith)
 
       pub turns_end : {b o : Bool} {r : ℕ} → low ≡ high → b ≡ end_at f low → b ≡ true → o ≡ opens_at f → o ≡ true → r ≡ owner_at f low
-          → r ≡ turning f (cell f low high)
+          → Turned f (cell f low high) r
       turns_end z a c u v d =
           let x = lower-cell f low high h in
-          d ∙ sym (turning_end f (cell f low high) cell_known (x ∙ z ∙ sym (higher-cell f low high h)) (ap (end_at f) x ∙ sym a ∙ c) (sym u ∙ v) ∙ ap (owner_at f) x)
+          record {
+            behind = d ∙ sym (turning_end f (cell f low high) cell_known (x ∙ z ∙ sym (higher-cell f low high h)) (ap (end_at f) x ∙ sym a ∙ c) (sym u ∙ v) ∙ ap (owner_at f) x);
+            turns = let o = laid.owners low (omega arith) in omega arith;
+          }
 
-      pub turns_closed : {o : Bool} → o ≡ opens_at f → o ≡ false → straight_on ≡ turning f (cell f low high)
-      turns_closed u v = sym (turning_closed f (cell f low high) cell_known (sym u ∙ v))
+      pub turns_closed : {o : Bool} → o ≡ opens_at f → o ≡ false → turning f (cell f low high) ≡ straight_on
+      turns_closed u v = turning_closed f (cell f low high) cell_known (sym u ∙ v)
 
-      pub turns_inside : {b : Bool} → b ≡ end_at f low → b ≡ false → straight_on ≡ turning f (cell f low high)
-      turns_inside a c = sym (turning_inside f (cell f low high) cell_known (ap (end_at f) (lower-cell f low high h) ∙ sym a ∙ c))
+      pub turns_inside : {b : Bool} → b ≡ end_at f low → b ≡ false → turning f (cell f low high) ≡ straight_on
+      turns_inside a c = turning_inside f (cell f low high) cell_known (ap (end_at f) (lower-cell f low high h) ∙ sym a ∙ c)
 
-      pub turns_apart : (low ≡ high → ⊥) → straight_on ≡ turning f (cell f low high)
-      turns_apart d = sym (turning_apart f (cell f low high) cell_known (λ z. d (sym (lower-cell f low high h) ∙ z ∙ higher-cell f low high h)))
+      pub turns_apart : (low ≡ high → ⊥) → turning f (cell f low high) ≡ straight_on
+      turns_apart d = turning_apart f (cell f low high) cell_known (λ z. d (sym (lower-cell f low high h) ∙ z ∙ higher-cell f low high h))
 
   -- A number that does not turn is a pair.
-  pub low_known : (low high : ℕ) {y : ℕ} → y ≡ turning f (cell f low high) → straight_on ≤ y → low < place_count f
-  low_known low high e l = go (dec_lt low (place_count f))
+  pub low_known : (low high : ℕ) → turning f (cell f low high) ≡ straight_on → low < place_count f
+  low_known low high e = go (dec_lt low (place_count f))
     where
       go : Dec (low < place_count f) → low < place_count f
       go (yes h) = h
       go (no h) = absurd (omega (arith, turning_source f (cell f low high) (cell_outside f low high (omega arith))))
 
-  pub goes_straight : (pair : Pair) {y : ℕ} → y ≡ turning f (cell f pair.low pair.high) → y ≤ straight_on → straight_on ≤ y → pair.high < place_count f → Straight f pair
-  goes_straight pair e l m h = record { low = low_known pair.low pair.high e m; high = h; straight = omega arith }
+  pub goes_straight : (pair : Pair) → turning f (cell f pair.low pair.high) ≡ straight_on → pair.high < place_count f → Straight f pair
+  goes_straight pair e h = record { low = low_known pair.low pair.high e; high = h; straight = e }
 
   -- A number that turns, by its places.
-  pub goes_behind : (pair : Pair) {v y : ℕ} → PairOf f v pair → y ≡ turning f (cell f pair.low pair.high) → y < straight_on → Turned f v y
-  goes_behind pair u e l = record { behind = e ∙ ap (turning f) u.node; turns = l }
+  pub goes_behind : (pair : Pair) {v y : ℕ} → PairOf f v pair → Turned f (cell f pair.low pair.high) y → Turned f v y
+  goes_behind pair u t = record { behind = t.behind ∙ ap (turning f) u.node; turns = t.turns }
 
   -- What `inner` returns, by whether the lower place is an end.
   pub inner_end : (p q : ℕ) {b : Bool} → b ≡ end_at f p → b ≡ true → q ≡ inner_of f p q

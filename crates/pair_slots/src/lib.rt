@@ -7,23 +7,16 @@ pub mod meeting;
 
 ghost use Rattle.std.specs.Prelude.{◌≡◌, ◌≤◌, ◌<◌, length, get_or};
 ghost use Rattle.pair_places.specs.Flat.{Laid, place_count, cell_count};
-ghost use Rattle.pair_places.specs.Opens.{straight_on, turning, open_graph};
+ghost use Rattle.pair_places.specs.Opens.{open_graph};
 ghost use Rattle.pair_places.specs.Steps.{pair_cell};
 ghost use Rattle.pair_storage.specs.Entries.{node_at, entries_in};
 ghost use Rattle.pair_storage.specs.Marks.{marks};
-ghost use Rattle.pair_slots.specs.Ensured.{key_of, Straight, Seen};
+ghost use Rattle.pair_slots.specs.Ensured.{key_of, Straight, TurnedBy, Seen};
 ghost use Rattle.pair_slots.specs.Widths.{inner_of, width};
 
 use code::Code;
 use pair_places::Pair;
-
-#[derive(Clone, Copy)]
-pub struct Turns {}
-
-impl Turns {
-    // A pair that does not turn.
-    pub const NOT: usize = Code::WORDS + 1;
-}
+use std::ops::ControlFlow;
 
 // Where a slot leads: to nothing new, to a pair that was not met before, or to a pair of two ends.
 #[derive(Clone, Copy)]
@@ -33,31 +26,34 @@ pub enum Arrival {
     Goal,
 }
 
-// After a part of a group: a goal comes next by a symbol; or how many entries the queue has.
+// How a message goes on: from the group that begins at an entry, by a symbol.
 #[derive(Clone, Copy)]
-pub enum Progress {
-    Goal(usize),
-    Tail(usize),
+pub struct Step {
+    pub start: usize,
+    pub symbol: usize,
 }
 
-// Behind what a pair goes on with any two words: the start, `Code::WORDS`, for the source, a word for its end with itself, if openings matter. `Turns::NOT` for
-// other pairs.
-pub fn turning(places: &[u8], pair: Pair) -> usize
+// After a part of a group. Break: a goal comes next, by this symbol. Continue: how many entries the queue has.
+pub type Progress = ControlFlow<usize, usize>;
+
+// Behind what a pair goes on with any two words: the start, `Code::WORDS`, for the source, a word for its end with itself, if openings matter. None: it does not
+// turn.
+pub fn turning(places: &[u8], pair: Pair) -> Option<usize>
     requires { Laid places.now × (pair.high < place_count places.now) }
-    ensures { (result ≡ turning places.now (pair_cell places.now pair)) × (result ≤ straight_on) }
+    ensures { TurnedBy places.now (pair_cell places.now pair) result }
 {
     let low = pair.low;
     if pair_places::place_count(places) <= low {
-        return Code::WORDS;
+        return Some(Code::WORDS);
     }
     if low == pair.high {
         if pair_places::is_end(places, low) {
             if pair_places::opens(places) {
-                return pair_places::owner(places, low);
+                return Some(pair_places::owner(places, low));
             }
         }
     }
-    Turns::NOT
+    None
 }
 
 // A place inside its word, if the pair is not two ends.

@@ -11,33 +11,27 @@ ghost use Rattle.pair_storage.specs.Marks.{marks};
 ghost use Rattle.pair_slots.specs.Ensured.{Space, Arrived};
 ghost use Rattle.pair_slots.specs.Words.{leads_behind, least_behind};
 
-use crate::{Arrival, Progress, look};
+use crate::{Arrival, Progress, Step, look};
 use pair_places::Pair;
 use pair_storage::store;
+use std::ops::ControlFlow;
 
-// Meets a pair, from the group that begins at `start`: if it was not met before it is marked and queued.
-pub fn meet(
-    places: &[u8],
-    work: &mut [u64],
-    start: usize,
-    symbol: usize,
-    pair: Pair,
-    tail: usize,
-) -> Progress
+// Meets a pair where a step leads: if it was not met before it is marked and queued.
+pub fn meet(places: &[u8], work: &mut [u64], step: Step, pair: Pair, tail: usize) -> Progress
     requires { Laid places.now
-        × Space places.now (marks places.now work.old) work.old tail start
+        × Space places.now (marks places.now work.old) work.old tail step.start
         × (pair.low ≤ place_count places.now)
         × (pair.high < place_count places.now) }
     ensures { Arrived places.now (marks places.now work.old) (entries_in places.now work.old)
         (marks places.now work.new) (entries_in places.now work.new)
-        start symbol tail (pair_cell places.now pair) result }
+        step.start step.symbol tail (pair_cell places.now pair) result }
 {
-    match look(places, work, pair, symbol) {
-        Arrival::Passed => Progress::Tail(tail),
-        Arrival::Goal => Progress::Goal(symbol),
+    match look(places, work, pair, step.symbol) {
+        Arrival::Passed => ControlFlow::Continue(tail),
+        Arrival::Goal => ControlFlow::Break(step.symbol),
         Arrival::Fresh => {
-            store(places, work, tail, start + 1, pair, 1);
-            Progress::Tail(tail + 1)
+            store(places, work, tail, step.start + 1, pair, 1);
+            ControlFlow::Continue(tail + 1)
         }
     }
 }
@@ -46,30 +40,28 @@ pub fn meet(
 pub fn meet_words(
     places: &[u8],
     work: &mut [u64],
-    start: usize,
-    symbol: usize,
+    step: Step,
     y: usize,
     x: usize,
     z: usize,
     tail: usize,
 ) -> Progress
-    requires { Laid places.now × Space places.now (marks places.now work.old) work.old tail start × (y ≤ limits.words) × (may_come places.now x y ≡ true)
+    requires { Laid places.now × Space places.now (marks places.now work.old) work.old tail step.start × (y ≤ limits.words) × (may_come places.now x y ≡ true)
         × (in_order places.now x z ≡ true) × (z < word_count places.now) }
     ensures { Arrived places.now (marks places.now work.old) (entries_in places.now work.old)
         (marks places.now work.new) (entries_in places.now work.new)
-        start symbol tail (pair_behind places.now y (x * limits.words + z)) result }
+        step.start step.symbol tail (pair_behind places.now y (x * limits.words + z)) result }
 {
     if pair_places::may_come(places, z, y) {
         return meet(
             places,
             work,
-            start,
-            symbol,
+            step,
             pair_places::first_pair(places, x, z),
             tail,
         );
     }
-    Progress::Tail(tail)
+    ControlFlow::Continue(tail)
 }
 
 // Whether word `x` begins with the symbol and may come behind `y`.

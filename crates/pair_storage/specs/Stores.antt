@@ -1,13 +1,13 @@
 -- What is stored for a pair: its mark, and an entry with its two places. Both stand in one list; storing one keeps the other.
 use Rattle.std.specs.Prelude.{◌≡◌, List, ℕ, ◌≤◌, ◌<◌, length, get_or, set}
-use Rattle.std.proofs.Common.{sym, ap, ◌∙◌, arith, get_or-set_other}
+use Rattle.std.proofs.Common.{sym, ap, ◌∙◌, get_or-set_other}
 use Rattle.pair_places.specs.declared.Pair.{Pair}
 use Rattle.pair_places.specs.Flat.{Laid, place_count, cell_count}
 use Rattle.pair_places.specs.Nodes.{cell_inside}
 use Rattle.pair_places.specs.Steps.{pair_cell}
 use Rattle.pair_storage.specs.Entries.{entry_of, entries_in, entries_in_set, entries_in_same}
 use Rattle.pair_storage.specs.Fields.{mark_room, link_of, both_of, link_in, mark_in, mark_both, link_both, mark_fits}
-use Rattle.pair_storage.specs.Marks.{marks, marks_within, mark_at_lem, marks_set, marks_same}
+use Rattle.pair_storage.specs.Marks.{marks, mark_at_lem, marks_set, marks_same}
 
 -- The two places of p have a mark.
 pub record Marked (f ms : List ℕ) (p : Pair) : Type 0 where
@@ -20,11 +20,7 @@ abbrev pub mark_of : List ℕ → List ℕ → Pair → ℕ
 mark_of f ms p = get_or ms (pair_cell f p) 0
 
 module _ {f : List ℕ} (w : List ℕ) (p : Pair) (h : Marked f (marks f w) p) where
-  -- The cell of such a pair stands in the list,
-  pub cell_within : {v : ℕ} → v < cell_count f → v < length w
-  cell_within l = omega (arith, marks_within f w h.size)
-
-  -- and has its mark.
+  -- The cell of such a pair has its mark.
   pub mark_read : {v m : ℕ} → v ≡ pair_cell f p → m ≡ mark_in (get_or w v 0) → m ≡ mark_of f (marks f w) p
   mark_read a b = b ∙ ap (λ (i : ℕ). mark_in (get_or w i 0)) a ∙ sym (mark_at_lem f w (pair_cell f p) (cell_inside f p.low p.high h.high h.low))
 
@@ -39,9 +35,6 @@ with_link w i above p = set w i (both_of (mark_in (get_or w i 0)) (link_of above
 module _ (w : List ℕ) (i : ℕ) {k e : ℕ} where
   pub mark_written : (n v : ℕ) → i ≡ v → e ≡ both_of n k → k ≡ link_in (get_or w i 0) → set w i e ≡ with_mark w v n
   mark_written n v a b c = rw (b, c, a)
-
-  pub link_written : {m : ℕ} (above : ℕ) (p : Pair) → e ≡ both_of m k → m ≡ mark_in (get_or w i 0) → k ≡ link_of above p.low p.high → set w i e ≡ with_link w i above p
-  link_written above p a b c = rw (a, b, c)
 
 -- The mark of p is m. No other mark changes, and no entry.
 pub record MarkStored (f w : List ℕ) (p : Pair) (m : ℕ) (w' : List ℕ) : Type 0 where

@@ -59,15 +59,12 @@ fn cell_count(places: &[u8]) -> usize
 }
 
 // How long the list of a search over the pairs is.
+#[tactic(auto, unfolding(crate::specs::Rooms::room_of))]
 pub fn room(places: &[u8]) -> usize
     requires { Laid places.now }
     ensures { result ≡ room_of places.now }
 {
-    let cells = cell_count(places);
-    if cells < Queue::LEAST {
-        return Queue::LEAST;
-    }
-    cells
+    cell_count(places).max(Queue::LEAST)
 }
 
 // Lays marks over the first numbers of the list; there is no link beside them.
@@ -75,11 +72,7 @@ pub fn lay(marks: &[u64], work: &mut [u64])
     requires { length marks.now ≤ length work.old }
     ensures { work.new ≡ written marks.now work.old }
 {
-    let mut i: usize = 0;
-    while i < marks.len() {
-        work[i] = marks[i];
-        i += 1;
-    }
+    work[..marks.len()].copy_from_slice(marks);
 }
 
 // The mark of a stored number.
@@ -90,6 +83,7 @@ fn mark_in(both: u64) -> usize
 }
 
 // The link of a stored number.
+#[tactic(auto, unfolding(crate::specs::Fields::link_in))]
 fn link_in(both: u64) -> u64
     ensures { (result ≡ link_in both) × (result < link_room) }
 {
@@ -116,6 +110,7 @@ fn pair_in(both: u64) -> Pair
 }
 
 // The other number of a link.
+#[tactic(auto, unfolding(crate::specs::Fields::above_in))]
 fn above_in(link: u64) -> usize
     requires { link < link_room }
     ensures { (result ≡ above_in link) × (result < above_room) }
@@ -132,6 +127,7 @@ fn link(above: usize, pair: Pair) -> u64
 }
 
 // The mark of a pair.
+#[tactic(auto, using(crate::specs::Marks::marks_within, crate::specs::Stores::mark_read))]
 pub fn mark(places: &[u8], work: &[u64], pair: Pair) -> usize
     requires { Marked places.now (marks places.now work.now) pair }
     ensures { (result ≡ mark_of places.now (marks places.now work.now) pair) × (result < mark_room) }
@@ -140,6 +136,7 @@ pub fn mark(places: &[u8], work: &[u64], pair: Pair) -> usize
 }
 
 // Sets the mark of a pair, and keeps the link beside it.
+#[tactic(auto, using(crate::specs::Marks::marks_within))]
 pub fn set_mark(places: &[u8], work: &mut [u64], pair: Pair, mark: usize)
     requires { Marked places.now (marks places.now work.old) pair × (mark < mark_room) }
     ensures { MarkStored places.now work.old pair mark work.new }

@@ -3,5 +3,4 @@ pub mod Decimals
 pub mod Starts
 pub mod Numbers
 pub mod Lengths
-pub mod Rooms
 pub mod Results

@@ -1,10 +1,9 @@
 -- The printed result as bytes, for every verdict and every refusal.
-use Rattle.std.specs.Prelude.{List, [], ◌∷◌, ◌++◌, map, ℕ, zero, suc, ◌/◌, ltb, if◌then◌else◌}
+use Rattle.std.specs.Prelude.{List, [], ◌∷◌, ◌++◌, map, ℕ, zero, suc, ◌/◌, ltb, if◌then◌else◌, Err, Ok, Result}
 use Rattle.io.specs.Digits.{last_digits}
 use Rattle.code.specs.declared.Verdict.TheVariants.{Ambiguous as Two-ways, Finite, Unbounded}
-use Rattle.code.specs.declared.Judgement.{Judgement}
 use Rattle.code.specs.declared.Refusal.{Refusal}
-use Rattle.code.specs.declared.Judgement.TheVariants.{Judged, Refused as Not-judged}
+use Rattle.code.specs.declared.Verdict.{Verdict}
 use Rattle.code.specs.Definitions.Lists.{join}
 use Rattle.code.specs.Definitions.Answers.{refusal_number}
 use Rattle.csv_records.specs.Digits.{digit_of}
@@ -48,8 +47,8 @@ refused_record r = record_of (refused ∷ decimal (refusal_number r) ∷ [])
 
 -- 01: "Second: the message in digits, the delay or `unbounded`, or the refusal number. After `ambiguous` come two records, each a reading's word numbers
 -- in decimal, parted by commas." Here m is the message and s, u its readings.
-abbrev pub printed : Judgement → (m s u : List ℕ) → List ℕ
-printed (Judged (Two-ways a b c)) m s u = record_of (ambiguous ∷ map digit_of m ∷ []) ++ record_of (map decimal s) ++ record_of (map decimal u)
-printed (Judged (Finite d)) m s u = record_of (decipherable ∷ decimal d.0 ∷ [])
-printed (Judged Unbounded) m s u = record_of (decipherable ∷ unbounded ∷ [])
-printed (Not-judged r) m s u = refused_record r
+abbrev pub printed : Result Verdict Refusal → (m s u : List ℕ) → List ℕ
+printed (Ok (Two-ways a b c)) m s u = record_of (ambiguous ∷ map digit_of m ∷ []) ++ record_of (map decimal s) ++ record_of (map decimal u)
+printed (Ok (Finite d)) m s u = record_of (decipherable ∷ decimal d.0 ∷ [])
+printed (Ok Unbounded) m s u = record_of (decipherable ∷ unbounded ∷ [])
+printed (Err r) m s u = refused_record r

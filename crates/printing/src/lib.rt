@@ -4,21 +4,20 @@
 
 pub mod puts;
 
-ghost use Rattle.std.specs.Prelude.{◌≡◌, [], ◌∷◌, ◌++◌, map, ◌+◌, ◌≤◌, length};
+ghost use Rattle.std.specs.Prelude.{◌≡◌, [], ◌∷◌, ◌++◌, map, ◌+◌, ◌≤◌, length, Ok};
 ghost use Rattle.code.specs.declared.Verdict.TheVariants.{Ambiguous};
-ghost use Rattle.code.specs.declared.Judgement.TheVariants.{Judged};
 ghost use Rattle.csv_records.specs.Digits.{digit_of};
 ghost use Rattle.code.specs.Laws.Exactly.{Exactly};
 ghost use Rattle.printing.specs.Printed.{decimal, record_of, ambiguous, refused_record};
 ghost use Rattle.writing.specs.Puts.{Puts, Starts};
 ghost use Rattle.printing.specs.Prints.{lengths_of, needed, Symbols, Printable, result_of, Prints};
 
-use code::{Judgement, Refusal, SymbolCount, Verdict, Word, WordCount};
+use code::{Refusal, SymbolCount, Verdict, Word, WordCount};
 use puts::{put_decimal, put_digits, put_reading};
 use writing::put;
 
 // How much of the verdict's three buffers a judgement shows: symbols of the message, words of the first reading and of the second.
-#[derive(Clone, Copy)]
+#[derive(Clone, Copy, Default)]
 pub struct Lengths {
     pub message: usize,
     pub first: usize,
@@ -35,45 +34,23 @@ impl Lengths {
     fn fit(self, size: usize) -> bool
         ensures { Exactly result (needed self ≤ size) }
     {
-        if size < Lengths::FRAME {
-            return false;
-        }
-        let rest = size - Lengths::FRAME;
-        if rest < self.message {
-            return false;
-        }
-        let numbers = (rest - self.message) / Lengths::NUMBER;
-        if numbers < self.first {
-            return false;
-        }
-        self.second <= numbers - self.first
+        // In 128 bits no sum of three sizes wraps.
+        let numbers = (self.first as u128 + self.second as u128) * Lengths::NUMBER as u128;
+        Lengths::FRAME as u128 + self.message as u128 + numbers <= size as u128
     }
 }
 
-fn shown(judgement: Judgement) -> Lengths
+fn shown(judgement: Result<Verdict, Refusal>) -> Lengths
     ensures { result ≡ lengths_of judgement }
 {
-    match judgement {
-        Judgement::Judged(verdict) => match verdict {
-            Verdict::Ambiguous(message, first, second) => Lengths {
-                message: message.0,
-                first: first.0,
-                second: second.0,
-            },
-            Verdict::Finite(_) => no_lengths(),
-            Verdict::Unbounded => no_lengths(),
-        },
-        Judgement::Refused(_) => no_lengths(),
-    }
-}
-
-fn no_lengths() -> Lengths
-    ensures { result ≡ record { message = 0; first = 0; second = 0 } }
-{
-    Lengths {
-        message: 0,
-        first: 0,
-        second: 0,
+    if let Ok(Verdict::Ambiguous(message, first, second)) = judgement {
+        Lengths {
+            message: message.0,
+            first: first.0,
+            second: second.0,
+        }
+    } else {
+        Lengths::default()
     }
 }
 
@@ -81,36 +58,25 @@ fn no_lengths() -> Lengths
 fn all_symbols(message: &[u8]) -> bool
     ensures { Exactly result (Symbols message.now) }
 {
-    let mut i: usize = 0;
-    while i < message.len() {
-        if Word::ALPHABET <= message[i] {
-            return false;
-        }
-        i += 1;
-    }
-    true
+    message.iter().all(|symbol| *symbol < Word::ALPHABET)
 }
 
 // Whether the result can be printed.
-fn printable(judgement: Judgement, message: &[u8], first: &[u8], second: &[u8], size: usize) -> bool
+fn printable(
+    judgement: Result<Verdict, Refusal>,
+    message: &[u8],
+    first: &[u8],
+    second: &[u8],
+    size: usize,
+) -> bool
     ensures { Exactly result (Printable judgement message.now first.now second.now size) }
 {
     let lengths = shown(judgement);
-    let n = lengths.message;
-    if message.len() < n {
-        return false;
-    }
-    if first.len() < lengths.first {
-        return false;
-    }
-    if second.len() < lengths.second {
-        return false;
-    }
-    if all_symbols(&message[..n]) {
-        lengths.fit(size)
-    } else {
-        false
-    }
+    lengths.message <= message.len()
+        && lengths.first <= first.len()
+        && lengths.second <= second.len()
+        && all_symbols(&message[..lengths.message])
+        && lengths.fit(size)
 }
 
 // A record of a word, which ends with its comma, and a number.
@@ -151,8 +117,8 @@ fn put_ambiguous(
     second: &[u8],
     out: &mut [u8],
 ) -> usize
-    requires { Printable (Judged (Ambiguous symbols earlier later)) message.now first.now second.now (length out.old) }
-    ensures { Starts (result_of (Judged (Ambiguous symbols earlier later)) message.now first.now second.now) out.old out.new result }
+    requires { Printable (Ok (Ambiguous symbols earlier later)) message.now first.now second.now (length out.old) }
+    ensures { Starts (result_of (Ok (Ambiguous symbols earlier later)) message.now first.now second.now) out.old out.new result }
 {
     let m = symbols.0;
     let f = earlier.0;
@@ -169,8 +135,8 @@ fn put_verdict(
     second: &[u8],
     out: &mut [u8],
 ) -> usize
-    requires { Printable (Judged verdict) message.now first.now second.now (length out.old) }
-    ensures { Starts (result_of (Judged verdict) message.now first.now second.now) out.old out.new result }
+    requires { Printable (Ok verdict) message.now first.now second.now (length out.old) }
+    ensures { Starts (result_of (Ok verdict) message.now first.now second.now) out.old out.new result }
 {
     match verdict {
         Verdict::Ambiguous(symbols, earlier, later) => put_ambiguous(
@@ -182,7 +148,7 @@ fn put_verdict(
 }
 
 fn put_result(
-    judgement: Judgement,
+    judgement: Result<Verdict, Refusal>,
     message: &[u8],
     first: &[u8],
     second: &[u8],
@@ -192,15 +158,15 @@ fn put_result(
     ensures { Starts (result_of judgement message.now first.now second.now) out.old out.new result }
 {
     match judgement {
-        Judgement::Judged(verdict) => put_verdict(verdict, message, first, second, out),
-        Judgement::Refused(refusal) => put_refused(refusal, out),
+        Ok(verdict) => put_verdict(verdict, message, first, second, out),
+        Err(refusal) => put_refused(refusal, out),
     }
 }
 
 // Prints a judgement at the start of `out`, with the message and the two readings at the start of the verdict's buffers, and gives the number of
 // bytes. Where a buffer is shorter than what the judgement shows of it, or an entry is no symbol, or `out` has no room, it prints nothing and gives 0.
 pub fn print_result(
-    judgement: Judgement,
+    judgement: Result<Verdict, Refusal>,
     message: &[u8],
     first: &[u8],
     second: &[u8],

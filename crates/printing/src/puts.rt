@@ -10,7 +10,7 @@ ghost use Rattle.printing.specs.Prints.{Symbols};
 
 use writing::{put, put_field};
 
-// The digit of a symbol, as in a sheet.
+// The digit of a symbol, as in a sheet: `char::from_digit` would write small letters.
 fn digit(symbol: u8) -> u8
     requires { symbol < 16 }
     ensures { result ≡ digit_of symbol }
@@ -27,12 +27,10 @@ pub fn put_digits(out: &mut [u8], at: usize, message: &[u8]) -> usize
     requires { (at + length message.now ≤ length out.old) × Symbols message.now }
     ensures { Puts at (map digit_of message.now) out.old out.new result }
 {
-    let mut i: usize = 0;
-    while i < message.len() {
+    for i in 0..message.len() {
         out[at + i] = digit(message[i]);
-        i += 1;
     }
-    at + i
+    at + message.len()
 }
 
 // A number in decimal.
@@ -51,7 +49,7 @@ fn put_number(out: &mut [u8], at: usize, sep: &[u8], i: usize, number: u8) -> us
     ensures { Puts at (following sep.now i (decimal number)) out.old out.new result }
 {
     let mut digits = [0u8; 20];
-    let n = io::decimal(number as u64, &mut digits);
+    let n = io::decimal(u64::from(number), &mut digits);
     put_field(out, at, sep, i, &digits[..n])
 }
 
@@ -61,10 +59,8 @@ pub fn put_numbers(out: &mut [u8], at: usize, sep: &[u8], numbers: &[u8]) -> usi
     ensures { Puts at (join sep.now (map decimal numbers.now)) out.old out.new result }
 {
     let mut next = at;
-    let mut i: usize = 0;
-    while i < numbers.len() {
+    for i in 0..numbers.len() {
         next = put_number(out, next, sep, i, numbers[i]);
-        i += 1;
     }
     next
 }

@@ -8,6 +8,7 @@ const EINVAL: i32 = 22;
 
 const ENAMETOOLONG: i32 = 36;
 
+// No `From`, since both types are std's.
 pub fn argument_error(e: FillError) -> Error {
     match e {
         FillError::NotPresent => Error::from_raw_os_error(EINVAL),

@@ -9,11 +9,12 @@ pub mod refusals;
 ghost use Rattle.program.specs.Arguments.{Named};
 ghost use Rattle.streams.specs.Inputs.{Holds};
 
-use failures::{argument_error, tell_failure};
+use failures::{argument_error, say, tell_failure};
 use std::env::FillError;
+use std::io;
 use std::io::Print;
 use std::rt::Env;
-use streams::{Input, read_file, read_input};
+use streams::{read_file, read_input};
 
 const HELP: [u8; 6] = *b"--help";
 
@@ -33,14 +34,8 @@ pub fn argument_count(rt: &HostRuntime) -> usize {
 
 // Whether the first of so many arguments asks for help; the program's own name is one of them.
 fn asks_help(rt: &HostRuntime, arguments: usize) -> bool {
-    if arguments < 2 {
-        return false;
-    }
     let mut word = [0u8; HELP.len()];
-    match rt.arg(1, &mut word) {
-        Ok(n) => word[..n] == HELP[..],
-        Err(_) => false,
-    }
+    1 < arguments && rt.arg(1, &mut word).is_ok_and(|n| word[..n] == HELP[..])
 }
 
 // Whether a program that takes so many arguments at the most goes on. Help that is asked for is written on standard output, and `what` tells that it could not
@@ -58,7 +53,7 @@ pub fn goes_on(
         return false;
     }
     if most < arguments {
-        failures::say(rt.stderr(), usage);
+        say(rt.stderr(), usage);
         return false;
     }
     true
@@ -72,41 +67,31 @@ pub fn read_named(
     arguments: usize,
     what: &[u8],
     bytes: &mut [u8],
-) -> Input
+) -> io::Result<usize>
     ensures { Named i arguments bytes.new result }
 {
     if arguments <= i {
-        return Input::Bytes(0);
+        return Ok(0);
     }
     let mut path = [0u8; PATH];
     let errors = rt.stderr();
-    match rt.arg(i, &mut path) {
-        Err(e) => {
-            let error = argument_error(e);
-            tell_failure(errors, what, error);
-            Input::Failed(error)
-        }
-        Ok(n) => {
-            let read = read_file(rt, &path[..n], bytes);
-            if let Input::Failed(error) = read {
-                failures::say(errors, what);
-                failures::say(errors, b": ");
-                tell_failure(errors, &path[..n], error);
-            }
-            read
-        }
-    }
+    let n = rt
+        .arg(i, &mut path)
+        .map_err(argument_error)
+        .inspect_err(|error| tell_failure(errors, what, *error))?;
+    let path = &path[..n];
+    read_file(rt, path, bytes).inspect_err(|error| {
+        say(errors, what);
+        say(errors, b": ");
+        tell_failure(errors, path, *error);
+    })
 }
 
 // The bytes of standard input.
-pub fn read_standard(rt: &HostRuntime, what: &[u8], bytes: &mut [u8]) -> Input
+pub fn read_standard(rt: &HostRuntime, what: &[u8], bytes: &mut [u8]) -> io::Result<usize>
     ensures { Holds bytes.new result }
 {
-    let read = read_input(&mut rt.stdin(), bytes);
-    if let Input::Failed(error) = read {
-        tell_failure(rt.stderr(), what, error);
-    }
-    read
+    read_input(&mut rt.stdin(), bytes).inspect_err(|error| tell_failure(rt.stderr(), what, *error))
 }
 
 // Writes bytes on standard output.

@@ -1,6 +1,5 @@
 -- Encoding and splitting: where an encoded message has one reading, its letters get the breaks exactly between the words that were encoded.
-use Rattle.std.specs.Prelude.{◌≡◌, true, List, ℕ, ◌≤◌, length, take}
-use Rattle.code.specs.declared.Encoding.TheVariants.{Encoded}
+use Rattle.std.specs.Prelude.{◌≡◌, true, List, ℕ, ◌≤◌, length, take, Ok}
 use Rattle.code.specs.declared.Enlarged.{Enlarged}
 use Rattle.code.specs.declared.Limits.{Limits}
 use Rattle.code.specs.declared.SymbolCount.{SymbolCount}
@@ -12,7 +11,7 @@ use Rattle.code.specs.Definitions.Texts.{is_letter, symbols_in}
 use Rattle.text_theory.specs.Messages.{Between, reading_splits}
 use Rattle.promises.specs.RoundTrip.{encoded_reads}
 
-pub encoded_splits : {l : Limits} {e : Enlarged} (classes : List ℕ) {s b b' r : List ℕ} {n : SymbolCount} (w : List ℕ) → Encodes l e s b b' (Encoded n) → 1 ≤ length w
+pub encoded_splits : {l : Limits} {e : Enlarged} (classes : List ℕ) {s b b' r : List ℕ} {n : SymbolCount} (w : List ℕ) → Encodes l e s b b' (Ok n) → 1 ≤ length w
     → every (is_letter classes) w ≡ true → symbols_in classes w ≡ take n.0 b' → OnlyReading (original_table e) (take n.0 b') r
     → Between (original_table e) classes w s
 encoded_splits {e = e} classes {s} {r = r} w x h l m o =

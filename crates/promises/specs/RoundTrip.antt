@@ -1,6 +1,6 @@
 -- Encoding and reading undo each other, as their definitions say. What is encoded is permitted and stands in the buffer as its message, so it is a
 -- reading of that message; and what reading finds is permitted and has the message that was read, so encoding takes it and gives that message back.
-use Rattle.std.specs.Prelude.{◌≡◌, ◌⊎◌, ℕ, ◌<◌, length, take}
+use Rattle.std.specs.Prelude.{◌≡◌, ◌⊎◌, ℕ, ◌<◌, length, take, Err, Ok}
 use Rattle.std.proofs.Common.{sym, ap, inl, inr, arith}
 use mathlib.Core.List.{List, [], ◌∷◌, List-discrete}
 use Rattle.std.proofs.Math.Decide.{ℕ_discrete}
@@ -10,8 +10,7 @@ use Rattle.code.specs.declared.SymbolCount.{SymbolCount}
 use Rattle.code.specs.declared.WordCount.{WordCount}
 use Rattle.code.specs.declared.Refusal.{Refusal}
 use Rattle.code.specs.declared.Refusal.TheVariants.{ShortBuffer, NoReading as Unreadable}
-use Rattle.code.specs.declared.Encoding.TheVariants.{Encoded, Refused as Not-encoded}
-use Rattle.code.specs.declared.Reading.TheVariants.{One, Two, Refused}
+use Rattle.code.specs.declared.Readings.TheVariants.{One, Two}
 use Rattle.code.specs.Definitions.Tables.{message}
 use Rattle.code.specs.Definitions.Enlarged.{original_table}
 use Rattle.code.specs.Definitions.Orders.{Lex}
@@ -41,30 +40,30 @@ lowest_listed (c ∷ cs) r (inr p) n = lowest_listed cs r p.1 n.1
 module _ {l : Limits} {e : Enlarged} where
   module _ {m f g w f' g' w' : List ℕ} where
     -- Reading that finds one reading leaves the only one in the first buffer.
-    pub one_only : {k : WordCount} → ReadsMessage l e m f g w f' g' w' (One k) → OnlyReading (original_table e) m (take k.0 f')
+    pub one_only : {k : WordCount} → ReadsMessage l e m f g w f' g' w' (Ok (One k)) → OnlyReading (original_table e) m (take k.0 f')
     one_only {k} (one {s = s} h o c p q z) = rw (take-written k.0 s f f' c p) o
 
     -- Reading that finds two leaves the first two in the two buffers.
-    pub two_first : {j k : WordCount} → ReadsMessage l e m f g w f' g' w' (Two j k) → FirstTwo (original_table e) m (take j.0 f') (take k.0 g')
+    pub two_first : {j k : WordCount} → ReadsMessage l e m f g w f' g' w' (Ok (Two j k)) → FirstTwo (original_table e) m (take j.0 f') (take k.0 g')
     two_first {j} {k} (two {s = s} {u = u} h t d c p q z) = rw (take-written j.0 s f f' d p, take-written k.0 u g g' c q) t
 
   -- Encoding, then reading
 
   -- What is encoded is a reading of the message in the buffer.
-  pub encoded_reads : {s b b' : List ℕ} {n : SymbolCount} → Encodes l e s b b' (Encoded n) → Reads (original_table e) (take n.0 b') s
+  pub encoded_reads : {s b b' : List ℕ} {n : SymbolCount} → Encodes l e s b b' (Ok n) → Reads (original_table e) (take n.0 b') s
   encoded_reads {s} {b} {b'} {n} (encoded h c w) =
       record {
         permitted = permitted s h.1.0 h.1.1.0;
         joined = sym (take-written n.0 (message (original_table e) s) b b' c w);
       }
 
-  module _ {s b b' f g w f' g' w' : List ℕ} {n : SymbolCount} (encodes : Encodes l e s b b' (Encoded n)) where
+  module _ {s b b' f g w f' g' w' : List ℕ} {n : SymbolCount} (encodes : Encodes l e s b b' (Ok n)) where
     -- Where reading the encoded message finds one reading, it is the sequence that was encoded.
-    pub encoded_one : {k : WordCount} → ReadsMessage l e (take n.0 b') f g w f' g' w' (One k) → s ≡ take k.0 f'
+    pub encoded_one : {k : WordCount} → ReadsMessage l e (take n.0 b') f g w f' g' w' (Ok (One k)) → s ≡ take k.0 f'
     encoded_one r = (one_only r).only s (encoded_reads encodes)
 
     -- Where it finds two, the sequence is the first, or the second, or comes after both in word order.
-    pub encoded_two : {j k : WordCount} → ReadsMessage l e (take n.0 b') f g w f' g' w' (Two j k)
+    pub encoded_two : {j k : WordCount} → ReadsMessage l e (take n.0 b') f g w f' g' w' (Ok (Two j k))
         → (s ≡ take j.0 f') ⊎ ((s ≡ take k.0 g') ⊎ (Lex (take j.0 f') s × Lex (take k.0 g') s))
     encoded_two {j} {k} r = by_which (List-discrete ℕ_discrete s (take j.0 f')) (List-discrete ℕ_discrete s (take k.0 g'))
       where
@@ -77,7 +76,7 @@ module _ {l : Limits} {e : Enlarged} where
             inr (inr (lex_transitive (two_first r).order after, after))
 
     -- Reading never answers that the encoded message has no reading.
-    pub encoded_readable : ReadsMessage l e (take n.0 b') f g w f' g' w' (Refused Unreadable) → ⊥
+    pub encoded_readable : ReadsMessage l e (take n.0 b') f g w f' g' w' (Err Unreadable) → ⊥
     encoded_readable (refused h p q z) = lowest_listed (reading_conditions l e (take n.0 b') f g w) Unreadable h (omega arith)
     encoded_readable (unreadable h x p q z) = x s (encoded_reads encodes)
 
@@ -97,12 +96,12 @@ pub record Found (l : Limits) (e : Enlarged) (m s : List ℕ) : Type 0 where
 module _ {l : Limits} {e : Enlarged} where
   module _ {m f g w f' g' w' : List ℕ} where
     -- A single reading is found so.
-    pub one_found : {k : WordCount} → ReadsMessage l e m f g w f' g' w' (One k) → Found l e m (take k.0 f')
+    pub one_found : {k : WordCount} → ReadsMessage l e m f g w f' g' w' (Ok (One k)) → Found l e m (take k.0 f')
     one_found {k} (one {s = s} h o c p q z) =
         record { from_lists = h.0; within = h.1.0; reads = rw (take-written k.0 s f f' c p) o.reads }
 
     -- So are the first and the second of two.
-    pub two_found : {j k : WordCount} → ReadsMessage l e m f g w f' g' w' (Two j k) → Found l e m (take j.0 f') × Found l e m (take k.0 g')
+    pub two_found : {j k : WordCount} → ReadsMessage l e m f g w f' g' w' (Ok (Two j k)) → Found l e m (take j.0 f') × Found l e m (take k.0 g')
     two_found {j} {k} (two {s = s} {u = u} h t d c p q z) = (
       record { from_lists = h.0; within = h.1.0; reads = rw (take-written j.0 s f f' d p) t.first },
       record { from_lists = h.0; within = h.1.0; reads = rw (take-written k.0 u g g' c q) t.second },
@@ -110,11 +109,11 @@ module _ {l : Limits} {e : Enlarged} where
 
   module _ {m s : List ℕ} (found : Found l e m s) where
     -- Encoding what reading found gives the message back.
-    pub found_restored : {b b' : List ℕ} {n : SymbolCount} → Encodes l e s b b' (Encoded n) → Restored m b b' n
+    pub found_restored : {b b' : List ℕ} {n : SymbolCount} → Encodes l e s b b' (Ok n) → Restored m b b' n
     found_restored (encoded h c w) = record { count = rw found.reads.joined at c; buffer = rw found.reads.joined at w }
 
     -- It is refused only with 13, for a buffer shorter than the message.
-    pub found_refused : {b b' : List ℕ} {r : Refusal} → Encodes l e s b b' (Not-encoded r) → (r ≡ ShortBuffer) × (length b < length m)
+    pub found_refused : {b b' : List ℕ} {r : Refusal} → Encodes l e s b b' (Err r) → (r ≡ ShortBuffer) × (length b < length m)
     found_refused {b} {b'} {r} (refused h p) =
         let reads = found.reads in
         let from-10 = lowest_after (permitted_known reads.permitted) (lowest_after found.from_lists h) in

@@ -10,29 +10,26 @@ ghost use Rattle.read_sets.specs.Sets.{SetsOf};
 ghost use Rattle.read_core.specs.Core.{ReadsSets, FindsAll};
 ghost use Rattle.read_core.specs.Counts.{first_count, second_count};
 
-use code::{Code, Word};
+use code::{Code, Readings, Word};
 use read_sets::Sets;
-use read_walks::Found;
 
 // How many words were read into the first buffer.
-pub fn first_count(found: Found) -> usize
+pub fn first_count(found: Option<Readings>) -> usize
     ensures { result ≡ first_count found }
 {
     match found {
-        Found::None => 0,
-        Found::One(n) => n.0,
-        Found::Two(n, _) => n.0,
+        None => 0,
+        Some(Readings::One(n) | Readings::Two(n, _)) => n.0,
     }
 }
 
 // How many words were read into the second buffer.
-pub fn second_count(found: Found) -> usize
+pub fn second_count(found: Option<Readings>) -> usize
     ensures { result ≡ second_count found }
 {
     match found {
-        Found::None => 0,
-        Found::One(_) => 0,
-        Found::Two(_, n) => n.0,
+        None | Some(Readings::One(_)) => 0,
+        Some(Readings::Two(_, n)) => n.0,
     }
 }
 
@@ -49,7 +46,7 @@ pub fn read_core(
     first: &mut [u8],
     second: &mut [u8],
     work: &mut [u64],
-) -> Found
+) -> Option<Readings>
     requires { SetsOf having.now ends.now rows.now lengths.now n longest
         × (length work.old ≡ length message.now + 1) × (length message.now < 2 ^ 32) × (length message.now ≤ length first.old)
         × (length message.now ≤ length second.old) }
@@ -58,7 +55,7 @@ pub fn read_core(
 {
     read_marks::mark_all(having, ends, rows, longest, message, false, work);
     let r = read_walks::first_readings(rows, lengths, n, message.len(), work, first, second);
-    bits::clear(work);
+    work.fill(0);
     r
 }
 
@@ -69,7 +66,7 @@ pub fn find_readings(
     first: &mut [u8],
     second: &mut [u8],
     work: &mut [u64],
-) -> Found
+) -> Option<Readings>
     requires { WellFormed limits code × (length message.now < 2 ^ 32) × (length message.now ≤ length first.old)
         × (length message.now ≤ length second.old) × (length message.now < length work.old) }
     ensures { FindsAll (table_of code) message.now first.old second.old work.old
@@ -82,7 +79,7 @@ pub fn find_readings(
     let longest = read_sets::lay(code, &mut having, &mut ends, &mut rows, &mut lengths);
     // Only the rest is cleared: the marks need no clear entries, and leave theirs zero.
     let used = message.len() + 1;
-    bits::clear(&mut work[used..]);
+    work[used..].fill(0);
     read_core(
         &having,
         &ends,

@@ -22,9 +22,7 @@ fn step(tails: &mut [u64], having: &[u64], ends: &[u64], block: usize, onward: u
 {
     // Downwards, with the old entry carried: upwards each load would wait for the stores of the position before.
     let mut above = tails[longest];
-    let mut j = longest;
-    while 0 < j {
-        j -= 1;
+    for j in (0..longest).rev() {
         let here = tails[j];
         tails[j] = (above | (onward & ends[j])) & having[block + j];
         above = here;
@@ -38,10 +36,8 @@ fn first_tails(tails: &mut [u64], ends: &[u64], longest: usize, cut: bool)
 {
     if cut {
         let mut longer: u64 = 0;
-        let mut j = longest;
-        while 1 < j {
-            j -= 1;
-            longer = longer | ends[j];
+        for j in (1..longest).rev() {
+            longer |= ends[j];
             tails[j] = longer;
         }
     }
@@ -64,10 +60,8 @@ pub fn mark_all(
     first_tails(&mut tails, ends, longest, cut);
     // At the end reading is done after any word.
     let mut onward: u64 = u64::MAX;
-    let mut pos = message.len();
-    work[pos] = 0;
-    while 0 < pos {
-        pos -= 1;
+    work[message.len()] = 0;
+    for pos in (0..message.len()).rev() {
         let block = block_of(message[pos]);
         step(&mut tails, having, ends, block, onward, longest);
         let marks = tails[0];

@@ -38,11 +38,9 @@ fn lay_word(w: Word, x: usize, having: &mut [u64])
     requires { (length having.old ≡ symbol_sets) × (w.len ≤ limits.symbols) × CellsFit alphabet w.len w.symbols × (x < width) }
     ensures { Spread w x w.len having.old having.new }
 {
-    let mut j: usize = 0;
-    while j < w.len {
+    for j in 0..w.len {
         let block = block_of(w.symbols[j]);
         put(having, block + j, x);
-        j += 1;
     }
 }
 
@@ -53,25 +51,14 @@ fn lay_words(code: Code, having: &mut [u64], ends: &mut [u64], lengths: &mut [us
     ensures { LaidWords code code.count having.new ends.new lengths.new result }
 {
     let mut longest: usize = 0;
-    let mut x: usize = 0;
-    while x < code.count {
+    for x in 0..code.count {
         let w = code.words[x];
         lay_word(w, x, having);
         put(ends, w.len - 1, x);
         lengths[x] = w.len;
-        if longest < w.len {
-            longest = w.len;
-        }
-        x += 1;
+        longest = longest.max(w.len);
     }
     longest
-}
-
-// A byte as a wider number.
-fn wide(entry: u8) -> u64
-    ensures { result ≡ entry }
-{
-    entry as u64
 }
 
 // The words that a row of the matrix has, of `n`, and the start if its mark is 1.
@@ -79,12 +66,10 @@ fn row_set(row: Row, start: u8, n: usize) -> u64
     requires { CellsFit 2 n row.entries × (start < 2) × (n ≤ limits.words) }
     ensures { RowSet row start n n result }
 {
-    let mut set = wide(start) << n;
-    let mut y: usize = 0;
-    while y < n {
-        let entry = wide(row.entries[y]);
-        set = set | (entry << y);
-        y += 1;
+    let mut set = u64::from(start) << n;
+    for y in 0..n {
+        let entry = u64::from(row.entries[y]);
+        set |= entry << y;
     }
     set
 }
@@ -94,10 +79,8 @@ fn lay_rows(code: Code, rows: &mut [u64])
     requires { WellFormed limits code × (limits.words ≤ length rows.old) }
     ensures { LaidRows code code.count rows.new }
 {
-    let mut x: usize = 0;
-    while x < code.count {
+    for x in 0..code.count {
         rows[x] = row_set(code.rows[x], code.begins[x], code.count);
-        x += 1;
     }
 }
 

@@ -1,6 +1,6 @@
 -- Readings in the numbers of original words. In the order of the origins, the first readings of a code with copies by number are by name the first of the table
 -- of original words (Matches); where there are no copies, each number is its own name.
-use Rattle.std.specs.Prelude.{◌≡◌, refl, List, [], ◌∷◌, ◌++◌, map, ℕ, ◌≤◌, ◌<◌, length, take, drop, get_or}
+use Rattle.std.specs.Prelude.{◌≡◌, refl, List, [], ◌∷◌, ◌++◌, map, ℕ, ◌≤◌, ◌<◌, length, take, drop, get_or, Option}
 use Rattle.std.proofs.Common.{sym, ap, ap₂, ◌∙◌, subst, subst₂, arith, take_at, drop_at}
 use Rattle.std.proofs.lemmas.List.{length-map}
 use Rattle.code.specs.declared.Code.{Code}
@@ -20,7 +20,7 @@ use Rattle.ban_theory.specs.Matches.{named_none, named_only, named_first_two}
 use Rattle.ban_theory.specs.Renumbered.{Order, renumbered_covers}
 use Rattle.well_enlarged.specs.Meaning.{value_covers}
 use Rattle.well_enlarged.specs.WellEnlarged.{WellEnlarged}
-use Rattle.read_walks.specs.declared.Found.{Found}
+use Rattle.code.specs.declared.Readings.{Readings}
 use Rattle.read_core.specs.Core.{Finds, unreadable, one, two, FindsAll}
 use Rattle.read_core.specs.Counts.{first_count, second_count, reads_within}
 use Rattle.renumbering.specs.Origins.{Origins, ByOrigin}
@@ -68,14 +68,14 @@ module _ {l : Limits} {e : Enlarged} (w : WellEnlarged l e) where
     own_names : {m s : List ℕ} → Reads (table_of e.code) m s → map (λ (x : ℕ). get_or e.origins x 0) s ≡ s
     own_names {s = s} r = map_own (size (table_of e.code)) (λ x. get_or e.origins x 0) own_name s (reads_within r)
 
-    own_finds : {m f g f' g' : List ℕ} {r : Found} → Finds (table_of e.code) m f g f' g' r → Finds (original_table e) m f g f' g' r
+    own_finds : {m f g f' g' : List ℕ} {r : Option Readings} → Finds (table_of e.code) m f g f' g' r → Finds (original_table e) m f g f' g' r
     own_finds (unreadable o p q) = unreadable (named_none (value_covers w) o) p q
     own_finds {m = m} (one o c p q) = one (subst (OnlyReading (original_table e) m) (own_names o.reads) (named_only (value_covers w) o)) c p q
     own_finds {m = m} (two o c d p q) =
         two (subst₂ (FirstTwo (original_table e) m) (own_names o.first) (own_names o.second) (named_first_two (value_covers w) own_rises o)) c d p q
 
     -- What is found is in the numbers of original words.
-    pub own_found : {m f g v f' g' v' : List ℕ} {r : Found} → FindsAll (table_of e.code) m f g v f' g' v' r → FindsAll (original_table e) m f g v f' g' v' r
+    pub own_found : {m f g v f' g' v' : List ℕ} {r : Option Readings} → FindsAll (table_of e.code) m f g v f' g' v' r → FindsAll (original_table e) m f g v f' g' v' r
     own_found a = record { finds = own_finds a.finds; work = a.work }
 
   -- In the order of the origins
@@ -107,7 +107,7 @@ module _ {l : Limits} {e : Enlarged} (w : WellEnlarged l e) where
       names_are : {m s : List ℕ} → Reads (table_of (renumbered_code l old e.code)) m s → map (λ (x : ℕ). get_or e.origins (get_or old x 0) 0) s ≡ map (λ (x : ℕ). get_or names x 0) s
       names_are {s = s} r = map_within (size (table_of (renumbered_code l old e.code))) _ _ name_is s (reads_within r)
 
-      renamed_finds : {m f g f' g' f'' g'' : List ℕ} {r : Found} → Finds (table_of (renumbered_code l old e.code)) m f g f' g' r → f'' ≡ renamed names (first_count r) f'
+      renamed_finds : {m f g f' g' f'' g'' : List ℕ} {r : Option Readings} → Finds (table_of (renumbered_code l old e.code)) m f g f' g' r → f'' ≡ renamed names (first_count r) f'
           → g'' ≡ renamed names (second_count r) g' → Finds (original_table e) m f g f'' g'' r
       renamed_finds (unreadable o p q) i j = unreadable (named_none ordered_covers o) (i ∙ p) (j ∙ q)
       renamed_finds {m = m} {f = f} (one {s = s} o c p q) i j =
@@ -127,7 +127,7 @@ module _ {l : Limits} {e : Enlarged} (w : WellEnlarged l e) where
       ordered_few = rw is (omega (arith, ordered_size, w.numbers.room))
 
       -- What is found, each word by its name, is in the numbers of original words.
-      pub renamed_found : {names : List ℕ} → names ≡ reordered l old e.code.count 0 e.origins → {m f g v f' g' v' f'' g'' : List ℕ} {r : Found}
+      pub renamed_found : {names : List ℕ} → names ≡ reordered l old e.code.count 0 e.origins → {m f g v f' g' v' f'' g'' : List ℕ} {r : Option Readings}
           → FindsAll (table_of ordered) m f g v f' g' v' r → f'' ≡ renamed names (first_count r) f' → g'' ≡ renamed names (second_count r) g'
           → FindsAll (original_table e) m f g v f'' g'' v' r
       renamed_found named a i j = record { finds = renamed_finds named (rw is at a.finds) i j; work = a.work }

@@ -7,9 +7,8 @@ ghost use Rattle.code.specs.Definitions.Sheets.{limits};
 ghost use Rattle.well_enlarged.specs.WellEnlarged.{WellEnlarged};
 ghost use Rattle.read_core.specs.Core.{FindsAll};
 
-use code::Enlarged;
+use code::{Enlarged, Readings};
 use read_core::{find_readings, first_count, second_count};
-use read_walks::Found;
 use renumbering::origins::{by_origin, rename};
 use renumbering::{renumber, reorder_entries};
 
@@ -20,7 +19,7 @@ fn find_by_origin(
     first: &mut [u8],
     second: &mut [u8],
     work: &mut [u64],
-) -> Found
+) -> Option<Readings>
     requires { WellEnlarged limits e × (length message.now < 2 ^ 32) × (length message.now ≤ length first.old)
         × (length message.now ≤ length second.old) × (length message.now < length work.old) }
     ensures { FindsAll (original_table e) message.now first.old second.old work.old
@@ -46,7 +45,7 @@ pub fn find_named(
     first: &mut [u8],
     second: &mut [u8],
     work: &mut [u64],
-) -> Found
+) -> Option<Readings>
     requires { WellEnlarged limits e × (length message.now < 2 ^ 32) × (length message.now ≤ length first.old)
         × (length message.now ≤ length second.old) × (length message.now < length work.old) }
     ensures { FindsAll (original_table e) message.now first.old second.old work.old

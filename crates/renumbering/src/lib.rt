@@ -12,68 +12,35 @@ ghost use Rattle.code.specs.Definitions.Renumbering.{reordered, reordered_row, r
 ghost use Rattle.code.specs.Laws.WellFormed.{RowFits, WellFormed};
 ghost use Rattle.renumbering.specs.Reordering.{Known, row_from};
 
-use code::{Code, Row, Word};
+use code::{Code, Row};
 
-// An array of numbers, of which the first n are put in the order of the list.
-pub fn reorder_entries(
-    entries: [u8; Code::WORDS],
+// An array of which the first n entries are put in the order of the list.
+pub fn reorder_entries<T: Copy>(
+    entries: [T; Code::WORDS],
     old: [u8; Code::WORDS],
     n: usize,
-) -> [u8; Code::WORDS]
+) -> [T; Code::WORDS]
     requires { Known limits old n }
-    ensures { result ≡ reordered limits old n 0 entries }
+    ensures { (none : T) → result ≡ reordered limits old n none entries }
 {
     let mut next = entries;
-    let mut i: usize = 0;
-    while i < n {
-        let x = old[i] as usize;
-        next[i] = entries[x];
-        i += 1;
+    for i in 0..n {
+        next[i] = entries[old[i] as usize];
     }
     next
 }
 
-fn reorder_words(
-    words: [Word; Code::WORDS],
-    old: [u8; Code::WORDS],
-    n: usize,
-) -> [Word; Code::WORDS]
-    requires { Known limits old n }
-    ensures { result ≡ reordered limits old n no_word words }
-{
-    let mut next = words;
-    let mut i: usize = 0;
-    while i < n {
-        let x = old[i] as usize;
-        let word = words[x];
-        next[i] = word;
-        i += 1;
-    }
-    next
-}
-
-// A row with its columns in the order of the list.
-fn reorder_row(row: Row, old: [u8; Code::WORDS], n: usize) -> Row
-    requires { Known limits old n }
-    ensures { result ≡ reordered_row limits old n row }
-{
-    let entries = row.entries;
-    let next = reorder_entries(entries, old, n);
-    Row { entries: next }
-}
-
-// The rows in the order of the list, and the columns of each.
+// The rows in the order of the list, and the columns of each: so it is not `reorder_entries` alone.
 fn reorder_rows(rows: [Row; Code::WORDS], old: [u8; Code::WORDS], n: usize) -> [Row; Code::WORDS]
     requires { Known limits old n × ((x : ℕ) → x < limits.words → RowFits limits n x (get_or rows x no_row)) }
     ensures { result ≡ tabulate (row_from limits old n rows) limits.words }
 {
     let mut next = rows;
-    let mut i: usize = 0;
-    while i < n {
-        let x = old[i] as usize;
-        let row = reorder_row(rows[x], old, n);
-        next[i] = row;
-        i += 1;
+    for i in 0..n {
+        let row = rows[old[i] as usize];
+        next[i] = Row {
+            entries: reorder_entries(row.entries, old, n),
+        };
     }
     next
 }
@@ -84,16 +51,10 @@ pub fn renumber(code: Code, old: [u8; Code::WORDS]) -> Code
     ensures { result ≡ renumbered_code limits old code }
 {
     let n = code.count;
-    let words = code.words;
-    let rows = code.rows;
-    let begins = code.begins;
-    let next_words = reorder_words(words, old, n);
-    let next_rows = reorder_rows(rows, old, n);
-    let next_begins = reorder_entries(begins, old, n);
     Code {
-        words: next_words,
-        rows: next_rows,
-        begins: next_begins,
+        words: reorder_entries(code.words, old, n),
+        rows: reorder_rows(code.rows, old, n),
+        begins: reorder_entries(code.begins, old, n),
         count: n,
     }
 }

@@ -19,13 +19,11 @@ fn list_copies(
     ensures { ListedTo limits origins.now count z count numbers.new result }
 {
     let mut end = at;
-    let mut x = originals;
-    while x < count {
+    for x in originals..count {
         if origins[x] as usize == z {
             numbers[end] = x as u8;
             end += 1;
         }
-        x += 1;
     }
     end
 }
@@ -35,13 +33,11 @@ pub fn by_origin(origins: &[u8], originals: usize, count: usize) -> [u8; Code::W
     requires { Origins limits origins.now originals count }
     ensures { ByOrigin origins.now count result }
 {
-    let mut numbers = [0u8; Code::WORDS];
-    let mut at: usize = 0;
-    let mut z: usize = 0;
-    while z < originals {
+    let mut numbers = [0; Code::WORDS];
+    let mut at = 0;
+    for z in 0..originals {
         numbers[at] = z as u8;
         at = list_copies(origins, originals, count, z, &mut numbers, at + 1);
-        z += 1;
     }
     numbers
 }
@@ -51,10 +47,7 @@ pub fn rename(words: &mut [u8], n: usize, names: &[u8])
     requires { (n ≤ length words.old) × ((i : ℕ) → i < n → get_or words.old i 0 < length names.now) }
     ensures { words.new ≡ map (λ (x : ℕ). get_or names.now x 0) (take n words.old) ++ drop n words.old }
 {
-    let mut i: usize = 0;
-    while i < n {
-        let x = words[i] as usize;
-        words[i] = names[x];
-        i += 1;
+    for word in &mut words[..n] {
+        *word = names[*word as usize];
     }
 }

@@ -8,7 +8,7 @@ ghost use Rattle.code.specs.Definitions.Sheets.{limits, refused_by, taken, taken
 ghost use Rattle.code.specs.Laws.Clean.{Clean, record_fields};
 
 use code::blanks::blank_code;
-use code::{Refusal, Sheet, SheetAnswer, Taken};
+use code::{Refusal, Sheet, Taken};
 use csv_records::{bad_bytes, body_len};
 use sheet_survey::{has_starts, judge, survey_all};
 use sheet_table::build;
@@ -18,7 +18,7 @@ fn refuse(r: Refusal) -> Taken
     ensures { result ≡ refused_by limits r }
 {
     Taken {
-        answer: SheetAnswer::Refused(r),
+        answer: Err(r),
         code: blank_code(),
     }
 }
@@ -32,9 +32,9 @@ fn take_body(s: &[u8]) -> Taken
     let starts = has_starts(v);
     let answer = judge(v, starts);
     match answer {
-        SheetAnswer::Refused(r) => refuse(r),
-        SheetAnswer::Accepted => Taken {
-            answer: SheetAnswer::Accepted,
+        Err(r) => refuse(r),
+        Ok(()) => Taken {
+            answer: Ok(()),
             code: build(s, v.records, starts),
         },
     }

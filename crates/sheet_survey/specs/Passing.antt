@@ -1,14 +1,14 @@
 -- How the survey goes through a sheet: what is still to come, what a step keeps, one lemma for each way a step can go.
-use Rattle.std.specs.Prelude.{◌≡◌, refl, Bool, true, false, not, ◌||◌, List, [], ◌∷◌, ℕ, ◌+◌, ◌-◌, ◌≤◌, ◌<◌, eqb, length, drop, get_or}
-use Rattle.std.proofs.Common.{sym, ap, ◌∙◌, add-zero, arith, get_or-drop, eq-eqb, ne_eqb}
-use Rattle.std.proofs.Math.Bool.{or-false}
+use Rattle.std.specs.Prelude.{◌≡◌, refl, Bool, true, false, List, [], ◌∷◌, ℕ, ◌+◌, ◌-◌, ◌≤◌, ◌<◌, eqb, length, drop, get_or}
+use Rattle.std.proofs.Common.{sym, ap, ◌∙◌, add-zero, arith, get_or-drop}
+use Rattle.std.proofs.Math.Decide.{dec_lt}
 use Rattle.code.specs.Definitions.Sheets.{is_digit}
 use Rattle.code.specs.Laws.Clean.{Clean, record_fields, record_fields_some}
 use Rattle.sheet_survey.specs.declared.Survey.{Survey}
 use Rattle.sheet_survey.specs.declared.Cursor.{Cursor}
 use Rattle.csv_records.specs.Fields.{leading}
-use Rattle.csv_records.specs.Front.{rest_of, rest_within, rest_past, field_last, field_comma, field_line}
-use Rattle.sheet_survey.specs.Survey.{parts, entry_bad, take_word, take_second, take_later, take_span, take_field, end_record, survey_fields, survey_records, start}
+use Rattle.csv_records.specs.Front.{rest_of, rest_within, rest_past, comma_within, field_last, field_comma, field_line}
+use Rattle.sheet_survey.specs.Survey.{parts, take_span, take_field, end_record, survey_fields, survey_records, start}
 
 -- counts are bounded by the bytes passed
 pub record Bounded (c : Cursor) : Type 0 where
@@ -36,40 +36,6 @@ by_string v (a ∷ t) = by_front v a t (is_digit a) refl
 
 pub span_field : (v : Survey) (s : List ℕ) (at : ℕ) → take_span v (length (leading (drop at s))) (get_or s at 0) ≡ take_field v (leading (drop at s))
 span_field v s at = ap (take_span v (length (leading (drop at s)))) (sym (get_or-drop at s 0 0 ∙ rw add-zero)) ∙ by_string v (drop at s)
-
--- a row entry, by the tests in turn
-pub entry_long : (n b : ℕ) → (n ≡ 1 → ⊥) → true ≡ entry_bad n b
-entry_long n b h = rw (ne_eqb n 1 h)
-
-pub entry_zero : (n b : ℕ) → n ≡ 1 → b ≡ 48 → false ≡ entry_bad n b
-entry_zero n b h k = rw (h, k)
-
-pub entry_other : (n b : ℕ) → n ≡ 1 → (b ≡ 48 → ⊥) → not (eqb b 49) ≡ entry_bad n b
-entry_other n b h k = rw (h, ne_eqb b 48 k)
-
--- a field by its place in the record
-pub span_word : (v : Survey) (n b : ℕ) → v.fields ≡ 0 → take_word v n ≡ take_span v n b
-unfolding take_span
-span_word v n b h = rw (eq-eqb v.fields 0 h)
-
-pub span_second : (v : Survey) (n b : ℕ) → v.fields ≡ 1 → take_second v n b ≡ take_span v n b
-unfolding take_span
-span_second v n b h = rw (ne_eqb v.fields 0 (λ e. omega arith), eq-eqb v.fields 1 h)
-
-pub span_later : (v : Survey) (n b : ℕ) → (v.fields ≡ 0 → ⊥) → (v.fields ≡ 1 → ⊥) → take_later v n b ≡ take_span v n b
-unfolding take_span
-span_later v n b h i = rw (ne_eqb v.fields 0 h, ne_eqb v.fields 1 i)
-
--- the first record, and a later one
-pub end_first : (v : Survey) → v.records ≡ 0 → parts (v.records + 1) 0 v.fields v.symbols v.badword v.badwidth v.badsecond v.badlater ≡ end_record v
-unfolding end_record
-end_first v h = rw (h, eq-eqb v.fields v.fields refl, or-false)
-
-pub end_later : (v : Survey) → (v.records ≡ 0 → ⊥)
-    → parts (v.records + 1) 0 v.width v.symbols v.badword (v.badwidth || not (eqb v.fields v.width)) v.badsecond v.badlater
-    ≡ end_record v
-unfolding end_record
-end_later v h = rw (ne_eqb v.records 0 h)
 
 -- what a field does to the counts
 record Counts (v w : Survey) (n : ℕ) : Type 0 where
@@ -114,8 +80,9 @@ module _ (s : List ℕ) (c : Cursor) (e : ℕ) (v : Survey) (clean : Clean (drop
   unfolding end_record
   line_bounded = let k = counted in record { records = omega (arith, bounded.records); fields = omega arith; symbols = omega (arith, bounded.symbols) }
 
-  pub step_comma : e < length s → get_or s e 0 ≡ 44 → Step s c (record { survey = v; at = e + 1 })
-  step_comma h b =
+  pub step_comma : get_or s e 0 ≡ 44 → Step s c (record { survey = v; at = e + 1 })
+  step_comma b =
+      let h = comma_within s e b in
       let k = counted in
       let n = field_comma s c.at e clean ends h b in
       let g : List (List (List ℕ)) = record_fields (drop (e + 1) s) in
@@ -129,7 +96,7 @@ module _ (s : List ℕ) (c : Cursor) (e : ℕ) (v : Survey) (clean : Clean (drop
         within = omega arith;
       }
 
-  pub step_line : e < length s → (get_or s e 0 ≡ 44 → ⊥) → Step s c (record { survey = end_record v; at = e + 2 })
+  step_line : e < length s → (get_or s e 0 ≡ 44 → ⊥) → Step s c (record { survey = end_record v; at = e + 2 })
   step_line h b =
       let n = field_line s c.at e clean ends h b in
       let g : List (List (List ℕ)) = record_fields (drop (e + 2) s) in
@@ -143,7 +110,7 @@ module _ (s : List ℕ) (c : Cursor) (e : ℕ) (v : Survey) (clean : Clean (drop
         within = omega arith;
       }
 
-  pub step_last : length s ≤ e → Step s c (record { survey = end_record v; at = e + 2 })
+  step_last : length s ≤ e → Step s c (record { survey = end_record v; at = e + 2 })
   step_last h =
       record {
         rest = ap (survey_records (end_record v)) (rest_past s (e + 2) (omega arith))
@@ -155,6 +122,31 @@ module _ (s : List ℕ) (c : Cursor) (e : ℕ) (v : Survey) (clean : Clean (drop
         within = omega arith;
       }
 
+  pub step_end : (get_or s e 0 ≡ 44 → ⊥) → Step s c (record { survey = end_record v; at = e + 2 })
+  step_end b = by_place (dec_lt e (length s))
+    where
+      by_place : Dec (e < length s) → Step s c (record { survey = end_record v; at = e + 2 })
+      by_place (yes h) = step_line h b
+      by_place (no h) = step_last (omega arith)
+
+-- A pass that has come to the cursor.
+pub record Passed (s : List ℕ) (c : Cursor) : Type 0 where
+  pub rest : survey_records c.survey (rest_of s c.at) ≡ survey_records start (record_fields s)
+  pub clean : c.at ≤ length s → Clean (drop c.at s)
+  pub bounded : Bounded c
+  pub within : c.at ≤ length s + 2
+
+-- what the default of a cursor is
+abbrev Blank : Cursor → Type 0
+Blank c =
+    ((c.survey.records ≡ 0) × ((c.survey.fields ≡ 0) × ((c.survey.width ≡ 0) × ((c.survey.symbols ≡ 0)
+    × ((c.survey.badword ≡ false) × ((c.survey.badwidth ≡ false) × ((c.survey.badsecond ≡ false) × (c.survey.badlater ≡ false))))))))
+    × (c.at ≡ 0)
+
+by_parts : {n k w y at : ℕ} {a b c d : Bool} → n ≡ 0 → k ≡ 0 → w ≡ 0 → y ≡ 0 → a ≡ false → b ≡ false → c ≡ false → d ≡ false → at ≡ 0
+    → ◌≡◌ {A = Cursor} record { survey = parts n k w y a b c d; at = at } record { survey = start; at = 0 }
+by_parts n k w y a b c d at = rw (n, k, w, y, a, b, c, d, at)
+
 -- Before the first step all is to come; past the end nothing is.
 pub passing_starts : (s : List ℕ) → survey_records start (rest_of s 0) ≡ survey_records start (record_fields s)
 passing_starts s = ap (survey_records start) (rest_within s 0 (omega arith))
@@ -162,3 +154,22 @@ passing_starts s = ap (survey_records start) (rest_within s 0 (omega arith))
 pub passing_ends : (s : List ℕ) (v : Survey) (at : ℕ) → length s < at → survey_records v (rest_of s at) ≡ v
 unfolding survey_records
 passing_ends s v at h = rw (rest_past s at h)
+
+pub passed_first : (s : List ℕ) (c : Cursor) → Blank c → Clean s → Passed s c
+passed_first s c e h =
+    let flags = e.0.1.1.1.1 in
+    let blank : c ≡ record { survey = start; at = 0 } = by_parts e.0.0 e.0.1.0 e.0.1.1.0 e.0.1.1.1.0 flags.0 flags.1.0 flags.1.1.0 flags.1.1.1 e.1 in
+    rw blank
+    record {
+      rest = ap (survey_records start) (rest_within s 0 (omega arith));
+      clean = λ _. h;
+      bounded = record { records = omega arith; fields = omega arith; symbols = omega arith };
+      within = omega arith;
+    }
+
+pub passing_on : {s : List ℕ} {c r : Cursor} → Passed s c → Step s c r → Passed s r
+passing_on p step = record { rest = step.rest ∙ p.rest; clean = step.clean; bounded = step.bounded; within = step.within }
+
+pub passed_end : {s : List ℕ} {c : Cursor} → Passed s c → length s < c.at → c.survey ≡ survey_records start (record_fields s)
+unfolding survey_records
+passed_end {s} {c} p h = rw (rest_past s c.at h) at p.rest

@@ -1,10 +1,9 @@
 -- A survey of the records, field by field: what it counts and flags, and what it answers.
-use Rattle.std.specs.Prelude.{◌≡◌, refl, Bool, false, not, ◌&&◌, ◌||◌, List, [], ◌∷◌, map, ℕ, suc, ◌+◌, ltb, eqb, length, take, drop, get_or, if◌then◌else◌}
+use Rattle.std.specs.Prelude.{◌≡◌, refl, Bool, false, not, ◌&&◌, ◌||◌, List, [], ◌∷◌, map, ℕ, suc, ◌+◌, ltb, eqb, length, take, drop, get_or, if◌then◌else◌, Err, Ok, Result}
 use Rattle.std.proofs.Common.{ap₂, ◌∙◌, add-zero, arith, ne_eqb, eq-eqb}
 use Rattle.std.proofs.Math.Bool.{or-false, or_assoc}
-use Rattle.code.specs.declared.SheetAnswer.{SheetAnswer}
-use Rattle.code.specs.declared.SheetAnswer.TheVariants.{Accepted, Refused}
 use Rattle.code.specs.declared.Refusal.TheVariants.{RecordCount, WordLength, CodeLength, FieldCount, RowEntry, StartField}
+use Rattle.code.specs.declared.Refusal.{Refusal}
 use Rattle.code.specs.Definitions.Lists.{any, sum}
 use Rattle.code.specs.Definitions.Sheets.{limits, bad_entry, bad_row, bad_word, word_length}
 use Rattle.sheet_survey.specs.declared.Survey.{Survey}
@@ -70,17 +69,17 @@ abbrev pub start_bad : Survey → Bool → Bool
 start_bad v starts = if starts then v.badsecond else false
 
 -- what the survey says of the sheet: the refusals in turn
-abbrev pub answer_by : (a b c d e f : Bool) → SheetAnswer
+abbrev pub answer_by : (a b c d e f : Bool) → Result Unit Refusal
 answer_by a b c d e f =
-    if a then Refused RecordCount else
-    if b then Refused WordLength else
-    if c then Refused CodeLength else
-    if d then Refused FieldCount else
-    if e then Refused RowEntry else
-    if f then Refused StartField else
-    Accepted
+    if a then Err RecordCount else
+    if b then Err WordLength else
+    if c then Err CodeLength else
+    if d then Err FieldCount else
+    if e then Err RowEntry else
+    if f then Err StartField else
+    (Ok tt)
 
-abbrev pub answer_of : Survey → Bool → SheetAnswer
+abbrev pub answer_of : Survey → Bool → Result Unit Refusal
 answer_of v starts = answer_by (ltb 32 v.records) v.badword (ltb 128 v.symbols) (width_bad v starts) (row_bad v starts) (start_bad v starts)
 
 -- One record: its word first, then the second field, then the others.

@@ -8,13 +8,12 @@ ghost use Rattle.code.specs.Laws.Clean.{Clean, record_fields};
 ghost use Rattle.sheet_survey.specs.Survey.{start, entry_bad, word_bad, take_span, end_record, survey_records, marked, width_bad, row_bad, start_bad, answer_of};
 ghost use Rattle.sheet_survey.specs.Passing.{Bounded, Step};
 
-use code::bools::or;
-use code::{Code, Refusal, SheetAnswer, Word};
+use code::{Code, Refusal, Word};
 use csv_records::{byte_at, field_end};
 
 // `records` and `fields` count what has ended: records, and fields of the current record. `width` is the number of fields of the first record.
 // Which fields are row entries is known only at the end: so the second field has a flag of its own, and the later ones have another.
-#[derive(Clone, Copy)]
+#[derive(Clone, Copy, Default)]
 pub struct Survey {
     pub records: usize,
     pub fields: usize,
@@ -27,7 +26,7 @@ pub struct Survey {
 }
 
 // A survey of what stands before `at`, where a field begins.
-#[derive(Clone, Copy)]
+#[derive(Clone, Copy, Default)]
 pub struct Cursor {
     pub survey: Survey,
     pub at: usize,
@@ -37,58 +36,56 @@ pub struct Cursor {
 fn entry_bad(n: usize, b: u8) -> bool
     ensures { result ≡ entry_bad n b }
 {
-    if n != 1 {
-        return true;
-    }
-    if b == 48 {
-        return false;
-    }
-    b != 49
+    !(n == 1 && (b == b'0' || b == b'1'))
 }
 
 fn word_bad(n: usize) -> bool
     ensures { result ≡ word_bad n }
 {
-    if n == 0 {
-        return true;
-    }
-    Word::SYMBOLS < n
+    n == 0 || Word::SYMBOLS < n
 }
 
 // The survey with one field more, of n bytes, of which b is the first.
+#[tactic(auto, unfolding(crate::specs::Survey::take_span))]
 fn take_span(v: Survey, n: usize, b: u8) -> Survey
     requires { (v.fields < 8192) × (v.symbols + n < 8192) }
     ensures { result ≡ take_span v n b }
 {
-    let mut next = v;
-    next.fields = v.fields + 1;
-    if v.fields == 0 {
-        next.symbols = v.symbols + n;
-        next.badword = or(v.badword, word_bad(n));
-        return next;
+    let fields = v.fields + 1;
+    match v.fields {
+        0 => Survey {
+            fields,
+            symbols: v.symbols + n,
+            badword: v.badword || word_bad(n),
+            ..v
+        },
+        1 => Survey {
+            fields,
+            badsecond: v.badsecond || entry_bad(n, b),
+            ..v
+        },
+        _ => Survey {
+            fields,
+            badlater: v.badlater || entry_bad(n, b),
+            ..v
+        },
     }
-    if v.fields == 1 {
-        next.badsecond = or(v.badsecond, entry_bad(n, b));
-        return next;
-    }
-    next.badlater = or(v.badlater, entry_bad(n, b));
-    next
 }
 
 // The survey at the end of a record.
+#[tactic(auto, unfolding(crate::specs::Survey::end_record))]
 fn end_record(v: Survey) -> Survey
     requires { v.records < 8192 }
     ensures { result ≡ end_record v }
 {
-    let mut next = v;
-    next.records = v.records + 1;
-    next.fields = 0;
-    if v.records == 0 {
-        next.width = v.fields;
-        return next;
+    let width = if v.records == 0 { v.fields } else { v.width };
+    Survey {
+        records: v.records + 1,
+        fields: 0,
+        width,
+        badwidth: v.badwidth || v.fields != width,
+        ..v
     }
-    next.badwidth = or(v.badwidth, v.fields != v.width);
-    next
 }
 
 // One field further.
@@ -98,23 +95,17 @@ fn next_field(s: &[u8], c: Cursor) -> Cursor
 {
     let at = c.at;
     let e = field_end(s, at);
-    let b = byte_at(s, at);
-    let v = take_span(c.survey, e - at, b);
-    if s.len() <= e {
-        return Cursor {
-            survey: end_record(v),
-            at: e + 2,
-        };
-    }
-    if s[e] == 44 {
-        return Cursor {
+    let v = take_span(c.survey, e - at, byte_at(s, at));
+    if byte_at(s, e) == b',' {
+        Cursor {
             survey: v,
             at: e + 1,
-        };
-    }
-    Cursor {
-        survey: end_record(v),
-        at: e + 2,
+        }
+    } else {
+        Cursor {
+            survey: end_record(v),
+            at: e + 2,
+        }
     }
 }
 
@@ -123,19 +114,8 @@ pub fn survey_all(s: &[u8]) -> Survey
     requires { Clean s.now × (length s.now ≤ 4096) }
     ensures { (result ≡ survey_records start (record_fields s.now)) × (result.records ≤ limits.bytes + 2) }
 {
-    let mut c = Cursor {
-        survey: Survey {
-            records: 0,
-            fields: 0,
-            width: 0,
-            symbols: 0,
-            badword: false,
-            badwidth: false,
-            badsecond: false,
-            badlater: false,
-        },
-        at: 0,
-    };
+    let mut c = Cursor::default();
+    // A while: where a field ends tells where the next one begins.
     while c.at <= s.len() {
         c = next_field(s, c);
     }
@@ -147,10 +127,7 @@ pub fn has_starts(v: Survey) -> bool
     requires { v.records ≤ limits.bytes + 2 }
     ensures { result ≡ marked v }
 {
-    if v.badwidth {
-        return false;
-    }
-    v.width == v.records + 2
+    !v.badwidth && v.width == v.records + 2
 }
 
 // Refusal 6: with start fields all records have the right width, without them all must have one field more than there are records.
@@ -158,34 +135,25 @@ fn bad_width(v: Survey, starts: bool) -> bool
     requires { v.records ≤ limits.bytes + 2 }
     ensures { result ≡ width_bad v starts }
 {
-    if starts {
-        return false;
-    }
-    or(v.badwidth, v.width != v.records + 1)
+    !starts && (v.badwidth || v.width != v.records + 1)
 }
 
 // Refusal 7: the second field is a row entry only where there are no start fields.
 fn bad_row(v: Survey, starts: bool) -> bool
     ensures { result ≡ row_bad v starts }
 {
-    if starts {
-        return v.badlater;
-    }
-    or(v.badsecond, v.badlater)
+    v.badlater || !starts && v.badsecond
 }
 
 // Refusal 15.
 fn bad_start(v: Survey, starts: bool) -> bool
     ensures { result ≡ start_bad v starts }
 {
-    if starts {
-        return v.badsecond;
-    }
-    false
+    starts && v.badsecond
 }
 
 // What the survey says of the sheet, with start fields or without: the lowest refusal from 3 on, or that it is accepted.
-pub fn judge(v: Survey, starts: bool) -> SheetAnswer
+pub fn judge(v: Survey, starts: bool) -> Result<(), Refusal>
     requires { v.records ≤ limits.bytes + 2 }
     ensures { result ≡ answer_of v starts }
 {
@@ -193,22 +161,22 @@ pub fn judge(v: Survey, starts: bool) -> SheetAnswer
     let row = bad_row(v, starts);
     let start = bad_start(v, starts);
     if Code::WORDS < v.records {
-        return SheetAnswer::Refused(Refusal::RecordCount);
+        return Err(Refusal::RecordCount);
     }
     if v.badword {
-        return SheetAnswer::Refused(Refusal::WordLength);
+        return Err(Refusal::WordLength);
     }
     if Code::SYMBOLS < v.symbols {
-        return SheetAnswer::Refused(Refusal::CodeLength);
+        return Err(Refusal::CodeLength);
     }
     if width {
-        return SheetAnswer::Refused(Refusal::FieldCount);
+        return Err(Refusal::FieldCount);
     }
     if row {
-        return SheetAnswer::Refused(Refusal::RowEntry);
+        return Err(Refusal::RowEntry);
     }
     if start {
-        return SheetAnswer::Refused(Refusal::StartField);
+        return Err(Refusal::StartField);
     }
-    SheetAnswer::Accepted
+    Ok(())
 }

@@ -23,10 +23,8 @@ fn read_word(s: &[u8], at: usize, e: usize) -> Word
     let n = e - at;
     let mut word = blank_word();
     word.len = n;
-    let mut k: usize = 0;
-    while k < n {
+    for k in 0..n {
         word.symbols[k] = value_of(s[at + k]);
-        k += 1;
     }
     word
 }
@@ -37,10 +35,8 @@ fn read_row(s: &[u8], at: usize, n: usize) -> Row
     ensures { result ≡ record { entries = tabulate (row_byte s.now at n) 32 } }
 {
     let mut row = blank_row();
-    let mut y: usize = 0;
-    while y < n {
+    for y in 0..n {
         row.entries[y] = value_of(s[at + 2 * y]);
-        y += 1;
     }
     row
 }
@@ -49,13 +45,7 @@ fn read_row(s: &[u8], at: usize, n: usize) -> Row
 fn read_mark(s: &[u8], at: usize, starts: bool) -> u8
     ensures { result ≡ mark_at s.now at starts }
 {
-    if starts {
-        if byte_at(s, at) == 49 {
-            return 1;
-        }
-        return 0;
-    }
-    1
+    u8::from(!starts || byte_at(s, at) == b'1')
 }
 
 // Where the row begins whose word ends at e: behind a comma, or behind a start field between two.
@@ -72,19 +62,14 @@ pub fn build(s: &[u8], n: usize, starts: bool) -> Code
     ensures { result ≡ code_of limits (record_fields s.now) }
 {
     let mut code = blank_code();
-    let mut at: usize = 0;
-    let mut k: usize = 0;
-    while k < n {
+    let mut at = 0;
+    for k in 0..n {
         let e = field_end(s, at);
-        let word = read_word(s, at, e);
-        let mark = read_mark(s, e + 1, starts);
         let first = row_start(e, starts);
-        let row = read_row(s, first, n);
-        code.words[k] = word;
-        code.rows[k] = row;
-        code.begins[k] = mark;
+        code.words[k] = read_word(s, at, e);
+        code.begins[k] = read_mark(s, e + 1, starts);
+        code.rows[k] = read_row(s, first, n);
         at = first + 2 * n + 1;
-        k += 1;
     }
     code.count = n;
     code

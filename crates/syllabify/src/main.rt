@@ -3,20 +3,18 @@
 
 #![tactic(auto)]
 
-ghost use Rattle.std.specs.Prelude.{◌≡◌, ◌<◌, length};
-ghost use Rattle.code.specs.declared.SheetAnswer.TheVariants.{Accepted};
+ghost use Rattle.std.specs.Prelude.{◌≡◌, ◌<◌, length, Ok};
 ghost use Rattle.code.specs.Definitions.ClassSheets.{FromClassSheet};
 ghost use Rattle.code.specs.Definitions.Sheets.{limits, FromSheet};
 ghost use Rattle.io.specs.Counts.{IsPrefixLen};
 ghost use Rattle.syllabify.specs.Answers.{code_given, classes_given, output_room, SplitsGiven, Printed, Answers, AnswersInput};
 
 use class_sheet::take_classes;
-use code::{ClassSheet, Code, Sheet, SheetAnswer, Splitting, Taken, TakenClasses, Text};
+use code::{ByteCount, ClassSheet, Code, Refusal, Sheet, Taken, TakenClasses, Text};
 use printing::put_refused;
-use program::refusals::{tell_answer, tell_refusal};
+use program::refusals::tell_answer;
 use program::{argument_count, goes_on, read_named, read_standard, write_standard};
 use std::io::Stderr;
-use streams::Input;
 use well_enlarged::plain;
 
 #[derive(Clone, Copy)]
@@ -36,7 +34,7 @@ fn give(named: bool, sheet: &[u8]) -> Taken
     }
     let code = turkish::twelve();
     Taken {
-        answer: SheetAnswer::Accepted,
+        answer: Ok(()),
         code: code,
     }
 }
@@ -50,16 +48,8 @@ fn give_classes(lettered: bool, sheet: &[u8]) -> TakenClasses
     }
     let letters = turkish_letters::turkish();
     TakenClasses {
-        answer: SheetAnswer::Accepted,
+        answer: Ok(()),
         classes: letters,
-    }
-}
-
-// Tells the refusal of a text.
-fn tell_text(errors: Stderr, s: Splitting) {
-    match s {
-        Splitting::Split(_) => {}
-        Splitting::Refused(refusal) => tell_refusal(errors, b"syllabify: the text", refusal),
     }
 }
 
@@ -70,34 +60,29 @@ fn split_by(
     letters: TakenClasses,
     text: &[u8],
     out: &mut [u8],
-) -> Splitting
-    requires { FromSheet limits code × (letters.answer ≡ Accepted → FromClassSheet limits letters.classes) × (length out.old ≡ output_room) }
-    ensures { SplitsGiven (record { answer = Accepted; code = code }) letters text.now out.old out.new result }
+) -> Result<ByteCount, Refusal>
+    requires { FromSheet limits code × (letters.answer ≡ Ok tt → FromClassSheet limits letters.classes) × (length out.old ≡ output_room) }
+    ensures { SplitsGiven (record { answer = Ok tt; code = code }) letters text.now out.old out.new result }
 {
-    let answer = letters.answer;
-    tell_answer(errors, b"syllabify: the class sheet", answer);
-    match answer {
-        SheetAnswer::Refused(r) => Splitting::Refused(r),
-        SheetAnswer::Accepted => {
-            let value = plain(code);
-            let mut message = [0u8; Text::BYTES];
-            let mut first = [0u8; Text::BYTES];
-            let mut second = [0u8; Text::BYTES];
-            let mut work = [0u64; Text::BYTES + 1];
-            let split = text_split::split(
-                value,
-                letters.classes,
-                text,
-                out,
-                &mut message,
-                &mut first,
-                &mut second,
-                &mut work,
-            );
-            tell_text(errors, split);
-            split
-        }
-    }
+    tell_answer(errors, b"syllabify: the class sheet", letters.answer);
+    letters.answer?;
+    let value = plain(code);
+    let mut message = [0u8; Text::BYTES];
+    let mut first = [0u8; Text::BYTES];
+    let mut second = [0u8; Text::BYTES];
+    let mut work = [0u64; Text::BYTES + 1];
+    let split = text_split::split(
+        value,
+        letters.classes,
+        text,
+        out,
+        &mut message,
+        &mut first,
+        &mut second,
+        &mut work,
+    );
+    tell_answer(errors, b"syllabify: the text", split);
+    split
 }
 
 // The refusal of the code sheet, which comes first; or what its code gives.
@@ -107,26 +92,24 @@ fn split_given(
     letters: TakenClasses,
     text: &[u8],
     out: &mut [u8],
-) -> Splitting
-    requires { (given.answer ≡ Accepted → FromSheet limits given.code) × (letters.answer ≡ Accepted → FromClassSheet limits letters.classes) × (length out.old ≡ output_room) }
+) -> Result<ByteCount, Refusal>
+    requires { (given.answer ≡ Ok tt → FromSheet limits given.code) × (letters.answer ≡ Ok tt → FromClassSheet limits letters.classes) × (length out.old ≡ output_room) }
     ensures { SplitsGiven given letters text.now out.old out.new result }
 {
     let answer = given.answer;
     tell_answer(errors, b"syllabify: the code sheet", answer);
-    match answer {
-        SheetAnswer::Refused(refusal) => Splitting::Refused(refusal),
-        SheetAnswer::Accepted => split_by(errors, given.code, letters, text, out),
-    }
+    answer?;
+    split_by(errors, given.code, letters, text, out)
 }
 
 // Puts a refusal at the start of `out`, where an output stands already. Gives the number of bytes.
-fn put_splitting(s: Splitting, out: &mut [u8]) -> usize
+fn put_splitting(s: Result<ByteCount, Refusal>, out: &mut [u8]) -> usize
     requires { length out.old ≡ output_room }
     ensures { Printed out.old out.new result s }
 {
     match s {
-        Splitting::Split(n) => n.0,
-        Splitting::Refused(refusal) => put_refused(refusal, out),
+        Ok(n) => n.0,
+        Err(refusal) => put_refused(refusal, out),
     }
 }
 
@@ -150,7 +133,7 @@ fn answer(
 }
 
 // The answer to the first n bytes of an input, the first k of a code sheet's file and the first j of a class sheet's. Each buffer is longer than what it may hold, so
-// what fills it is refused.
+// what fills it is refused: that is said of a buffer and of a number, which stand side by side here.
 fn answer_input(
     errors: Stderr,
     named: bool,
@@ -192,7 +175,7 @@ fn answer_standard(
 {
     let mut input = [0u8; Text::BYTES + 1];
     let read = read_standard(rt, b"syllabify: cannot read standard input", &mut input);
-    let Input::Bytes(n) = read else {
+    let Ok(n) = read else {
         return;
     };
     let mut out = [0u8; Output::BYTES];
@@ -238,7 +221,7 @@ fn main(rt: HostRuntime) {
         b"syllabify: cannot read the code sheet",
         &mut file,
     );
-    let Input::Bytes(k) = listed else {
+    let Ok(k) = listed else {
         return;
     };
     let mut classes = [0u8; ClassSheet::BYTES + 1];
@@ -249,7 +232,7 @@ fn main(rt: HostRuntime) {
         b"syllabify: cannot read the class sheet",
         &mut classes,
     );
-    let Input::Bytes(j) = classed else {
+    let Ok(j) = classed else {
         return;
     };
     answer_standard(&rt, 1 < arguments, &file, k, 2 < arguments, &classes, j);

@@ -76,3 +76,5 @@ module _ (classes s : List ℕ) where
     run_ends room h =
         let all : i ≡ length s = omega (arith, l.within) in
         rw all at (laid_run room (rw (drop_of_length-le s h) Runs.none))
+
+pub ruleset laying_steps = (laying_none, laying_length, laying_more)

@@ -21,18 +21,17 @@ pub fn is_letter(classes: &[u8; Classes::BYTES], byte: u8) -> bool
 }
 
 // Lays the symbols of the letters that a text begins with at the start of `message`, and gives how many there are.
+#[tactic(auto, using(crate::specs::Runs::laying_steps))]
 pub fn lay_run(classes: &[u8; Classes::BYTES], text: &[u8], message: &mut [u8]) -> usize
     requires { length text.now ≤ length message.old }
     ensures { LaysRun classes.now text.now message.old message.new result }
 {
-    let mut i: usize = 0;
-    while i < text.len() {
+    for i in 0..text.len() {
         let class = class_of(classes, text[i]);
         if Classes::OTHER <= class {
             return i;
         }
         message[i] = class;
-        i += 1;
     }
     text.len()
 }

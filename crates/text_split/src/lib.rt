@@ -13,12 +13,11 @@ ghost use Rattle.text_words.specs.Outputs.{SplitsInto};
 ghost use Rattle.text_words.specs.Rooms.{Rooms};
 ghost use Rattle.text_split.specs.Rooms.{Short};
 
-use code::{ByteCount, Classes, Code, Enlarged, Refusal, Splitting, Text, Word};
+use code::{ByteCount, Classes, Code, Enlarged, Refusal, Text, Word};
 use read_sets::Sets;
 use text_words::split_words;
 use well_classed::well_classed;
 use well_enlarged::well_enlarged;
-use writing::clear;
 
 // Splits a text by a well-formed code, in buffers that are long enough. Gives the length of the output.
 fn split_by(
@@ -69,10 +68,10 @@ fn clear_all(message: &mut [u8], first: &mut [u8], second: &mut [u8], work: &mut
     ensures { (message.new ≡ zeroed message.old) × (first.new ≡ zeroed first.old)
         × (second.new ≡ zeroed second.old) × (work.new ≡ zeroed work.old) }
 {
-    clear(message);
-    clear(first);
-    clear(second);
-    bits::clear(work);
+    message.fill(0);
+    first.fill(0);
+    second.fill(0);
+    work.fill(0);
 }
 
 // Splits a text by a code with copies or without, and by letters of these classes: the length of the output, or the lowest refusal that holds.
@@ -85,18 +84,18 @@ pub fn split(
     first: &mut [u8],
     second: &mut [u8],
     work: &mut [u64],
-) -> Splitting
+) -> Result<ByteCount, Refusal>
     ensures { SplitsText limits e classes text.now out.old message.old first.old second.old
         work.old out.new message.new first.new second.new work.new result }
 {
     if !well_enlarged(e) {
-        return Splitting::Refused(Refusal::NotFromSheet);
+        return Err(Refusal::NotFromSheet);
     }
     if !well_classed(classes) {
-        return Splitting::Refused(Refusal::NotFromSheet);
+        return Err(Refusal::NotFromSheet);
     }
     if Text::BYTES < text.len() {
-        return Splitting::Refused(Refusal::MessageLength);
+        return Err(Refusal::MessageLength);
     }
     let short = is_short(
         text.len(),
@@ -107,11 +106,11 @@ pub fn split(
         work.len(),
     );
     if short {
-        return Splitting::Refused(Refusal::ShortBuffer);
+        return Err(Refusal::ShortBuffer);
     }
     let entries = classes.entries;
     let n = split_by(e.code, &entries, text, out, message, first, second, work);
     // Once, however many words there were.
     clear_all(message, first, second, work);
-    Splitting::Split(ByteCount(n))
+    Ok(ByteCount(n))
 }

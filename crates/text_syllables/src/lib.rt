@@ -13,7 +13,7 @@ ghost use Rattle.text_syllables.specs.Lengths.{lengths_in};
 use code::WordCount;
 use writing::{put, put_field};
 
-// A word with one reading, which has so many syllables; a word without a reading; a word with several.
+// A word with one reading, which has so many syllables; a word without a reading; a word with several. No Option: the last two are shown in brackets of their own.
 #[derive(Clone, Copy)]
 pub enum Kind {
     Split(WordCount),
@@ -52,13 +52,11 @@ fn put_syllables(
 {
     let mut next = at;
     let mut from: usize = 0;
-    let mut i: usize = 0;
-    while i < reading.len() {
+    for i in 0..reading.len() {
         let x = reading[i] as usize;
         let to = from + lengths[x];
         next = put_syllable(out, next, i, &letters[from..to]);
         from = to;
-        i += 1;
     }
     next
 }

@@ -1,5 +1,5 @@
 -- The record of a word: its place, its length and its kind. It lies in the text, its reading has lengths, and what is written from it shows the word.
-use Rattle.std.specs.Prelude.{◌≡◌, refl, true, List, [], ◌∷◌, ℕ, suc, ◌+◌, ◌-◌, ◌^◌, ◌≤◌, ◌<◌, length, take, drop, get_or}
+use Rattle.std.specs.Prelude.{◌≡◌, refl, true, List, [], ◌∷◌, ℕ, suc, ◌+◌, ◌-◌, ◌^◌, ◌≤◌, ◌<◌, length, take, drop, get_or, Option}
 use Rattle.std.proofs.Common.{sym, ap, ap₂, ◌∙◌, arith, length-append, length-drop, length-take, length-take-le, take_all, drop-cons}
 use Rattle.std.proofs.lemmas.List.{length-map}
 use Rattle.code.specs.Definitions.Tables.{Table}
@@ -7,7 +7,7 @@ use Rattle.code.specs.Definitions.Texts.{class_of, is_letter, run, symbols_in, l
 use Rattle.code.specs.Definitions.Texts as Texts
 use Rattle.code.specs.Laws.Buffers.{take-written}
 use Rattle.code.specs.Laws.Finite.{Within, within_at}
-use Rattle.read_walks.specs.declared.Found.{Found}
+use Rattle.code.specs.declared.Readings.{Readings}
 use Rattle.read_core.specs.Core.{ReadsSets}
 use Rattle.read_core.specs.Counts.{reads_within}
 use Rattle.text_runs.specs.Runs.{RunOf, LaysRun}
@@ -68,7 +68,7 @@ module _ (having ends rows lengths : List ℕ) (n longest : ℕ) where
     pub kind : (t : Table) → Lays t having ends rows lengths n longest → IsOfKind t (symbols_in classes (letters_of s w)) f w.kind
 
   -- A run that is laid and read gives the record.
-  pub recorded : {classes s m m' f g v f' g' v' : List ℕ} {at k : ℕ} {r : Found} {d : Kind} → LaysRun classes (take (length s - at) (drop at s)) m m' k
+  pub recorded : {classes s m m' f g v f' g' v' : List ℕ} {at k : ℕ} {r : Option Readings} {d : Kind} → LaysRun classes (take (length s - at) (drop at s)) m m' k
       → ReadsSets having ends rows lengths n longest (take k m') f g v f' g' v' r → d ≡ kind_of r
       → Recorded classes s at f' (record { kind = d; offset = at; length = k })
   recorded {classes} {s} {m} {m'} {f} {g} {f' = f'} {g' = g'} {at = at} {k = k} {r = r} {d = d} l reads e =

@@ -8,19 +8,18 @@ ghost use Rattle.text_words.specs.Records.{Served, Recorded};
 ghost use Rattle.text_words.specs.Outputs.{SplitsBySets};
 ghost use Rattle.text_words.specs.Rooms.{WordRooms, Rooms};
 
-use code::Classes;
+use code::{Classes, Readings};
 use read_core::read_core;
-use read_walks::Found;
 use text_runs::{is_letter, lay_run};
 use text_syllables::{Kind, TextWord, put_word};
 
-fn kind_of(found: Found) -> Kind
+fn kind_of(found: Option<Readings>) -> Kind
     ensures { result ≡ kind_of found }
 {
     match found {
-        Found::None => Kind::None,
-        Found::One(n) => Kind::Split(n),
-        Found::Two(_, _) => Kind::Several,
+        None => Kind::None,
+        Some(Readings::One(n)) => Kind::Split(n),
+        Some(Readings::Two(_, _)) => Kind::Several,
     }
 }
 
@@ -90,6 +89,7 @@ pub fn split_words(
 {
     let mut pos: usize = 0;
     let mut end: usize = 0;
+    // A while: a word is passed as a whole, whatever its length.
     while pos < text.len() {
         if is_letter(classes, text[pos]) {
             let word = word_at(

@@ -6,39 +6,29 @@
 
 mod values;
 
-use code::{Enlarged, Sheet, SheetAnswer};
+use code::{Enlarged, Sheet};
 use std::io;
 use std::io::Print;
+use try_common::each_argument;
 use try_common::fields::field;
-use values::{write_result, write_value};
+use try_common::results::{write_answer, write_line};
+use values::{write_value, write_verdict};
 
 fn from_sheet(sheet: &[u8]) -> Enlarged {
-    let taken = sheet::take_in(sheet);
-    well_enlarged::plain(taken.code)
-}
-
-fn write_line(rt: &impl Print, line: &[u8]) -> io::Result<()> {
-    rt.write_all(line)?;
-    rt.write_all(b"\r\n")
+    well_enlarged::plain(sheet::take_in(sheet).code)
 }
 
 // Writes what a list makes of a code, and gives it.
 fn enlarge(rt: &impl Print, value: Enlarged, list: &[u8]) -> io::Result<Enlarged> {
     let enlargement = ban_enlarge::enlarge(value, list);
-    match enlargement.answer {
-        SheetAnswer::Accepted => rt.write_all(b"accepted")?,
-        SheetAnswer::Refused(r) => {
-            rt.write_all(b"refused ")?;
-            rt.print(r.number())?;
-        }
-    }
+    write_answer(rt, enlargement.answer)?;
     write_value(rt, enlargement.enlarged)?;
     Ok(enlargement.enlarged)
 }
 
 fn try_list(rt: &impl Print, value: Enlarged, list: &[u8]) -> io::Result<()> {
     let enlarged = enlarge(rt, value, list)?;
-    write_result(rt, enlarged)?;
+    write_verdict(rt, enlarged)?;
     enlarge(rt, enlarged, list)?;
     Ok(())
 }
@@ -54,13 +44,7 @@ fn try_files(rt: &HostRuntime, sheet: &[u8], list: &[u8]) -> io::Result<()> {
 
 fn try_argument(rt: &HostRuntime, names: &[u8]) -> io::Result<()> {
     write_line(rt, names)?;
-    let sheet = field(names, 0);
-    let a = sheet.from;
-    let b = sheet.to;
-    let list = field(names, 1);
-    let c = list.from;
-    let d = list.to;
-    try_files(rt, &names[a..b], &names[c..d])
+    try_files(rt, field(names, 0), field(names, 1))
 }
 
 // Tables that no accepted sheet gives are refused before what is wrong with the list, but for its length.
@@ -76,12 +60,6 @@ fn try_refusals(rt: &impl Print) -> io::Result<()> {
 }
 
 fn main(rt: HostRuntime) -> io::Result<()> {
-    for i in 1..usize::MAX {
-        let mut names = [0u8; try_common::ARGUMENT];
-        let Some(n) = try_common::argument(&rt, i, &mut names) else {
-            break;
-        };
-        try_argument(&rt, &names[..n])?;
-    }
+    each_argument(&rt, |names| try_argument(&rt, names))?;
     try_refusals(&rt)
 }

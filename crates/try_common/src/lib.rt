@@ -1,31 +1,28 @@
-// What the programs that try the operations share: the bytes of a file, the fields of a line, a table written out, and whether a working buffer holds one number throughout.
+// What the programs that try the operations share: their arguments, the bytes of a file, the fields of a line, a table and an answer written out, and what a trial leaves
+// in the buffers that it lends.
 
 #![tactic(auto)]
 
+pub mod buffers;
 pub mod fields;
+pub mod results;
 pub mod tables;
 
 ghost use Rattle.std.specs.Prelude.{IfSome};
 ghost use Rattle.io.specs.Counts.{IsPrefixLen};
-ghost use Rattle.code.specs.Laws.Exactly.{Exactly};
-ghost use Rattle.try_common.specs.All.{All};
 
 use program::failures::tell_failure;
 use std::env::FillError;
+use std::io;
 use std::rt::Env;
-use streams::Input;
 
 // The bytes of a file, as many as there is room for. Of one that cannot be opened or read the error is told, and it counts as empty.
 pub fn read_file(rt: &HostRuntime, path: &[u8], bytes: &mut [u8]) -> usize
     ensures { IsPrefixLen result bytes.new }
 {
-    match streams::read_file(rt, path, bytes) {
-        Input::Bytes(n) => n,
-        Input::Failed(error) => {
-            tell_failure(rt.stderr(), path, error);
-            0
-        }
-    }
+    streams::read_file(rt, path, bytes)
+        .inspect_err(|error| tell_failure(rt.stderr(), path, *error))
+        .unwrap_or(0)
 }
 
 // The bytes that there are for an argument.
@@ -42,16 +39,19 @@ pub fn argument(rt: &impl Env, i: usize, word: &mut [u8]) -> Option<usize>
     }
 }
 
-// Whether all entries are `value`.
-pub fn is_all(work: &[u64], value: u64) -> bool
-    ensures { Exactly result (All work.now value) }
+// Tries each argument in turn, up to the first failure.
+pub fn each_argument<F: FnMut(&[u8]) -> io::Result<()>>(
+    rt: &impl Env,
+    mut try_one: F,
+) -> io::Result<()>
+    requires { F.IsAlwaysCallable try_one }
 {
-    let mut i: usize = 0;
-    while i < work.len() {
-        if work[i] != value {
-            return false;
-        }
-        i += 1;
+    for i in 1..usize::MAX {
+        let mut word = [0u8; ARGUMENT];
+        let Some(n) = argument(rt, i, &mut word) else {
+            break;
+        };
+        try_one(&word[..n])?;
     }
-    true
+    Ok(())
 }

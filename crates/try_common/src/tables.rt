@@ -1,32 +1,18 @@
 // A table written on standard output: each word's digits with its start mark and its row.
 
-use code::{Code, Row, Word};
+use code::{Code, Word};
 use std::io;
 use std::io::Print;
 
-const DIGITS: [u8; 16] = *b"0123456789ABCDEF";
-
-fn digit(symbol: u8) -> u8 {
-    if symbol < Word::ALPHABET {
-        let at = symbol as usize;
-        return DIGITS[at];
-    }
-    b'?'
-}
+const DIGITS: [u8; Word::ALPHABET as usize] = *b"0123456789ABCDEF";
 
 fn write_digit(rt: &impl Print, symbol: u8) -> io::Result<()> {
-    rt.write_all(&[digit(symbol)])
+    rt.write_all(&[*DIGITS.get(symbol as usize).unwrap_or(&b'?')])
 }
 
-fn write_word(rt: &impl Print, w: Word) -> io::Result<()> {
-    for symbol in w.symbols.iter().take(w.len) {
-        write_digit(rt, *symbol)?;
-    }
-    Ok(())
-}
-
-fn write_row(rt: &impl Print, row: Row, n: usize) -> io::Result<()> {
-    for entry in row.entries.iter().take(n) {
+// Writes the first n entries as digits.
+fn write_digits(rt: &impl Print, entries: &[u8], n: usize) -> io::Result<()> {
+    for entry in entries.iter().take(n) {
         write_digit(rt, *entry)?;
     }
     Ok(())
@@ -34,13 +20,14 @@ fn write_row(rt: &impl Print, row: Row, n: usize) -> io::Result<()> {
 
 pub fn write_table(rt: &impl Print, table: Code) -> io::Result<()> {
     let n = table.count;
-    for x in 0..n.min(Code::WORDS) {
+    let words = table.words.iter().zip(table.begins.iter());
+    for ((word, begins), row) in words.zip(table.rows.iter()).take(n) {
         rt.write_all(b" ")?;
-        write_word(rt, table.words[x])?;
+        write_digits(rt, &word.symbols, word.len)?;
         rt.write_all(b"/")?;
-        write_digit(rt, table.begins[x])?;
+        write_digit(rt, *begins)?;
         rt.write_all(b"/")?;
-        write_row(rt, table.rows[x], n)?;
+        write_digits(rt, &row.entries, n)?;
     }
     Ok(())
 }

@@ -2,33 +2,23 @@
 
 ghost use Rattle.std.specs.Prelude.{◌<◌};
 
-use crate::{lists, trials};
+use crate::lists;
 use class_sheet::take_classes;
-use code::{ClassSheet, Classes, SheetAnswer, TakenClasses};
+use code::{ClassSheet, Classes, TakenClasses};
 use std::io;
 use std::io::Print;
-use try_common::fields;
+use try_common::fields::{byte, field};
+use try_common::results::write_answer;
 
 // What the class sheet gives whose file field k names.
 fn taken(rt: &HostRuntime, line: &[u8], k: usize) -> TakenClasses {
-    let f = fields::field(line, k);
-    let a = f.from;
-    let e = f.to;
     let mut bytes = [0u8; ClassSheet::BYTES + 1];
-    let n = try_common::read_file(rt, &line[a..e], &mut bytes);
+    let n = try_common::read_file(rt, field(line, k), &mut bytes);
     take_classes(&bytes[..n])
 }
 
 fn write_classes(rt: &impl Print, classes: Classes) -> io::Result<()> {
-    let entries = classes.entries;
-    lists::write_first(rt, &entries, Classes::BYTES)
-}
-
-fn write_answer(rt: &impl Print, answer: SheetAnswer) -> io::Result<()> {
-    match answer {
-        SheetAnswer::Accepted => rt.write_all(b"accepted"),
-        SheetAnswer::Refused(r) => trials::write_refusal(rt, r),
-    }
+    lists::write_first(rt, &classes.entries, Classes::BYTES)
 }
 
 // Writes the answer to the class sheet in field 1, and the classes that it gives.
@@ -39,22 +29,13 @@ pub fn take(rt: &HostRuntime, line: &[u8]) -> io::Result<()> {
     write_classes(rt, t.classes)
 }
 
-fn with_class(mut classes: Classes, byte: u8, class: u8) -> Classes {
-    classes.entries[byte as usize] = class;
-    classes
-}
-
 // The classes of a trial: field k names the file of the class sheet, and a change may stand behind it.
 pub fn of_trial(rt: &HostRuntime, line: &[u8], k: usize) -> Classes
     requires { k < 16 }
 {
-    let t = taken(rt, line, k);
-    if fields::is(line, k + 1, b"class") {
-        return with_class(
-            t.classes,
-            fields::byte(line, k + 2),
-            fields::byte(line, k + 3),
-        );
+    let mut classes = taken(rt, line, k).classes;
+    if field(line, k + 1) == b"class".as_slice() {
+        classes.entries[byte(line, k + 2) as usize] = byte(line, k + 3);
     }
-    t.classes
+    classes
 }

@@ -3,17 +3,19 @@
 ghost use Rattle.std.specs.Prelude.{◌≤◌, length};
 
 use crate::{buffers, class_sheets, lists, tables, trials};
-use code::{Classes, Enlarged, Splitting};
-use copying::copy_at;
+use code::{ByteCount, Classes, Enlarged, Refusal};
 use std::io;
 use std::io::Print;
-use try_common::fields;
+use try_common::buffers::{BEFORE, State, WORK_BEFORE, is_kept};
+use try_common::fields::{field, number_within};
+use try_common::results::write_refusal;
+
+// What stands before a text that is given by its bytes.
+const QUOTE: &[u8] = b"'";
 
 // Whether the text of a trial is given by its bytes.
 fn is_quoted(line: &[u8]) -> bool {
-    let f = fields::field(line, 2);
-    let a = f.from;
-    if a < f.to { line[a] == b'\'' } else { false }
+    field(line, 2).starts_with(QUOTE)
 }
 
 // Puts bytes at the start of `out`, if there is room, and gives how many are put.
@@ -24,30 +26,16 @@ fn put_bytes(bytes: &[u8], out: &mut [u8]) -> usize
     if out.len() < n {
         return 0;
     }
-    copy_at(out, 0, bytes, n);
+    out[..n].copy_from_slice(bytes);
     n
-}
-
-// Puts the bytes behind the apostrophe in field 2.
-fn put_quoted(line: &[u8], out: &mut [u8]) -> usize
-    ensures { result ≤ length out.new }
-{
-    let f = fields::field(line, 2);
-    let e = f.to;
-    if f.from < e {
-        let a = f.from + 1;
-        return put_bytes(&line[a..e], out);
-    }
-    0
 }
 
 fn put_text(line: &[u8], out: &mut [u8]) -> usize
     ensures { result ≤ length out.new }
 {
-    if is_quoted(line) {
-        put_quoted(line, out)
-    } else {
-        trials::put_list(line, out)
+    match field(line, 2).strip_prefix(QUOTE) {
+        Some(bytes) => put_bytes(bytes, out),
+        None => trials::put_list(line, out),
     }
 }
 
@@ -56,8 +44,8 @@ fn write_output(rt: &impl Print, quoted: bool, out: &[u8], n: usize) -> io::Resu
     if !quoted {
         return lists::write_first(rt, out, n);
     }
-    if n <= out.len() {
-        rt.write_all(&out[0..n])?;
+    if let Some(bytes) = out.get(..n) {
+        rt.write_all(bytes)?;
     }
     Ok(())
 }
@@ -65,18 +53,18 @@ fn write_output(rt: &impl Print, quoted: bool, out: &[u8], n: usize) -> io::Resu
 // Writes the answer to splitting, and gives how many bytes it says are written.
 fn write_splitting(
     rt: &impl Print,
-    answer: Splitting,
+    answer: Result<ByteCount, Refusal>,
     quoted: bool,
     out: &[u8],
 ) -> io::Result<usize> {
     match answer {
-        Splitting::Split(n) => {
+        Ok(n) => {
             rt.write_all(b"split ")?;
             write_output(rt, quoted, out, n.0)?;
             Ok(n.0)
         }
-        Splitting::Refused(r) => {
-            trials::write_refusal(rt, r)?;
+        Err(r) => {
+            write_refusal(rt, r)?;
             Ok(0)
         }
     }
@@ -96,37 +84,36 @@ fn split_in(
 ) -> io::Result<()> {
     let answer = text_split::split(value, letters, text, out, message, first, second, work);
     let n = write_splitting(rt, answer, quoted, out)?;
-    buffers::write_kept(rt, buffers::is_kept(out, n))?;
-    buffers::write_used(rt, b"; message ", message)?;
-    buffers::write_used(rt, b"; readings ", first)?;
-    buffers::write_used(rt, b" ", second)?;
+    buffers::write_kept(rt, is_kept(out, n))?;
+    print!(rt; "; message {}", State::of(message))?;
+    print!(rt; "; readings {} {}", State::of(first), State::of(second))?;
     buffers::write_work(rt, work)
 }
 
 fn split_by(rt: &impl Print, line: &[u8], value: Enlarged, letters: Classes) -> io::Result<()> {
     let mut text = [0u8; trials::ENTRIES];
     let n = put_text(line, &mut text);
-    let a = fields::number_within(line, 3, buffers::OUTPUT);
-    let b = fields::number_within(line, 4, buffers::ROOM);
-    let c = fields::number_within(line, 5, buffers::ROOM);
-    let d = fields::number_within(line, 6, buffers::ROOM);
-    let e = fields::number_within(line, 7, buffers::ROOM);
-    let mut out = [buffers::BEFORE; buffers::OUTPUT];
-    let mut message = [buffers::BEFORE; buffers::ROOM];
-    let mut first = [buffers::BEFORE; buffers::ROOM];
-    let mut second = [buffers::BEFORE; buffers::ROOM];
-    let mut work = [buffers::WORK_BEFORE; buffers::ROOM];
+    let a = number_within(line, 3, buffers::OUTPUT);
+    let b = number_within(line, 4, buffers::ROOM);
+    let c = number_within(line, 5, buffers::ROOM);
+    let d = number_within(line, 6, buffers::ROOM);
+    let e = number_within(line, 7, buffers::ROOM);
+    let mut out = [BEFORE; buffers::OUTPUT];
+    let mut message = [BEFORE; buffers::ROOM];
+    let mut first = [BEFORE; buffers::ROOM];
+    let mut second = [BEFORE; buffers::ROOM];
+    let mut work = [WORK_BEFORE; buffers::ROOM];
     split_in(
         rt,
         value,
         letters,
         is_quoted(line),
-        &text[0..n],
-        &mut out[0..a],
-        &mut message[0..b],
-        &mut first[0..c],
-        &mut second[0..d],
-        &mut work[0..e],
+        &text[..n],
+        &mut out[..a],
+        &mut message[..b],
+        &mut first[..c],
+        &mut second[..d],
+        &mut work[..e],
     )
 }
 

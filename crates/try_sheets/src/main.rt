@@ -3,22 +3,18 @@
 
 #![tactic(auto)]
 
-use code::{Sheet, SheetAnswer};
+use code::Sheet;
 use std::io;
 use std::io::Print;
+use try_common::each_argument;
+use try_common::results::write_answer;
 use try_common::tables::write_table;
 
-fn write_answer(rt: &impl Print, sheet: &[u8]) -> io::Result<()> {
+fn try_sheet(rt: &impl Print, sheet: &[u8]) -> io::Result<()> {
     let taken = sheet::take_in(sheet);
-    match taken.answer {
-        SheetAnswer::Accepted => {
-            rt.write_all(b"accepted")?;
-            write_table(rt, taken.code)?;
-        }
-        SheetAnswer::Refused(r) => {
-            rt.write_all(b"refused ")?;
-            rt.print(r.number())?;
-        }
+    write_answer(rt, taken.answer)?;
+    if taken.answer.is_ok() {
+        write_table(rt, taken.code)?;
     }
     rt.write_all(b"\n")
 }
@@ -28,16 +24,9 @@ fn try_file(rt: &HostRuntime, path: &[u8]) -> io::Result<()> {
     rt.write_all(b": ")?;
     let mut bytes = [0u8; Sheet::BYTES + 1];
     let n = try_common::read_file(rt, path, &mut bytes);
-    write_answer(rt, &bytes[..n])
+    try_sheet(rt, &bytes[..n])
 }
 
 fn main(rt: HostRuntime) -> io::Result<()> {
-    for i in 1..usize::MAX {
-        let mut name = [0u8; try_common::ARGUMENT];
-        let Some(n) = try_common::argument(&rt, i, &mut name) else {
-            break;
-        };
-        try_file(&rt, &name[..n])?;
-    }
-    Ok(())
+    each_argument(&rt, |name| try_file(&rt, name))
 }

@@ -1,7 +1,6 @@
 -- The code of the twelve types is the table that its sheet gives, and so is that of the first six. Both sheets stand here byte for byte, and are taken in by
 -- computation.
-use Rattle.std.specs.Prelude.{◌≡◌, refl, List, [], ◌∷◌, ◌++◌, ℕ, take}
-use Rattle.code.specs.declared.SheetAnswer.TheVariants.{Accepted}
+use Rattle.std.specs.Prelude.{◌≡◌, refl, List, [], ◌∷◌, ◌++◌, ℕ, take, Ok}
 use Rattle.code.specs.Definitions.Lists.{every, any, tabulate, sum}
 use Rattle.code.specs.Definitions.Sheets.{limits, body, records, fields, grid, bad_bytes, code_of, taken_grid, taken}
 use Rattle.turkish.specs.Types.{types, padded, code_of_types}
@@ -22,7 +21,7 @@ twelve_sheet =
     ++ (49 ∷ 49 ∷ 48 ∷ 49 ∷ 49 ∷ 44 ∷ 48 ∷ 44 ∷ 48 ∷ 44 ∷ 49 ∷ 44 ∷ 49 ∷ 44 ∷ 49 ∷ 44 ∷ 49 ∷ 44 ∷ 48 ∷ 44 ∷ 49 ∷ 44 ∷ 48 ∷ 44 ∷ 49 ∷ 44 ∷ 49 ∷ 44 ∷ 49 ∷ 13 ∷ 10 ∷ [])
     ++ (49 ∷ 48 ∷ 49 ∷ 49 ∷ 49 ∷ 44 ∷ 49 ∷ 44 ∷ 49 ∷ 44 ∷ 49 ∷ 44 ∷ 49 ∷ 44 ∷ 49 ∷ 44 ∷ 49 ∷ 44 ∷ 49 ∷ 44 ∷ 49 ∷ 44 ∷ 49 ∷ 44 ∷ 49 ∷ 44 ∷ 49 ∷ 44 ∷ 49 ∷ 13 ∷ 10 ∷ [])
 
-pub twelve_given : taken limits twelve_sheet ≡ record { answer = Accepted; code = code_of_types limits types }
+pub twelve_given : taken limits twelve_sheet ≡ record { answer = Ok tt; code = code_of_types limits types }
 unfolding taken taken_grid grid body records fields bad_bytes any every sum tabulate code_of padded code_of_types
 twelve_given = refl
 
@@ -37,6 +36,6 @@ six_sheet =
     ++ (49 ∷ 48 ∷ 49 ∷ 49 ∷ 44 ∷ 49 ∷ 44 ∷ 49 ∷ 44 ∷ 49 ∷ 44 ∷ 49 ∷ 44 ∷ 49 ∷ 44 ∷ 49 ∷ 13 ∷ 10 ∷ [])
 
 -- Source 000: "The first six syllable types (types A-F) are syllable types of proper Turkish language." The same rules give their matrix.
-pub six_given : taken limits six_sheet ≡ record { answer = Accepted; code = code_of_types limits (take 6 types) }
+pub six_given : taken limits six_sheet ≡ record { answer = Ok tt; code = code_of_types limits (take 6 types) }
 unfolding taken taken_grid grid body records fields bad_bytes any every sum tabulate code_of padded code_of_types
 six_given = refl

@@ -111,15 +111,9 @@ fn widen(entries: &[u8]) -> Row
     requires { length entries.now ≤ limits.words }
     ensures { result ≡ row_for limits entries.now }
 {
-    let mut row = Row {
-        entries: [0; Code::WORDS],
-    };
-    let mut y: usize = 0;
-    while y < entries.len() {
-        row.entries[y] = entries[y];
-        y += 1;
-    }
-    row
+    let mut padded = [0u8; Code::WORDS];
+    padded[..entries.len()].copy_from_slice(entries);
+    Row { entries: padded }
 }
 
 // The code of the twelve types, each of which may begin a message.
@@ -129,16 +123,10 @@ pub fn twelve() -> Code
     let words = words();
     let rows = rows();
     let mut code = blank_code();
-    let mut x: usize = 0;
-    while x < Types::COUNT {
-        let word = words[x];
-        let types = rows[x];
-        let entries = types.0;
-        let row = widen(&entries);
-        code.words[x] = word;
-        code.rows[x] = row;
+    for x in 0..Types::COUNT {
+        code.words[x] = words[x];
+        code.rows[x] = widen(&rows[x].0);
         code.begins[x] = 1;
-        x += 1;
     }
     code.count = Types::COUNT;
     code

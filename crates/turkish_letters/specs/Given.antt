@@ -1,6 +1,5 @@
 -- The table of Turkish letters is what its class sheet gives. The sheet stands here byte for byte, and is taken in by computation.
-use Rattle.std.specs.Prelude.{◌≡◌, refl, List, [], ◌∷◌, ◌++◌, ℕ}
-use Rattle.code.specs.declared.SheetAnswer.TheVariants.{Accepted}
+use Rattle.std.specs.Prelude.{◌≡◌, refl, List, [], ◌∷◌, ◌++◌, ℕ, Ok}
 use Rattle.code.specs.Definitions.ClassSheets.{ranges_of, malformed, takes_sign, refused18, refused19, all_bytes, takers, refused20, class_by, classes_of, taken_classes}
 use Rattle.code.specs.Definitions.Lists.{any, every, tabulate}
 use Rattle.code.specs.Definitions.Sheets.{limits, body, records, fields, grid, bad_bytes}
@@ -45,6 +44,6 @@ turkish_class_sheet =
     ++ (70 ∷ 69 ∷ 44 ∷ 70 ∷ 69 ∷ 44 ∷ 49 ∷ 13 ∷ 10 ∷ [])
 
 -- 02, request 5: "The Turkish sheet must give CR 4's results": it gives the same table.
-pub turkish_given : taken_classes limits turkish_class_sheet ≡ record { answer = Accepted; classes = record { entries = turkish_classes } }
+pub turkish_given : taken_classes limits turkish_class_sheet ≡ record { answer = Ok tt; classes = record { entries = turkish_classes } }
 unfolding taken_classes ranges_of malformed takes_sign refused18 refused19 all_bytes takers refused20 class_by classes_of any every tabulate body records fields grid bad_bytes turkish_classes
 turkish_given = refl

@@ -49,11 +49,8 @@ fn put_lines(out: &mut [u8], at: usize) -> usize
     ensures { Puts at lines out.old out.new result }
 {
     let mut next = at;
-    let mut x: usize = 0;
-    while x < Types::COUNT {
-        let row = row_of(x);
-        next = put_line(out, next, x, &row);
-        x += 1;
+    for x in 0..Types::COUNT {
+        next = put_line(out, next, x, &row_of(x));
     }
     next
 }

@@ -6,7 +6,6 @@ ghost use Rattle.turkish.specs.Types.{types, stands_at, vowel_rule, consonant_ru
 ghost use Rattle.turkish_matrix.specs.Rules.{Spelt};
 
 use code::Word;
-use code::bools::{and, or};
 use turkish::Types;
 
 // Whether symbol k of a word is this one; past its end there is none.
@@ -14,11 +13,7 @@ fn stands_at(word: Word, k: usize, symbol: u8) -> bool
     requires { Spelt word }
     ensures { result ≡ stands_at (symbols_of word) k symbol }
 {
-    if k < word.len {
-        word.symbols[k] == symbol
-    } else {
-        false
-    }
+    k < word.len && word.symbols[k] == symbol
 }
 
 // No vowel-first type after a consonant-last one: whether this forbids x after y.
@@ -28,7 +23,7 @@ fn vowel_rule(x: Word, y: Word) -> bool
 {
     let vowel_first = stands_at(x, 0, Types::VOWEL);
     let consonant_last = stands_at(y, y.len - 1, Types::CONSONANT);
-    and(vowel_first, consonant_last)
+    vowel_first && consonant_last
 }
 
 // No type with two or more consonants first after a vowel-last one.
@@ -39,7 +34,7 @@ fn consonant_rule(x: Word, y: Word) -> bool
     let consonant_first = stands_at(x, 0, Types::CONSONANT);
     let consonant_second = stands_at(x, 1, Types::CONSONANT);
     let vowel_last = stands_at(y, y.len - 1, Types::VOWEL);
-    and(and(consonant_first, consonant_second), vowel_last)
+    consonant_first && consonant_second && vowel_last
 }
 
 // The entry for x after y: 0 exactly where one of the rules forbids it.
@@ -49,7 +44,7 @@ fn entry_for(x: Word, y: Word) -> u8
 {
     let by_vowel = vowel_rule(x, y);
     let by_consonants = consonant_rule(x, y);
-    if or(by_vowel, by_consonants) { 0 } else { 1 }
+    u8::from(!(by_vowel || by_consonants))
 }
 
 // Row x of the follow matrix.
@@ -58,13 +53,10 @@ pub fn row_of(x: usize) -> [u8; Types::COUNT]
     ensures { result ≡ get_or (matrix types) x [] }
 {
     let words = turkish::words();
-    let word = words[x];
+    // No `from_fn`: that its closure may read the words was not proved.
     let mut row = [0u8; Types::COUNT];
-    let mut y: usize = 0;
-    while y < Types::COUNT {
-        let before = words[y];
-        row[y] = entry_for(word, before);
-        y += 1;
+    for y in 0..Types::COUNT {
+        row[y] = entry_for(words[x], words[y]);
     }
     row
 }

@@ -1,7 +1,7 @@
 -- What `decipher::verdict` answers for the twelve types, in buffers that are long enough, and what these then begin with.
-use Rattle.std.specs.Prelude.{◌≡◌, refl, List, ℕ, length, take}
-use Rattle.code.specs.declared.Judgement.{Judgement}
-use Rattle.code.specs.declared.Judgement.TheVariants.{Judged}
+use Rattle.std.specs.Prelude.{◌≡◌, refl, List, ℕ, length, take, Ok, Result}
+use Rattle.code.specs.declared.Verdict.{Verdict}
+use Rattle.code.specs.declared.Refusal.{Refusal}
 use Rattle.code.specs.Definitions.Enlarged.{plain_of}
 use Rattle.code.specs.Definitions.Operations.{Judges}
 use Rattle.code.specs.Definitions.Sheets.{limits}
@@ -14,9 +14,9 @@ use Rattle.turkish_verdicts.specs.Cases.{twelve, message_twelve, first_twelve, s
 use Rattle.turkish_verdicts.proofs.Cases.{twelve_ambiguous}
 use Rattle.turkish_verdicts.specs.Answered.{verdict_twelve, twelve_lists}
 
-module _ {m f g w m' f' g' w' : List ℕ} (room : Room (length m) (length f) (length g) (length w)) {r : Judgement}
+module _ {m f g w m' f' g' w' : List ℕ} (room : Room (length m) (length f) (length g) (length w)) {r : Result Verdict Refusal}
     (judges : Judges limits (plain_of limits twelve) m f g w m' f' g' w' r) where
-  pub twelve_answered : r ≡ Judged verdict_twelve
+  pub twelve_answered : r ≡ Ok verdict_twelve
   twelve_answered =
       (verdict_answered twelve_lists room judges verdict_twelve).1
       (record { x = message_twelve; s = first_twelve; u = second_twelve; means = rw (plain_original limits twelve) (twelve_ambiguous, refl, refl, refl) })

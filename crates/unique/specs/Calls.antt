@@ -1,18 +1,17 @@
 -- Each contract of a function for C leaves one number only, and one content of each buffer.
-use Rattle.std.specs.Prelude.{◌≡◌, List, [], ◌∷◌, ◌++◌, ◌⊎◌, ℕ, ◌<◌, ◌≤◌, length}
+use Rattle.std.specs.Prelude.{◌≡◌, List, [], ◌∷◌, ◌++◌, ◌⊎◌, ℕ, ◌<◌, ◌≤◌, length, Result}
 use Rattle.std.proofs.Common.{sym, ap, ◌∙◌, inl, inr, arith}
 use Rattle.code.specs.declared.Enlargement.{Enlargement}
-use Rattle.code.specs.declared.SheetAnswer.{SheetAnswer}
-use Rattle.code.specs.declared.Encoding.{Encoding}
-use Rattle.code.specs.declared.Reading.{Reading}
-use Rattle.code.specs.declared.Judgement.{Judgement}
-use Rattle.code.specs.declared.Naming.{Naming}
-use Rattle.code.specs.declared.Splitting.{Splitting}
+use Rattle.code.specs.declared.Refusal.{Refusal}
+use Rattle.code.specs.declared.Readings.{Readings}
+use Rattle.code.specs.declared.Verdict.{Verdict}
+use Rattle.code.specs.declared.ByteCount.{ByteCount}
+use Rattle.code.specs.declared.SymbolCount.{SymbolCount}
 use Rattle.code.specs.Definitions.Answers.{refusal_number}
 use Rattle.code.specs.Definitions.ClassSheets.{different_bytes}
 use Rattle.code.specs.Definitions.Operations.{Condition, written}
 use Rattle.code.specs.Definitions.Sheets.{limits}
-use Rattle.c_answers.specs.Answers.{answer_length, encoding_number, encoding_entries, reading_number, reading_entries, naming_number, naming_entries, judgement_number, judgement_entries, splitting_number, splitting_entries}
+use Rattle.c_answers.specs.Answers.{answer_length, answer_number, answer_entries, symbols_entries, readings_entries, word_entries, verdict_entries, bytes_entries}
 use Rattle.c_image.specs.Image.{image_length, enlarged_in, image_of}
 use Rattle.c_short_answers.specs.Untold.{Untold, no_answer}
 use Rattle.c_results.specs.Given.{Answered, sheet_number, after_sheet}
@@ -25,7 +24,7 @@ untold_unique : (cs : List Condition) (r q : ℕ) → Untold cs r → Untold cs 
 untold_unique cs r q a b = a.number ∙ ap refusal_number (lowest_unique (cs ++ (no_answer ∷ [])) a.refusal b.refusal a.lowest b.lowest) ∙ sym b.number
 
 -- Taking in a code sheet or a class sheet, and giving the built-in code or classes: each contract is `Answered` for its bytes.
-pub answered_unique : {a : SheetAnswer} {n : ℕ} {bytes b b1 b2 : List ℕ} {r q : ℕ} → Answered a n bytes b b1 r → Answered a n bytes b b2 q → (b1 ≡ b2) × (r ≡ q)
+pub answered_unique : {a : Result Unit Refusal} {n : ℕ} {bytes b b1 b2 : List ℕ} {r q : ℕ} → Answered a n bytes b b1 r → Answered a n bytes b b2 q → (b1 ≡ b2) × (r ≡ q)
 answered_unique x y = (x.buffer ∙ sym y.buffer, x.number ∙ sym y.number)
 
 -- a list that is both too short and long enough
@@ -43,7 +42,7 @@ encode_call_unique {a = a} (EncodeCall.answered h k x b c) (EncodeCall.untold i 
 encode_call_unique {r = r} {q = q} (EncodeCall.untold i j u d f) (EncodeCall.untold h k v b c) = (d ∙ sym b, f ∙ sym c, untold_unique _ r q u v)
 encode_call_unique {t} {a = a} (EncodeCall.answered h k x b c) (EncodeCall.answered i j y d f) =
     let z = encodes_unique limits (enlarged_in t) x y in
-    (z.0, c ∙ ap (λ (w : Encoding). written (encoding_entries w) a) z.1 ∙ sym f, b ∙ ap encoding_number z.1 ∙ sym d)
+    (z.0, c ∙ ap (λ (w : Result SymbolCount Refusal). written (answer_entries symbols_entries w) a) z.1 ∙ sym f, b ∙ ap answer_number z.1 ∙ sym d)
 
 pub verdict_call_unique : {t m f g w a m1 f1 g1 w1 a1 m2 f2 g2 w2 a2 : List ℕ} {r q : ℕ} → VerdictCall t m f g w a m1 f1 g1 w1 a1 r → VerdictCall t m f g w a m2 f2 g2 w2 a2 q
     → ((m1 ≡ m2) × (f1 ≡ f2) × (g1 ≡ g2)) × (w1 ≡ w2) × (a1 ≡ a2) × (r ≡ q)
@@ -58,7 +57,7 @@ verdict_call_unique {r = r} {q = q} (VerdictCall.untold h k v b c d e l) (Verdic
     ((b ∙ sym b', c ∙ sym c', d ∙ sym d'), e ∙ sym e', l ∙ sym l', untold_unique _ r q v u)
 verdict_call_unique {t} {a = a} (VerdictCall.answered h k x b c) (VerdictCall.answered i j y d f) =
     let z = judges_unique limits (enlarged_in t) x y in
-    (z.0, z.1, c ∙ ap (λ (w : Judgement). written (judgement_entries w) a) z.2 ∙ sym f, b ∙ ap judgement_number z.2 ∙ sym d)
+    (z.0, z.1, c ∙ ap (λ (w : Result Verdict Refusal). written (answer_entries verdict_entries w) a) z.2 ∙ sym f, b ∙ ap answer_number z.2 ∙ sym d)
 
 pub enlarge_call_unique : {t s b b1 b2 : List ℕ} {r q : ℕ} → EnlargeCall t s b b1 r → EnlargeCall t s b b2 q → (b1 ≡ b2) × (r ≡ q)
 enlarge_call_unique (EnlargeCall.unread h k c) (EnlargeCall.unread i j d) = (c ∙ sym d, k ∙ sym j)
@@ -83,7 +82,7 @@ read_call_unique {r = r} {q = q} (ReadCall.untold h k v c d e l) (ReadCall.untol
     (c ∙ sym c', d ∙ sym d', e ∙ sym e', l ∙ sym l', untold_unique _ r q v u)
 read_call_unique {t} {a = a} (ReadCall.answered h k x b c) (ReadCall.answered i j y d f) =
     let z = reads_unique limits (enlarged_in t) x y in
-    (z.0, z.1, z.2, c ∙ ap (λ (w : Reading). written (reading_entries w) a) z.3 ∙ sym f, b ∙ ap reading_number z.3 ∙ sym d)
+    (z.0, z.1, z.2, c ∙ ap (λ (w : Result Readings Refusal). written (answer_entries readings_entries w) a) z.3 ∙ sym f, b ∙ ap answer_number z.3 ∙ sym d)
 
 pub next_call_unique : {t m w a w1 a1 w2 a2 : List ℕ} {r q : ℕ} → NextCall t m w a w1 a1 r → NextCall t m w a w2 a2 q → (w1 ≡ w2) × (a1 ≡ a2) × (r ≡ q)
 next_call_unique (NextCall.unread h k b c) (NextCall.unread i j d f) = (b ∙ sym d, c ∙ sym f, k ∙ sym j)
@@ -96,7 +95,7 @@ next_call_unique {a = a} (NextCall.answered h k x b c) (NextCall.untold i j u d 
 next_call_unique {r = r} {q = q} (NextCall.untold i j u d f) (NextCall.untold h k v b c) = (d ∙ sym b, f ∙ sym c, untold_unique _ r q u v)
 next_call_unique {t} {a = a} (NextCall.answered h k x b c) (NextCall.answered i j y d f) =
     let z = names_unique limits (enlarged_in t) x y in
-    (z.0, c ∙ ap (λ (w : Naming). written (naming_entries w) a) z.1 ∙ sym f, b ∙ ap naming_number z.1 ∙ sym d)
+    (z.0, c ∙ ap (λ (w : Result ℕ Refusal). written (answer_entries word_entries w) a) z.1 ∙ sym f, b ∙ ap answer_number z.1 ∙ sym d)
 
 either_apart : (t k : List ℕ) → (length t < image_length) ⊎ (length k < different_bytes) → image_length ≤ length t → different_bytes ≤ length k → ⊥
 either_apart t k (inl h) i j = apart t image_length h i
@@ -116,4 +115,4 @@ split_call_unique {r = r} {q = q} (SplitCall.untold h n z v x c d e l p) (SplitC
     (x ∙ sym x', c ∙ sym c', d ∙ sym d', e ∙ sym e', l ∙ sym l', p ∙ sym p', untold_unique _ r q v u)
 split_call_unique {t} {a = a} (SplitCall.answered h n v x c y) (SplitCall.answered i j o x' c' y') =
     let z = splits_text_unique limits (enlarged_in t) x x' in
-    (z.0, z.1, z.2, z.3, z.4, y ∙ ap (λ (w : Splitting). written (splitting_entries w) a) z.5 ∙ sym y', c ∙ ap splitting_number z.5 ∙ sym c')
+    (z.0, z.1, z.2, z.3, z.4, y ∙ ap (λ (w : Result ByteCount Refusal). written (answer_entries bytes_entries w) a) z.5 ∙ sym y', c ∙ ap answer_number z.5 ∙ sym c')

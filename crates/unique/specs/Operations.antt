@@ -1,6 +1,6 @@
 -- Each contract of an operation leaves one answer only: for the same input and the same buffers at entry, any two answers that meet it are equal, and so is what
 -- each buffer then holds. Enlarging by a ban list has its theorem beside its meaning: `enlarges_unique`, ban_meaning/specs/Answered.antt.
-use Rattle.std.specs.Prelude.{◌≡◌, refl, List, ℕ, length}
+use Rattle.std.specs.Prelude.{◌≡◌, refl, List, ℕ, length, Err, Ok, Result}
 use Rattle.std.proofs.Common.{sym, ap, ap₂, ◌∙◌}
 use Rattle.code.specs.declared.Enlarged.{Enlarged}
 use Rattle.code.specs.declared.Classes.{Classes}
@@ -8,18 +8,11 @@ use Rattle.code.specs.declared.Limits.{Limits}
 use Rattle.code.specs.declared.SymbolCount.{SymbolCount}
 use Rattle.code.specs.declared.WordCount.{WordCount}
 use Rattle.code.specs.declared.ByteCount.{ByteCount}
-use Rattle.code.specs.declared.Encoding.{Encoding}
-use Rattle.code.specs.declared.Encoding.TheVariants.{Encoded, Refused as Not-encoded}
-use Rattle.code.specs.declared.Reading.{Reading}
-use Rattle.code.specs.declared.Reading.TheVariants.{One, Two, Refused as Not-read}
 use Rattle.code.specs.declared.Verdict.{Verdict}
 use Rattle.code.specs.declared.Verdict.TheVariants.{Ambiguous as Two-ways, Finite, Unbounded}
-use Rattle.code.specs.declared.Judgement.{Judgement}
-use Rattle.code.specs.declared.Judgement.TheVariants.{Judged, Refused as Not-judged}
-use Rattle.code.specs.declared.Naming.{Naming}
-use Rattle.code.specs.declared.Naming.TheVariants.{Named, Refused as Not-named}
-use Rattle.code.specs.declared.Splitting.{Splitting}
-use Rattle.code.specs.declared.Splitting.TheVariants.{Split, Refused as Not-split}
+use Rattle.code.specs.declared.Readings.TheVariants.{One, Two}
+use Rattle.code.specs.declared.Refusal.{Refusal}
+use Rattle.code.specs.declared.Readings.{Readings}
 use Rattle.code.specs.Definitions.Tables.{Table}
 use Rattle.code.specs.Definitions.Answers.{VerdictMeans}
 use Rattle.code.specs.Definitions.Enlarged.{original_table}
@@ -43,16 +36,16 @@ byte_count a b p = λ i. record { 0 = p i }
 
 module _ (l : Limits) (e : Enlarged) where
   -- Encoding: the message buffer, and the answer
-  pub encodes_unique : {s b c d : List ℕ} {x y : Encoding} → Encodes l e s b c x → Encodes l e s b d y → (c ≡ d) × (x ≡ y)
-  encodes_unique {s} {b} (Encodes.refused {r} h k) (Encodes.refused {r = q} i j) = (k ∙ sym j, ap Not-encoded (lowest_unique (encoding_conditions l e s b) r q h i))
+  pub encodes_unique : {s b c d : List ℕ} {x y : Result SymbolCount Refusal} → Encodes l e s b c x → Encodes l e s b d y → (c ≡ d) × (x ≡ y)
+  encodes_unique {s} {b} (Encodes.refused {r} h k) (Encodes.refused {r = q} i j) = (k ∙ sym j, ap Err (lowest_unique (encoding_conditions l e s b) r q h i))
   encodes_unique {s} {b} (Encodes.refused {r} h k) (Encodes.encoded i j o) = absurd (lowest_none (encoding_conditions l e s b) r h i)
   encodes_unique {s} {b} (Encodes.encoded h k o) (Encodes.refused {r = q} i j) = absurd (lowest_none (encoding_conditions l e s b) q i h)
-  encodes_unique {s} {b} (Encodes.encoded {n} h k o) (Encodes.encoded {n = m} i j p) = (o ∙ sym p, ap Encoded (symbol_count n m (k ∙ sym j)))
+  encodes_unique {s} {b} (Encodes.encoded {n} h k o) (Encodes.encoded {n = m} i j p) = (o ∙ sym p, ap Ok (symbol_count n m (k ∙ sym j)))
 
   -- Reading: the two buffers for readings, the working buffer, and the answer
-  pub reads_unique : {m f g w f1 g1 w1 f2 g2 w2 : List ℕ} {x y : Reading} → ReadsMessage l e m f g w f1 g1 w1 x → ReadsMessage l e m f g w f2 g2 w2 y
+  pub reads_unique : {m f g w f1 g1 w1 f2 g2 w2 : List ℕ} {x y : Result Readings Refusal} → ReadsMessage l e m f g w f1 g1 w1 x → ReadsMessage l e m f g w f2 g2 w2 y
       → (f1 ≡ f2) × (g1 ≡ g2) × (w1 ≡ w2) × (x ≡ y)
-  reads_unique {m} {f} {g} {w} (ReadsMessage.refused {r} h a b c) (ReadsMessage.refused {r = q} i a' b' c') = (a ∙ sym a', b ∙ sym b', c ∙ sym c', ap Not-read (lowest_unique (reading_conditions l e m f g w) r q h i))
+  reads_unique {m} {f} {g} {w} (ReadsMessage.refused {r} h a b c) (ReadsMessage.refused {r = q} i a' b' c') = (a ∙ sym a', b ∙ sym b', c ∙ sym c', ap Err (lowest_unique (reading_conditions l e m f g w) r q h i))
   reads_unique {m} {f} {g} {w} (ReadsMessage.refused {r} h a b c) (ReadsMessage.unreadable i n a' b' c') = absurd (lowest_none (reading_conditions l e m f g w) r h i)
   reads_unique {m} {f} {g} {w} (ReadsMessage.refused {r} h a b c) (ReadsMessage.one i o k a' b' c') = absurd (lowest_none (reading_conditions l e m f g w) r h i)
   reads_unique {m} {f} {g} {w} (ReadsMessage.refused {r} h a b c) (ReadsMessage.two i o k k' a' b' c') = absurd (lowest_none (reading_conditions l e m f g w) r h i)
@@ -64,7 +57,7 @@ module _ (l : Limits) (e : Enlarged) where
   reads_unique {m} {f} {g} {w} (ReadsMessage.one h o k a b c) (ReadsMessage.unreadable i n a' b' c') = absurd (none_not_only n o)
   reads_unique {m} {f} {g} {w} (ReadsMessage.one {n} h o k a b c) (ReadsMessage.one {n = n'} i o' k' a' b' c') =
       let u = only_reading_unique o o' in
-      (a ∙ ap (λ (z : List ℕ). written z f) u ∙ sym a', b ∙ sym b', c ∙ sym c', ap One (word_count n n' (k ∙ ap length u ∙ sym k')))
+      (a ∙ ap (λ (z : List ℕ). written z f) u ∙ sym a', b ∙ sym b', c ∙ sym c', ap (λ n. Ok (One n)) (word_count n n' (k ∙ ap length u ∙ sym k')))
   reads_unique {m} {f} {g} {w} (ReadsMessage.one h o k a b c) (ReadsMessage.two i o' k' k'' a' b' c') = absurd (only_not_two o o')
   reads_unique {m} {f} {g} {w} (ReadsMessage.two h o k k' a b c) (ReadsMessage.refused {r = q} i a' b' c') = absurd (lowest_none (reading_conditions l e m f g w) q i h)
   reads_unique {m} {f} {g} {w} (ReadsMessage.two h o k k' a b c) (ReadsMessage.unreadable i n a' b' c') = absurd (none_not_two n o)
@@ -74,7 +67,7 @@ module _ (l : Limits) (e : Enlarged) where
         a ∙ ap (λ (z : List ℕ). written z f) u.0 ∙ sym a',
         b ∙ ap (λ (z : List ℕ). written z g) u.1 ∙ sym b',
         c ∙ sym c',
-        ap₂ Two (word_count n n' (k ∙ ap length u.0 ∙ sym j)) (word_count p p' (k' ∙ ap length u.1 ∙ sym j')),
+        ap₂ (λ n k. Ok (Two n k)) (word_count n n' (k ∙ ap length u.0 ∙ sym j)) (word_count p p' (k' ∙ ap length u.1 ∙ sym j')),
       )
 
   module _ (t : Table) (m f g m1 f1 g1 m2 f2 g2 x s u x' s' u' : List ℕ) where
@@ -97,37 +90,37 @@ module _ (l : Limits) (e : Enlarged) where
     shown_unique Unbounded Unbounded p q y z = (y.0 ∙ sym z.0, y.1 ∙ sym z.1, y.2 ∙ sym z.2)
 
   -- The verdict: the message buffer, the two for readings, the working buffer, and the answer
-  pub judges_unique : {m f g w m1 f1 g1 w1 m2 f2 g2 w2 : List ℕ} {x y : Judgement} → Judges l e m f g w m1 f1 g1 w1 x → Judges l e m f g w m2 f2 g2 w2 y
+  pub judges_unique : {m f g w m1 f1 g1 w1 m2 f2 g2 w2 : List ℕ} {x y : Result Verdict Refusal} → Judges l e m f g w m1 f1 g1 w1 x → Judges l e m f g w m2 f2 g2 w2 y
       → ((m1 ≡ m2) × (f1 ≡ f2) × (g1 ≡ g2)) × (w1 ≡ w2) × (x ≡ y)
   judges_unique {m} {f} {g} {w} (Judges.refused {r} h a b c d) (Judges.refused {r = q} i a' b' c' d') =
-      ((a ∙ sym a', b ∙ sym b', c ∙ sym c'), d ∙ sym d', ap Not-judged (lowest_unique (verdict_conditions l e m f g w) r q h i))
+      ((a ∙ sym a', b ∙ sym b', c ∙ sym c'), d ∙ sym d', ap Err (lowest_unique (verdict_conditions l e m f g w) r q h i))
   judges_unique {m} {f} {g} {w} (Judges.refused {r} h a b c d) (Judges.judged x s u i v k z) = absurd (lowest_none (verdict_conditions l e m f g w) r h i)
   judges_unique {m} {f} {g} {w} (Judges.judged x s u h v k z) (Judges.refused {r = q} i a' b' c' d') = absurd (lowest_none (verdict_conditions l e m f g w) q i h)
   judges_unique {m} {f} {g} {w} {m1} {f1} {g1} {w1} {m2} {f2} {g2} {w2} (Judges.judged {v} x s u h means shown z) (Judges.judged {v = v'} x' s' u' i means' shown' z') = (
     shown_unique (original_table e) m f g m1 f1 g1 m2 f2 g2 x s u x' s' u' v v' means means' shown shown',
     z ∙ sym z',
-    ap Judged (verdict_unique (original_table e) x s u x' s' u' v v' means means'),
+    ap Ok (verdict_unique (original_table e) x s u x' s' u' v v' means means'),
   )
 
   -- Naming the next word: the working buffer, and the answer
-  pub names_unique : {m w w1 w2 : List ℕ} {x y : Naming} → NamesNext l e m w w1 x → NamesNext l e m w w2 y → (w1 ≡ w2) × (x ≡ y)
-  names_unique {m} {w} (NamesNext.refused {r} h a) (NamesNext.refused {r = q} i b) = (a ∙ sym b, ap Not-named (lowest_unique (naming_conditions l e m w) r q h i))
+  pub names_unique : {m w w1 w2 : List ℕ} {x y : Result ℕ Refusal} → NamesNext l e m w w1 x → NamesNext l e m w w2 y → (w1 ≡ w2) × (x ≡ y)
+  names_unique {m} {w} (NamesNext.refused {r} h a) (NamesNext.refused {r = q} i b) = (a ∙ sym b, ap Err (lowest_unique (naming_conditions l e m w) r q h i))
   names_unique {m} {w} (NamesNext.refused {r} h a) (NamesNext.unnamed i f b) = absurd (lowest_none (naming_conditions l e m w) r h i)
   names_unique {m} {w} (NamesNext.refused {r} h a) (NamesNext.named i n f b) = absurd (lowest_none (naming_conditions l e m w) r h i)
   names_unique {m} {w} (NamesNext.unnamed h f a) (NamesNext.refused {r = q} i b) = absurd (lowest_none (naming_conditions l e m w) q i h)
-  names_unique {m} (NamesNext.unnamed {r} h f a) (NamesNext.unnamed {r = q} i g b) = (a ∙ sym b, ap Not-named (lowest_unique (foretelling_conditions l e m) r q f g))
+  names_unique {m} (NamesNext.unnamed {r} h f a) (NamesNext.unnamed {r = q} i g b) = (a ∙ sym b, ap Err (lowest_unique (foretelling_conditions l e m) r q f g))
   names_unique {m} (NamesNext.unnamed {r} h f a) (NamesNext.named i n g b) = absurd (lowest_none (foretelling_conditions l e m) r f n)
   names_unique {m} {w} (NamesNext.named h n f a) (NamesNext.refused {r = q} i b) = absurd (lowest_none (naming_conditions l e m w) q i h)
   names_unique {m} (NamesNext.named h n f a) (NamesNext.unnamed {r = q} i g b) = absurd (lowest_none (foretelling_conditions l e m) q g n)
-  names_unique (NamesNext.named h n f a) (NamesNext.named i k g b) = (a ∙ sym b, ap Named (foretells_unique f g))
+  names_unique (NamesNext.named h n f a) (NamesNext.named i k g b) = (a ∙ sym b, ap Ok (foretells_unique f g))
 
   -- Splitting a text: the output, message and reading buffers, the working buffer, and the answer
-  pub splits_text_unique : {classes : Classes} {s b m f g w b1 m1 f1 g1 w1 b2 m2 f2 g2 w2 : List ℕ} {x y : Splitting} → SplitsText l e classes s b m f g w b1 m1 f1 g1 w1 x
+  pub splits_text_unique : {classes : Classes} {s b m f g w b1 m1 f1 g1 w1 b2 m2 f2 g2 w2 : List ℕ} {x y : Result ByteCount Refusal} → SplitsText l e classes s b m f g w b1 m1 f1 g1 w1 x
       → SplitsText l e classes s b m f g w b2 m2 f2 g2 w2 y → (b1 ≡ b2) × (m1 ≡ m2) × (f1 ≡ f2) × (g1 ≡ g2) × (w1 ≡ w2) × (x ≡ y)
   splits_text_unique {classes} {s} {b} {m} {f} {g} {w} (SplitsText.refused {r} h a mm c d k) (SplitsText.refused {r = q} i a' mm' c' d' k') =
-      (a ∙ sym a', mm ∙ sym mm', c ∙ sym c', d ∙ sym d', k ∙ sym k', ap Not-split (lowest_unique (splitting_conditions l e classes s b m f g w) r q h i))
+      (a ∙ sym a', mm ∙ sym mm', c ∙ sym c', d ∙ sym d', k ∙ sym k', ap Err (lowest_unique (splitting_conditions l e classes s b m f g w) r q h i))
   splits_text_unique {classes} {s} {b} {m} {f} {g} {w} (SplitsText.refused {r} h a mm c d k) (SplitsText.split i o j a' b' c' d' k') = absurd (lowest_none (splitting_conditions l e classes s b m f g w) r h i)
   splits_text_unique {classes} {s} {b} {m} {f} {g} {w} (SplitsText.split h o j a mm c d k) (SplitsText.refused {r = q} i a' b' c' d' k') = absurd (lowest_none (splitting_conditions l e classes s b m f g w) q i h)
   splits_text_unique {classes} {s} {b} {m} {f} {g} {w} (SplitsText.split {n} h o j a mm c d k) (SplitsText.split {n = n'} i o' j' a' mm' c' d' k') =
       let u = splits_unique o o' in
-      (a ∙ ap (λ (z : List ℕ). written z b) u ∙ sym a', mm ∙ sym mm', c ∙ sym c', d ∙ sym d', k ∙ sym k', ap Split (byte_count n n' (j ∙ ap length u ∙ sym j')))
+      (a ∙ ap (λ (z : List ℕ). written z b) u ∙ sym a', mm ∙ sym mm', c ∙ sym c', d ∙ sym d', k ∙ sym k', ap Ok (byte_count n n' (j ∙ ap length u ∙ sym j')))

@@ -1,15 +1,14 @@
 -- Examples from sheet and ban list to output: code T of 01, and a code with a ban.
-use Rattle.std.specs.Prelude.{◌≡◌, refl, true, false, List, [], ◌∷◌, ◌++◌, ℕ, ◌-◌, length, replicate}
+use Rattle.std.specs.Prelude.{◌≡◌, refl, true, false, List, [], ◌∷◌, ◌++◌, ℕ, ◌-◌, length, replicate, Ok, Result}
 use Rattle.std.proofs.Common.{sym, ap, ◌∙◌, true≢false, arith}
 use Rattle.code.specs.declared.Word.{Word}
 use Rattle.code.specs.declared.Row.{Row}
 use Rattle.code.specs.declared.Code.{Code}
 use Rattle.code.specs.declared.Enlarged.{Enlarged}
-use Rattle.code.specs.declared.SheetAnswer.TheVariants.{Accepted}
 use Rattle.code.specs.declared.Taken.{Taken}
 use Rattle.code.specs.declared.Verdict.TheVariants.{Ambiguous as Two-ways, Finite}
-use Rattle.code.specs.declared.Judgement.{Judgement}
-use Rattle.code.specs.declared.Judgement.TheVariants.{Judged}
+use Rattle.code.specs.declared.Verdict.{Verdict}
+use Rattle.code.specs.declared.Refusal.{Refusal}
 use Rattle.code.specs.Definitions.Lists.{any, every, tabulate, sum, join}
 use Rattle.code.specs.Definitions.Bans.{Ban, has_copy, copies_from}
 use Rattle.code.specs.Definitions.BanLists.{decimal, number_of, is_number, bad_ban, ban_records, refused16, bans_of}
@@ -59,7 +58,7 @@ code_t = record {
   count = 4;
 }
 
-taken_t : taken limits sheet_t ≡ record { answer = Accepted; code = code_t }
+taken_t : taken limits sheet_t ≡ record { answer = Ok tt; code = code_t }
 unfolding taken taken_grid grid body records fields bad_bytes code_of any every tabulate sum
 taken_t = refl
 
@@ -77,13 +76,13 @@ first_two : first_two_of (readings (table_of code_t) (0 ∷ 1 ∷ 0 ∷ [])) (0 
 unfolding first_two_of readings
 first_two = refl
 
-abbrev pub judgement_t : Judgement
-judgement_t = Judged (Two-ways (record { 0 = 3 }) (record { 0 = 2 }) (record { 0 = 2 }))
+abbrev pub judgement_t : Result Verdict Refusal
+judgement_t = Ok (Two-ways (record { 0 = 3 }) (record { 0 = 2 }) (record { 0 = 2 }))
 
 -- 01: "Code T of 000 (0, 10, 01, 101; all 1): ambiguous, message 010, readings 0,1 and 2,0". Without a ban list the list has 0 bytes.
 pub right_t : RightFor sheet_t [] (0 ∷ 1 ∷ 0 ∷ []) (0 ∷ 1 ∷ []) (2 ∷ 0 ∷ []) judgement_t
 right_t = record {
-  given = record { answer = Accepted; enlarged = plain_of limits code_t };
+  given = record { answer = Ok tt; enlarged = plain_of limits code_t };
   gives = sheet_accepted (ap (λ (t : Taken). t.answer) taken_t) (rw taken_t (empty_list from_sheet_t));
   right = (
     refl,
@@ -127,7 +126,7 @@ code_b = record {
   count = 3;
 }
 
-taken_b : taken limits sheet_b ≡ record { answer = Accepted; code = code_b }
+taken_b : taken limits sheet_b ≡ record { answer = Ok tt; code = code_b }
 unfolding taken taken_grid grid body records fields bad_bytes code_of any every tabulate sum
 taken_b = refl
 
@@ -149,7 +148,7 @@ right_17 = refl
 abbrev value_b : Enlarged
 value_b = enlarged_code limits code_b bans_b
 
-enlarges_b : Enlarges limits (plain_of limits code_b) list_b (record { answer = Accepted; enlarged = value_b })
+enlarges_b : Enlarges limits (plain_of limits code_b) list_b (record { answer = Ok tt; enlarged = value_b })
 unfolding plain_of
 enlarges_b =
     enlarged (
@@ -165,15 +164,15 @@ checked_b : check_with (table_of code_b) bans_b (delay 3) ≡ true
 unfolding check_with
 checked_b = refl
 
-abbrev pub judgement_b : Judgement
-judgement_b = Judged (Finite (record { 0 = 3 }))
+abbrev pub judgement_b : Result Verdict Refusal
+judgement_b = Ok (Finite (record { 0 = 3 }))
 
 -- Without the ban 011 has two readings; with it the code has the delay 3.
 pub right_b : RightFor sheet_b list_b [] [] [] judgement_b
 right_b =
     let lists : FromLists limits value_b = record { table = code_b; given = record { sheet = sheet_b; gives = taken_b }; list = list_b; gives = enlarges_b } in
     record {
-      given = record { answer = Accepted; enlarged = value_b };
+      given = record { answer = Ok tt; enlarged = value_b };
       gives = sheet_accepted (ap (λ (t : Taken). t.answer) taken_b) (rw taken_b enlarges_b);
       right = (refl, (same_verdict (lists_alike lists) [] [] [] (Finite (record { 0 = 3 }))).1 (rw listed_b (sound_with (table_of code_b) bans_b (delay 3) checked_b)));
     }

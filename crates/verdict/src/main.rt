@@ -8,12 +8,11 @@ ghost use Rattle.code.specs.Definitions.Sheets.{limits};
 ghost use Rattle.io.specs.Counts.{IsPrefixLen};
 ghost use Rattle.verdict.specs.Answers.{output_room, Gives, Shows, Answers, AnswersInput};
 
-use code::{Enlargement, Judgement, Pairs, Sheet, SheetAnswer};
+use code::{Enlargement, Pairs, Refusal, Sheet, Verdict};
 use printing::Lengths;
 use program::refusals::tell_answer;
 use program::{argument_count, goes_on, read_named, read_standard, write_standard};
 use std::io::Stderr;
-use streams::Input;
 
 #[derive(Clone, Copy)]
 pub struct Output {}
@@ -34,11 +33,11 @@ fn give(errors: Stderr, sheet: &[u8], list: &[u8]) -> Enlargement
     tell_answer(errors, b"verdict: the sheet", answer);
     let value = well_enlarged::plain(taken.code);
     match answer {
-        SheetAnswer::Refused(_) => Enlargement {
+        Err(_) => Enlargement {
             answer: answer,
             enlarged: value,
         },
-        SheetAnswer::Accepted => {
+        Ok(()) => {
             let given = ban_enlarge::enlarge(value, list);
             let listed = given.answer;
             tell_answer(errors, b"verdict: the ban list", listed);
@@ -55,19 +54,14 @@ fn judge(
     message: &mut [u8],
     first: &mut [u8],
     second: &mut [u8],
-) -> Judgement
+) -> Result<Verdict, Refusal>
     requires { (length message.old ≡ verdict_room limits) × (length first.old ≡ verdict_room limits) × (length second.old ≡ verdict_room limits) }
     ensures { Shows sheet.now list.now message.new first.new second.new result }
 {
     let given = give(errors, sheet, list);
-    let answer = given.answer;
-    match answer {
-        SheetAnswer::Refused(refusal) => Judgement::Refused(refusal),
-        SheetAnswer::Accepted => {
-            let mut work = [0u64; Pairs::MARKS];
-            decipher::verdict(given.enlarged, message, first, second, &mut work)
-        }
-    }
+    given.answer?;
+    let mut work = [0u64; Pairs::MARKS];
+    decipher::verdict(given.enlarged, message, first, second, &mut work)
 }
 
 // Puts the printed result of a sheet and a ban list at the start of `out`, and gives its length.
@@ -82,7 +76,8 @@ fn answer(errors: Stderr, sheet: &[u8], list: &[u8], out: &mut [u8]) -> usize
     printing::print_result(judgement, &message, &first, &second, out)
 }
 
-// The answer to the first n bytes of an input and the first k of a file. Each buffer is longer than a sheet or a list may be, so what fills it is refused.
+// The answer to the first n bytes of an input and the first k of a file. Each buffer is longer than a sheet or a list may be, so what fills it is refused: that is
+// said of a buffer and of a number, which stand side by side here.
 fn answer_input(
     errors: Stderr,
     input: &[u8],
@@ -121,12 +116,12 @@ fn main(rt: HostRuntime) {
         b"verdict: cannot read the ban list",
         &mut file,
     );
-    let Input::Bytes(k) = listed else {
+    let Ok(k) = listed else {
         return;
     };
     let mut input = [0u8; Sheet::BYTES + 1];
     let read = read_standard(&rt, b"verdict: cannot read standard input", &mut input);
-    let Input::Bytes(n) = read else {
+    let Ok(n) = read else {
         return;
     };
     let mut out = [0u8; Output::BYTES];

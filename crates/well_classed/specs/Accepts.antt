@@ -1,20 +1,19 @@
 -- A class sheet gives classes exactly where none of the refusals 1 and 18 to 20 holds of it and its ranges give the classes.
-use Rattle.std.specs.Prelude.{◌≡◌, Bool, true, false, List, ℕ, if◌then◌else◌}
+use Rattle.std.specs.Prelude.{◌≡◌, Bool, true, false, List, ℕ, if◌then◌else◌, Err, Ok}
 use Rattle.std.proofs.Math.Path.{refl, ap}
 use Rattle.std.proofs.Common.{sym, ◌∙◌, arith}
 use Rattle.code.specs.declared.Classes.{Classes}
 use Rattle.code.specs.declared.Limits.{Limits}
 use Rattle.code.specs.declared.Refusal.{Refusal}
 use Rattle.code.specs.declared.Refusal.TheVariants.{SheetLength, ClassRecord, ClassRange, ClassOverlap}
-use Rattle.code.specs.declared.SheetAnswer.TheVariants.{Accepted, Refused}
 use Rattle.code.specs.declared.TakenClasses.{TakenClasses}
 use Rattle.code.specs.Definitions.Sheets.{wrong_length}
 use Rattle.code.specs.Definitions.ClassSheets.{ranges_of, refused18, refused19, refused20, classes_of, no_classes, taken_classes}
 
 -- a test that does not refuse what is accepted
-passed : (t : Bool) (r : Refusal) (u : TakenClasses) → (if t then no_classes r else u).answer ≡ Accepted → (t ≡ false) × (u.answer ≡ Accepted)
+passed : (t : Bool) (r : Refusal) (u : TakenClasses) → (if t then no_classes r else u).answer ≡ Ok tt → (t ≡ false) × (u.answer ≡ Ok tt)
 passed true r u e =
-    let answers : Refused r ≡ Accepted = e in
+    let answers : Err r ≡ Ok tt = e in
     let none : ◌≡◌ {A = ℕ} 0 1 = cc answers in
     absurd (omega arith)
 passed false r u e = (refl, e)
@@ -27,11 +26,11 @@ module _ (l : Limits) (s : List ℕ) where
     pub once : refused20 (ranges_of s) ≡ false
     pub gives : classes_of (ranges_of s) ≡ c
 
-  pub accepted : {c : Classes} → Accepts c → taken_classes l s ≡ record { answer = Accepted; classes = c }
+  pub accepted : {c : Classes} → Accepts c → taken_classes l s ≡ record { answer = Ok tt; classes = c }
   unfolding taken_classes
   accepted a = rw (a.size, a.records, a.upright, a.once, a.gives)
 
-  pub accepts : {c : Classes} → taken_classes l s ≡ record { answer = Accepted; classes = c } → Accepts c
+  pub accepts : {c : Classes} → taken_classes l s ≡ record { answer = Ok tt; classes = c } → Accepts c
   unfolding taken_classes
   accepts e =
       let p1 = passed (wrong_length l.classes s) SheetLength _ (ap (λ (t : TakenClasses). t.answer) e) in

@@ -10,38 +10,28 @@ ghost use Rattle.code.specs.Definitions.Texts.{other, class_of, is_letter, signs
 ghost use Rattle.code.specs.Laws.Below.{Some};
 ghost use Rattle.code.specs.Laws.Exactly.{Exactly};
 
+use class_sheet::SIGNS;
 use code::Classes;
-use code::bools::{and, or};
 use text_runs::is_letter;
 
 // Whether every entry is a symbol or `OTHER`, and some byte is a letter.
 fn entries_fit(classes: &[u8; Classes::BYTES]) -> bool
     ensures { Exactly result (((b : ℕ) → b < different_bytes → class_of classes.now b ≤ other) × Some (is_letter classes.now) different_bytes) }
 {
-    let mut small = true;
-    let mut letter = false;
-    let mut b: usize = 0;
-    while b < Classes::BYTES {
-        let class = classes[b];
-        small = and(class <= Classes::OTHER, small);
-        letter = or(class < Classes::OTHER, letter);
-        b += 1;
-    }
-    and(small, letter)
+    classes.iter().all(|class| *class <= Classes::OTHER)
+        && classes.iter().any(|class| *class < Classes::OTHER)
 }
 
 // Whether B7 or a bracket is a letter.
 fn some_sign_letter(classes: &[u8; Classes::BYTES]) -> bool
     ensures { result ≡ any (is_letter classes.now) signs }
 {
-    let round = or(is_letter(classes, b'('), is_letter(classes, b')'));
-    let square = or(is_letter(classes, b'['), is_letter(classes, b']'));
-    or(is_letter(classes, b'\xB7'), or(round, square))
+    SIGNS.iter().any(|b| is_letter(classes, *b))
 }
 
 pub fn well_classed(classes: Classes) -> bool
     ensures { Exactly result (FromClassSheet limits classes) }
 {
-    let entries = classes.entries;
-    and(entries_fit(&entries), !some_sign_letter(&entries))
+    let entries = &classes.entries;
+    entries_fit(entries) && !some_sign_letter(entries)
 }

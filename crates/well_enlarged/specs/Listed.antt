@@ -1,12 +1,11 @@
 -- The values that a sheet and a ban list give are just the well-enlarged ones: an accepted list has its bans, and a list is written for the bans of a value.
-use Rattle.std.specs.Prelude.{◌≡◌, Bool, true, false, List, ◌↔◌, ℕ, ◌+◌, ◌-◌, ◌*◌, ◌≤◌, ltb, length}
+use Rattle.std.specs.Prelude.{◌≡◌, Bool, true, false, List, ◌↔◌, ℕ, ◌+◌, ◌-◌, ◌*◌, ◌≤◌, ltb, length, Err, Ok}
 use Rattle.std.proofs.Math.Path.{refl, sym}
 use Rattle.std.proofs.Common.{ap, ◌∙◌, mul-le-mul, arith, ltb-false}
 use Rattle.std.proofs.Math.Bool.{true≢false}
 use Rattle.code.specs.declared.Enlarged.{Enlarged}
 use Rattle.code.specs.declared.Enlargement.{Enlargement}
 use Rattle.code.specs.declared.Refusal.{Refusal}
-use Rattle.code.specs.declared.SheetAnswer.TheVariants.{Accepted, Refused}
 use Rattle.code.specs.declared.Limits.{Limits}
 use Rattle.code.specs.declared.Code.{Code}
 use Rattle.code.specs.Definitions.Lists.{any, tabulate}
@@ -37,15 +36,15 @@ never_true true n = absurd (n refl)
 never_true false n = refl
 
 -- A list that is accepted is not refused.
-pub accepted_never : {e d : Enlarged} {r : Refusal} → ◌≡◌ {A = Enlargement} (record { answer = Accepted; enlarged = e }) (record { answer = Refused r; enlarged = d }) → ⊥
+pub accepted_never : {e d : Enlarged} {r : Refusal} → ◌≡◌ {A = Enlargement} (record { answer = Ok tt; enlarged = e }) (record { answer = Err r; enlarged = d }) → ⊥
 accepted_never {r = r} x =
-    let a : Accepted ≡ Refused r = ap (λ (y : Enlargement). y.answer) x in
+    let a : (Ok tt) ≡ Err r = ap (λ (y : Enlargement). y.answer) x in
     let y : ◌≡◌ {A = ℕ} 0 1 = cc in
     omega arith
 
 module _ {l : Limits} {e : Enlarged} where
   -- the bans that an accepted list gives
-  unfoldable pub given_by : (c : Code) (s : List ℕ) → WellFormed l c → Enlarges l (plain_of l c) s (record { answer = Accepted; enlarged = e }) → FromBans l e
+  unfoldable pub given_by : (c : Code) (s : List ℕ) → WellFormed l c → Enlarges l (plain_of l c) s (record { answer = Ok tt; enlarged = e }) → FromBans l e
   unfolding plain_of
   given_by c s w (refused h x) = absurd (accepted_never x)
   given_by c s w (enlarged h x) =

@@ -1,17 +1,12 @@
--- What the tests of a value ask, in the terms of the arrays that they are lent.
-use Rattle.std.specs.Prelude.{◌≡◌, List, ℕ, ◌+◌, ◌-◌, ◌≤◌, ◌<◌, length, get_or}
-use Rattle.code.specs.declared.Row.{Row}
-use Rattle.code.specs.declared.Code.{Code}
+-- What the tests of a value ask.
+use Rattle.std.specs.Prelude.{◌≡◌, List, ℕ, ◌+◌, ◌-◌, ◌≤◌, ◌<◌, get_or}
 use Rattle.code.specs.declared.Enlarged.{Enlarged}
 use Rattle.code.specs.declared.Limits.{Limits}
-use Rattle.code.specs.Definitions.Lists.{tabulate}
 use Rattle.code.specs.Definitions.Tables.{no_row}
+use Rattle.code.specs.Definitions.Lists.{tabulate}
 use Rattle.code.specs.Definitions.Bans.{Copy, number_after}
 use Rattle.code.specs.Definitions.Enlarged.{copies_in}
 use Rattle.well_enlarged.specs.WellEnlarged.{NumberFits, CopyFits}
-
-abbrev pub value_of : Code → ℕ → List ℕ → List ℕ → Enlarged
-value_of c n origins behind = record { code = c; originals = n; origins = origins; behind = behind }
 
 -- number x, as a copy
 abbrev pub number_of : List ℕ → List ℕ → ℕ → Copy
@@ -21,35 +16,23 @@ number_of origins behind x = record { behind = get_or behind x 0; of = get_or or
 abbrev pub copies_at : List ℕ → List ℕ → ℕ → ℕ → List Copy
 copies_at origins behind n count = tabulate (λ i. number_of origins behind (n + i)) (count - n)
 
-abbrev pub NumbersFit : Limits → ℕ → ℕ → List ℕ → List ℕ → Type 0
-NumbersFit l n count origins behind = (x : ℕ) → x < l.words → NumberFits n count x (get_or origins x 0) (get_or behind x 0)
-
--- What the matrix's tests read is there.
-pub record Lent (l : Limits) (origins behind : List ℕ) (n count : ℕ) : Type 0 where
-  pub most : n ≤ count
-  pub room : count ≤ l.words
-  pub all_origins : length origins ≡ l.words
-  pub all_behind : length behind ≡ l.words
-  pub known : (y : ℕ) → get_or origins y 0 < l.words
+abbrev pub NumbersFit : Limits → Enlarged → Type 0
+NumbersFit l e = (x : ℕ) → x < l.words → NumberFits e.originals e.code.count x (get_or e.origins x 0) (get_or e.behind x 0)
 
 -- The copy x is the one that stands for its word where it stands.
 abbrev pub AtOwnPlace : Enlarged → ℕ → Type 0
 AtOwnPlace e x = number_after e.originals (copies_in e) (get_or e.behind x 0) (get_or e.origins x 0) ≡ x
 
--- Number x, if it is a copy.
-abbrev pub IfCopyFits : Enlarged → ℕ → Type 0
-IfCopyFits e x = e.originals ≤ x → AtOwnPlace e x × CopyFits e x
-
 abbrev pub CopiesFit : Enlarged → Type 0
-CopiesFit e = (x : ℕ) → x < e.code.count → IfCopyFits e x
+CopiesFit e = (x : ℕ) → e.originals ≤ x → x < e.code.count → AtOwnPlace e x × CopyFits e x
 
 -- Entry y of row x is 0; or x is the number of its word after the word of y, and may follow this.
-pub record EntryFits (row : Row) (origins behind : List ℕ) (n count x y : ℕ) : Type 0 where
-  pub base : get_or row.entries y 0 ≡ 1 → get_or row.entries (get_or origins y 0) 0 ≡ 1
-  pub only : get_or row.entries y 0 ≡ 1 → number_after n (copies_at origins behind n count) (get_or origins y 0) (get_or origins x 0) ≡ x
+pub record EntryFits (e : Enlarged) (x y : ℕ) : Type 0 where
+  pub base : get_or (get_or e.code.rows x no_row).entries y 0 ≡ 1 → get_or (get_or e.code.rows x no_row).entries (get_or e.origins y 0) 0 ≡ 1
+  pub only : get_or (get_or e.code.rows x no_row).entries y 0 ≡ 1 → number_after e.originals (copies_in e) (get_or e.origins y 0) (get_or e.origins x 0) ≡ x
 
 abbrev pub RowFits : Enlarged → ℕ → Type 0
-RowFits e x = (y : ℕ) → y < e.code.count → EntryFits (get_or e.code.rows x no_row) e.origins e.behind e.originals e.code.count x y
+RowFits e x = (y : ℕ) → y < e.code.count → EntryFits e x y
 
 abbrev pub MatrixFits : Enlarged → Type 0
 MatrixFits e = (x : ℕ) → x < e.code.count → RowFits e x

@@ -5,17 +5,17 @@
 
 ghost use Rattle.std.specs.Prelude.{[], ◌≡◌, ℕ, ◌≤◌, ◌<◌, length, get_or};
 ghost use Rattle.code.specs.Definitions.Bans.{origin, number_after};
-ghost use Rattle.code.specs.Definitions.Enlarged.{plain_of};
+ghost use Rattle.code.specs.Definitions.Enlarged.{copies_in, plain_of};
 ghost use Rattle.code.specs.Definitions.Operations.{FromLists};
 ghost use Rattle.code.specs.Definitions.Sheets.{limits};
 ghost use Rattle.code.specs.Laws.Below.{Some};
 ghost use Rattle.code.specs.Laws.Exactly.{Exactly};
 ghost use Rattle.code.specs.Laws.WellFormed.{WellFormed};
 ghost use Rattle.well_enlarged.specs.WellEnlarged.{NumberFits, Numbered, barred, CopyFits, WellEnlarged};
-ghost use Rattle.well_enlarged.specs.Tests.{copies_at, value_of, NumbersFit, Lent, AtOwnPlace, CopiesFit, EntryFits, MatrixFits};
+ghost use Rattle.well_enlarged.specs.Tests.{copies_at, NumbersFit, AtOwnPlace, CopiesFit, EntryFits, RowFits, MatrixFits};
 
-use code::bools::and;
-use code::{Code, Enlarged, Row, Word};
+use code::{Code, Enlarged, Row};
+use std::array;
 
 // The origin of number x where n words have no copies.
 fn own(x: usize, n: usize) -> u8
@@ -29,25 +29,13 @@ fn own(x: usize, n: usize) -> u8
 pub fn plain(code: Code) -> Enlarged
     ensures { result ≡ plain_of limits code }
 {
-    let mut origins = [0u8; Code::WORDS];
-    let mut x: usize = 0;
-    while x < Code::WORDS {
-        origins[x] = own(x, code.count);
-        x += 1;
-    }
+    let origins = array::from_fn(|x| own(x, code.count));
     Enlarged {
-        code: code,
+        code,
         originals: code.count,
-        origins: origins,
+        origins,
         behind: [0; Code::WORDS],
     }
-}
-
-// A byte as a number of a word.
-fn wide(number: u8) -> usize
-    ensures { result ≡ number }
-{
-    number as usize
 }
 
 // Number x of n words and, up to `count`, copies: one of the word `of`, and after the word `behind`.
@@ -56,42 +44,34 @@ fn number_fits(x: usize, n: usize, count: usize, of: usize, behind: usize) -> bo
     ensures { Exactly result (NumberFits n count x of behind) }
 {
     if x < n {
-        return and(of == x, behind == 0);
+        (of == x) & (behind == 0)
+    } else if x < count {
+        (of < n) & (behind < n) & (behind != of)
+    } else {
+        (of == 0) & (behind == 0)
     }
-    if x < count {
-        return and(and(of < n, behind < n), behind != of);
-    }
-    and(of == 0, behind == 0)
 }
 
 // All numbers, also those past the count.
-fn numbers_fit(origins: &[u8], behind: &[u8], n: usize, count: usize) -> bool
-    requires { (n ≤ count) × (length origins.now ≡ limits.words) × (length behind.now ≡ limits.words) }
-    ensures { Exactly result (NumbersFit limits n count origins.now behind.now) }
+fn numbers_fit(e: &Enlarged) -> bool
+    requires { e.now.originals ≤ e.now.code.count }
+    ensures { Exactly result (NumbersFit limits e.now) }
 {
-    let mut ok = true;
-    let mut x = 0;
-    while x < Code::WORDS {
-        let of = wide(origins[x]);
-        let after = wide(behind[x]);
-        ok = and(number_fits(x, n, count, of, after), ok);
-        x += 1;
-    }
-    ok
+    (0..Code::WORDS).all(|x| number_fits(
+        x,
+        e.originals,
+        e.code.count,
+        usize::from(e.origins[x]),
+        usize::from(e.behind[x]),
+    ))
 }
 
-// The numbers of n words and, up to `count`, copies.
-fn numbered(origins: &[u8], behind: &[u8], n: usize, count: usize) -> bool
-    requires { (length origins.now ≡ limits.words) × (length behind.now ≡ limits.words) }
-    ensures { Exactly result ((1 ≤ n) × ((n ≤ count) × NumbersFit limits n count origins.now behind.now)) }
+// The numbers of the words and of the copies behind them.
+fn numbered(e: &Enlarged) -> bool
+    requires { e.now.code.count ≤ limits.words }
+    ensures { Exactly result (Numbered limits e.now) }
 {
-    if n < 1 {
-        return false;
-    }
-    if count < n {
-        return false;
-    }
-    numbers_fit(origins, behind, n, count)
+    1 <= e.originals && e.originals <= e.code.count && numbers_fit(e)
 }
 
 // The number of the word x after the word y: that of the copy of x after y, if there is one.
@@ -106,170 +86,107 @@ pub fn number_after(
     requires { (n ≤ count) × (count ≤ length origins.now) × (count ≤ length behind.now) }
     ensures { result ≡ number_after n (copies_at origins.now behind.now n count) y x }
 {
-    let mut i = n;
-    while i < count {
-        if and(wide(behind[i]) == y, wide(origins[i]) == x) {
-            return i;
-        }
-        i += 1;
-    }
-    x
+    (n..count)
+        .find(|&i| usize::from(behind[i]) == y && usize::from(origins[i]) == x)
+        .unwrap_or(x)
+}
+
+// The same in a code with copies.
+pub fn number_in(e: &Enlarged, y: usize, x: usize) -> usize
+    requires { (e.now.originals ≤ e.now.code.count) × (e.now.code.count ≤ limits.words) }
+    ensures { result ≡ number_after e.now.originals (copies_in e.now) y x }
+{
+    number_after(&e.origins, &e.behind, e.originals, e.code.count, y, x)
 }
 
 // Whether there is a 1 in column y of a row.
-fn is_one(row: Row, y: usize) -> bool
+fn is_one(row: &Row, y: usize) -> bool
     requires { y < limits.words }
-    ensures { Exactly result (get_or row.entries y 0 ≡ 1) }
+    ensures { Exactly result (get_or row.now.entries y 0 ≡ 1) }
 {
     row.entries[y] == 1
 }
 
-fn same_symbols(a: &[u8], b: &[u8]) -> bool
-    requires { length a.now ≡ length b.now }
-    ensures { Exactly result (a.now ≡ b.now) }
+// Whether the word w may not come behind the copy x.
+fn is_barred(e: &Enlarged, x: usize, w: usize) -> bool
+    requires { Numbered limits e.now × (x < e.now.code.count) × (w < e.now.originals) }
+    ensures { result ≡ barred e.now x w }
 {
-    let mut ok = true;
-    let mut p = 0;
-    while p < a.len() {
-        ok = and(a[p] == b[p], ok);
-        p += 1;
-    }
-    ok
-}
-
-fn same_word(a: Word, b: Word) -> bool
-    ensures { Exactly result (a ≡ b) }
-{
-    let symbols = a.symbols;
-    let others = b.symbols;
-    and(a.len == b.len, same_symbols(&symbols, &others))
+    let next = number_in(e, usize::from(e.origins[x]), w);
+    !is_one(&e.code.rows[next], x)
 }
 
 // Whether some word may not come behind the copy x.
-fn has_ban(code: Code, origins: &[u8], behind: &[u8], n: usize, x: usize) -> bool
-    requires { Numbered limits (value_of code n origins.now behind.now) × (x < code.count) }
-    ensures { Exactly result (Some (barred (value_of code n origins.now behind.now) x) n) }
+fn has_ban(e: &Enlarged, x: usize) -> bool
+    requires { Numbered limits e.now × (x < e.now.code.count) }
+    ensures { Exactly result (Some (barred e.now x) e.now.originals) }
 {
-    let of = wide(origins[x]);
-    let mut w = 0;
-    while w < n {
-        let next = number_after(origins, behind, n, code.count, of, w);
-        let row = code.rows[next];
-        if !is_one(row, x) {
-            return true;
-        }
-        w += 1;
-    }
-    false
+    (0..e.originals).any(|w| is_barred(e, x, w))
 }
 
 // The copy x: no other is of its word after the same word, it has its word's symbols, cannot begin, and comes from some ban.
-fn copy_fits(code: Code, origins: &[u8], behind: &[u8], n: usize, x: usize) -> bool
-    requires { Numbered limits (value_of code n origins.now behind.now) × (n ≤ x) × (x < code.count) }
-    ensures { Exactly result (AtOwnPlace (value_of code n origins.now behind.now) x × CopyFits (value_of code n origins.now behind.now) x) }
+fn copy_fits(e: &Enlarged, x: usize) -> bool
+    requires { Numbered limits e.now × (e.now.originals ≤ x) × (x < e.now.code.count) }
+    ensures { Exactly result (AtOwnPlace e.now x × CopyFits e.now x) }
 {
-    let of = wide(origins[x]);
-    let after = wide(behind[x]);
-    let place = number_after(origins, behind, n, code.count, after, of);
-    let copy = code.words[x];
-    let word = code.words[of];
-    let mark = code.begins[x];
-    let ban = has_ban(code, origins, behind, n, x);
-    and(place == x, and(same_word(copy, word), and(mark == 0, ban)))
+    let of = usize::from(e.origins[x]);
+    let after = usize::from(e.behind[x]);
+    (number_in(e, after, of) == x)
+        & (e.code.words[x] == e.code.words[of])
+        & (e.code.begins[x] == 0)
+        & has_ban(e, x)
 }
 
-fn copies_fit(code: Code, origins: &[u8], behind: &[u8], n: usize) -> bool
-    requires { Numbered limits (value_of code n origins.now behind.now) }
-    ensures { Exactly result (CopiesFit (value_of code n origins.now behind.now)) }
+fn copies_fit(e: &Enlarged) -> bool
+    requires { Numbered limits e.now }
+    ensures { Exactly result (CopiesFit e.now) }
 {
-    let mut ok = true;
-    let mut x = n;
-    while x < code.count {
-        ok = and(copy_fits(code, origins, behind, n, x), ok);
-        x += 1;
-    }
-    ok
+    (e.originals..e.code.count).all(|x| copy_fits(e, x))
 }
 
 // Entry y of row x.
-fn entry_fits(
-    row: Row,
-    origins: &[u8],
-    behind: &[u8],
-    n: usize,
-    count: usize,
-    x: usize,
-    y: usize,
-) -> bool
-    requires { Lent limits origins.now behind.now n count × (x < count) × (y < count) }
-    ensures { Exactly result (EntryFits row origins.now behind.now n count x y) }
+fn entry_fits(e: &Enlarged, x: usize, y: usize) -> bool
+    requires { Numbered limits e.now × (x < e.now.code.count) × (y < e.now.code.count) }
+    ensures { Exactly result (EntryFits e.now x y) }
 {
+    let row = &e.code.rows[x];
     if !is_one(row, y) {
         return true;
     }
-    let after = wide(origins[y]);
-    if !is_one(row, after) {
-        return false;
-    }
-    let of = wide(origins[x]);
-    number_after(origins, behind, n, count, after, of) == x
+    let after = usize::from(e.origins[y]);
+    let of = usize::from(e.origins[x]);
+    is_one(row, after) & (number_in(e, after, of) == x)
 }
 
 // All entries of row x.
-fn row_fits(row: Row, origins: &[u8], behind: &[u8], n: usize, count: usize, x: usize) -> bool
-    requires { Lent limits origins.now behind.now n count × (x < count) }
-    ensures { Exactly result ((y : ℕ) → y < count → EntryFits row origins.now behind.now n count x y) }
+fn row_fits(e: &Enlarged, x: usize) -> bool
+    requires { Numbered limits e.now × (x < e.now.code.count) }
+    ensures { Exactly result (RowFits e.now x) }
 {
-    let mut ok = true;
-    let mut y = 0;
-    while y < count {
-        ok = and(entry_fits(row, origins, behind, n, count, x, y), ok);
-        y += 1;
-    }
-    ok
+    (0..e.code.count).all(|y| entry_fits(e, x, y))
 }
 
-fn matrix_fits(code: Code, origins: &[u8], behind: &[u8], n: usize) -> bool
-    requires { Numbered limits (value_of code n origins.now behind.now) }
-    ensures { Exactly result (MatrixFits (value_of code n origins.now behind.now)) }
+fn matrix_fits(e: &Enlarged) -> bool
+    requires { Numbered limits e.now }
+    ensures { Exactly result (MatrixFits e.now) }
 {
-    let mut ok = true;
-    let mut x = 0;
-    while x < code.count {
-        let row = code.rows[x];
-        ok = and(row_fits(row, origins, behind, n, code.count, x), ok);
-        x += 1;
-    }
-    ok
+    (0..e.code.count).all(|x| row_fits(e, x))
 }
 
 // The copies and the matrix; where there are no copies, nothing is to be asked of them.
-fn copied_well(code: Code, origins: &[u8], behind: &[u8], n: usize) -> bool
-    requires { WellFormed limits code × Numbered limits (value_of code n origins.now behind.now) }
-    ensures { Exactly result (WellEnlarged limits (value_of code n origins.now behind.now)) }
+fn copied_well(e: &Enlarged) -> bool
+    requires { WellFormed limits e.now.code × Numbered limits e.now }
+    ensures { Exactly result (WellEnlarged limits e.now) }
 {
-    if n == code.count {
+    if e.originals == e.code.count {
         return true;
     }
-    and(
-        copies_fit(code, origins, behind, n),
-        matrix_fits(code, origins, behind, n),
-    )
+    copies_fit(e) & matrix_fits(e)
 }
 
 // Whether a sheet and a ban list give this value: where not, refusal 8 holds.
 pub fn well_enlarged(e: Enlarged) -> bool
     ensures { Exactly result (FromLists limits e) }
 {
-    let code = e.code;
-    if !well_formed::well_formed(code) {
-        return false;
-    }
-    let n = e.originals;
-    let origins = e.origins;
-    let behind = e.behind;
-    if !numbered(&origins, &behind, n, code.count) {
-        return false;
-    }
-    copied_well(code, &origins, &behind, n)
+    well_formed::well_formed(e.code) && numbered(&e) && copied_well(&e)
 }

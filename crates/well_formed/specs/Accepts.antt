@@ -1,12 +1,11 @@
 -- A sheet gives a table exactly where none of the refusals 1 to 7 and 15 holds of it and its fields hold the table.
-use Rattle.std.specs.Prelude.{◌≡◌, List, ℕ}
+use Rattle.std.specs.Prelude.{◌≡◌, List, ℕ, Ok}
 use Rattle.std.proofs.Math.Path.{refl, ap}
 use Rattle.std.proofs.Common.{sym, ◌∙◌}
 use Rattle.std.proofs.Math.Bool.{false}
 use Rattle.code.specs.declared.Code.{Code}
 use Rattle.code.specs.declared.Limits.{Limits}
 use Rattle.code.specs.declared.Refusal.TheVariants.{SheetLength, SheetBytes}
-use Rattle.code.specs.declared.SheetAnswer.TheVariants.{Accepted}
 use Rattle.code.specs.declared.Taken.{Taken}
 use Rattle.code.specs.Definitions.Sheets.{grid, bad_bytes, code_of, refused1, taken}
 use Rattle.code.specs.Laws.Fits.{passed, Fits, fits, fits_taken}
@@ -18,11 +17,11 @@ module _ (l : Limits) (s : List ℕ) where
     pub records : Fits l (grid s)
     pub gives : code_of l (grid s) ≡ c
 
-  pub accepted : {c : Code} → Accepts c → taken l s ≡ record { answer = Accepted; code = c }
+  pub accepted : {c : Code} → Accepts c → taken l s ≡ record { answer = Ok tt; code = c }
   unfolding taken
   accepted a = rw (a.size, a.bytes, fits_taken l (grid s) a.records, a.gives)
 
-  pub accepts : {c : Code} → taken l s ≡ record { answer = Accepted; code = c } → Accepts c
+  pub accepts : {c : Code} → taken l s ≡ record { answer = Ok tt; code = c } → Accepts c
   unfolding taken
   accepts e =
       let p1 = passed l (refused1 l s) SheetLength _ (ap (λ (t : Taken). t.answer) e) in

@@ -1,15 +1,14 @@
 -- An array is held to an array of greatest values, with one number in all cells in use and zero in the others: how such an array is filled, and that no cell is
 -- above the same cell there exactly where the array fits.
-use Rattle.std.specs.Prelude.{◌≡◌, refl, List, ◌++◌, ◌↔◌, ℕ, ◌+◌, ◌-◌, ◌≤◌, ◌<◌, min, max, ltb, length, drop, get_or, set, replicate, if◌then◌else◌}
-use Rattle.std.proofs.Common.{◌∙◌, arith, length-set, below_none, below_more, lt-ltb, le-ltb}
-use Rattle.std.proofs.Math.Nat.{zero-min}
+use Rattle.std.specs.Prelude.{◌≡◌, refl, List, ◌++◌, ◌↔◌, ℕ, ◌+◌, ◌-◌, ◌≤◌, ◌<◌, min, max, ltb, length, drop, get_or, replicate, if◌then◌else◌}
+use Rattle.std.proofs.Common.{sym, ◌∙◌, arith, below_none, below_more, lt-ltb, le-ltb}
 use Rattle.std.proofs.Math.Decide.{dec_lt}
 use Rattle.std.proofs.lemmas.List.{length-replicate, get_or-replicate}
 use Rattle.std.proofs.Math.ListN.{get_or-eq_default}
 use Rattle.code.specs.declared.Limits.{Limits}
 use Rattle.code.specs.Definitions.Lists.{tabulate}
-use Rattle.code.specs.Laws.Lists.{get_d_tabulate}
-use Rattle.code.specs.Laws.Filling.{fill_next, fill_rest}
+use Rattle.code.specs.Laws.Lists.{get_d_tabulate, tabulate_list}
+use Rattle.code.specs.Laws.Filling.{fill_rest}
 use Rattle.code.specs.Laws.WellFormed.{CellsFit}
 
 module _ (a m : List ℕ) where
@@ -40,39 +39,25 @@ module _ (v n : ℕ) (d : List ℕ) where
   abbrev pub filled : List ℕ
   filled = tabulate filled_at (length d)
 
-  -- Filled up to p: from there on, and from n on, it is as before.
-  pub record FilledTo (p : ℕ) (m : List ℕ) : Type 0 where
-    pub within : p ≤ length d
-    pub long : length m ≡ length d
-    pub cells : m ≡ tabulate filled_at (min p n) ++ drop (min p n) d
-
-  pub filled_none : FilledTo 0 d
-  unfolding tabulate
-  filled_none = record { within = omega arith; long = refl; cells = rw (zero-min n) }
-
   used : (p : ℕ) → p < n → filled_at p ≡ v
   used p h = rw (lt-ltb p n h)
 
   unused : (p : ℕ) → n ≤ p → filled_at p ≡ get_or d p 0
   unused p h = rw (le-ltb p n h)
 
-  pub filled_more : (p : ℕ) {m : List ℕ} → p < length d → p < n → FilledTo p m → FilledTo (p + 1) (set m p v)
-  filled_more p h i before =
-      let here : min p n ≡ p = omega arith in
-      let next : min (p + 1) n ≡ p + 1 = omega arith in
-      record { within = omega arith; long = simp length-set before.long; cells = rw (next, before.cells, here) (rw (used p i) at (fill_next filled_at d p h)) }
+  front : (m : ℕ) → m ≤ n → replicate m v ≡ tabulate filled_at m
+  front m h = sym (tabulate_list filled_at m (replicate m v) v (length-replicate m v) (λ k i. used k (omega arith) ∙ sym (get_or-replicate m k v v i)))
 
-  pub filled_past : (p : ℕ) {m : List ℕ} → p < length d → n ≤ p → FilledTo p m → FilledTo (p + 1) m
-  filled_past p h i before =
-      let same : min (p + 1) n ≡ min p n = omega arith in
-      record { within = omega arith; long = before.long; cells = rw same before.cells }
-
-  pub filled_all : {p : ℕ} {m : List ℕ} → FilledTo p m → length d ≤ p → m ≡ filled
-  filled_all {p} all h = all.cells ∙ fill_rest filled_at d 0 (min p n) (length d) refl (λ i j k. unused i (omega arith)) (omega (arith, all.within))
+  -- v up to n or to the end, and behind it what stood there
+  pub filled_front : (m : ℕ) → m ≡ min n (length d) → replicate m v ++ drop m d ≡ filled
+  filled_front m e = rw (front m (omega arith)) (fill_rest filled_at d 0 m (length d) refl (λ i j k. unused i (omega arith)) (omega arith))
 
 -- Greatest values: v in the first n cells, and zeros.
 abbrev pub greatest : ℕ → ℕ → ℕ → List ℕ
 greatest v n size = filled v n (replicate size 0)
+
+pub greatest_front : (v n size m : ℕ) → m ≡ min n size → replicate m v ++ drop m (replicate size 0) ≡ greatest v n size
+greatest_front v n size m e = filled_front v n (replicate size 0) m (omega (arith, length-replicate {A = ℕ} size 0))
 
 module _ (v n size : ℕ) (a : List ℕ) (array : length a ≡ size) where
   cell : (p : ℕ) → p < length a → get_or (greatest v n size) p 0 ≡ filled_at v n (replicate size 0) p

@@ -1,5 +1,5 @@
 -- The sheet that is written for a well-formed table gives the table back, so the well-formed tables are exactly those that accepted sheets give.
-use Rattle.std.specs.Prelude.{◌≡◌, refl, true, false, List, [], ◌∷◌, map, ◌↔◌, ℕ, zero, suc, ◌+◌, ◌<◌, eqb, length, get_or}
+use Rattle.std.specs.Prelude.{◌≡◌, refl, true, false, List, [], ◌∷◌, map, ◌↔◌, ℕ, zero, suc, ◌+◌, ◌<◌, eqb, length, get_or, Ok}
 use Rattle.std.proofs.Common.{sym, ap, ◌∙◌, arith, le-ltb, eq-eqb, ne_eqb}
 use Rattle.std.proofs.Math.Bool.{or-true}
 use Rattle.std.proofs.Math.Decide.{dec_lt}
@@ -8,7 +8,6 @@ use Rattle.code.specs.declared.Word.{Word}
 use Rattle.code.specs.declared.Row.{Row}
 use Rattle.code.specs.declared.Code.{Code}
 use Rattle.code.specs.declared.Limits.{Limits}
-use Rattle.code.specs.declared.SheetAnswer.TheVariants.{Accepted}
 use Rattle.code.specs.Definitions.Lists.{tabulate, sum}
 use Rattle.code.specs.Definitions.Tables.{no_word, no_row, symbols_of, entry_of}
 use Rattle.code.specs.Definitions.Sheets.{value_of, first_field, word_length, has_starts, row_place, bad_word, bad_entry, bad_row, start_field, word_of, row_of, begins_of, code_of, refused3, refused5, taken, FromSheet}
@@ -134,7 +133,7 @@ module _ (l : Limits) (c : Code) (w : WellFormed l c) where
       (tabulate_list (begins_of l (grid_of c)) l.words c.begins 0 w.begins (λ k h. same_mark k)) (length-tabulate (fields_of c) c.count)
 
   -- The sheet is accepted, and gives the table back.
-  pub round : Roomy l → taken l (print c) ≡ record { answer = Accepted; code = c }
+  pub round : Roomy l → taken l (print c) ≡ record { answer = Ok tt; code = c }
   round room =
       accepted l (print c)
       record {

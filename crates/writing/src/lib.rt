@@ -1,9 +1,8 @@
-// Bytes written into a buffer one after another, and a buffer cleared.
+// Bytes written into a buffer one after another.
 
 #![tactic(auto)]
 
 ghost use Rattle.std.specs.Prelude.{◌≡◌, ◌+◌, ◌≤◌, length};
-ghost use Rattle.code.specs.Definitions.Operations.{zeroed};
 ghost use Rattle.writing.specs.Puts.{Puts};
 ghost use Rattle.writing.specs.Fields.{following};
 
@@ -28,15 +27,4 @@ pub fn put_field(out: &mut [u8], at: usize, sep: &[u8], i: usize, field: &[u8]) 
     }
     let next = put(out, at, sep);
     put(out, next, field)
-}
-
-// Makes every byte zero.
-pub fn clear(bytes: &mut [u8])
-    ensures { bytes.new ≡ zeroed bytes.old }
-{
-    let mut i: usize = 0;
-    while i < bytes.len() {
-        bytes[i] = 0;
-        i += 1;
-    }
 }

@@ -74,25 +74,21 @@ fn refusals(numbers: Numbers) -> Numbers {
 
 #[test]
 fn refusals_have_one_name() {
-    let names: Vec<String> = block(CODE, "pub enum Refusal").map(|line| capitals(line.trim_end_matches(','))).collect();
-    let arms = CODE.lines().filter_map(|line| {
-        let (name, value) = line.trim().strip_prefix("Refusal::")?.split_once(" => ")?;
-        Some((capitals(name), number(value.trim_end_matches(','))?))
-    });
-    let source: Numbers = arms.collect();
-    assert_eq!(source.iter().map(|refusal| refusal.0.clone()).collect::<Vec<_>>(), names, "a refusal without a number");
+    let numbered = |text| -> Numbers {
+        let refusal = |line: &str| {
+            let (name, value) = line.trim_end_matches(',').split_once(" = ").expect("a refusal without a number");
+            (capitals(name), number(value).expect("a number"))
+        };
+        block(text, "pub enum Refusal").map(refusal).collect()
+    };
+    let source = numbered(CODE);
     assert_eq!(
         source.iter().map(|refusal| refusal.1).collect::<Vec<_>>(),
-        (1..=names.len() as u64).collect::<Vec<_>>()
+        (1..=source.len() as u64).collect::<Vec<_>>()
     );
-
-    let second = block(SECOND, "pub enum Refusal").map(|line| {
-        let (name, value) = line.trim_end_matches(',').split_once(" = ").expect("a number");
-        (capitals(name), number(value).expect("a number"))
-    });
     assert_eq!(refusals(header_numbers()), source, "header");
     assert_eq!(refusals(binding_numbers()), source, "binding");
-    assert_eq!(second.collect::<Numbers>(), source, "second program");
+    assert_eq!(numbered(SECOND), source, "second program");
 }
 
 #[test]

@@ -7,5 +7,5 @@ use Rattle.ban_enlarge.proofs.without_copies.Goals as goal
 pub returns-then-well_enlarged : goal.returns-then-well_enlarged
 returns-then-well_enlarged c = tested_all (omega arith) c.well_enlarged.ensures c.if-well_enlarged.true
 
-pub returns : goal.returns
-returns c = tested_not (omega arith) limits_lists c.well_enlarged.ensures c.if-well_enlarged.false
+pub returns-else-well_enlarged : goal.returns-else-well_enlarged
+returns-else-well_enlarged c = rw c.if-well_enlarged.false (tested_not (omega arith) limits_lists c.well_enlarged.ensures c.if-well_enlarged.false)

@@ -12,12 +12,10 @@ use Rattle.code.specs.Definitions.Sheets.{grid, body, bad_bytes}
 use Rattle.code.specs.Definitions.BanLists.{bad_ban, ban_of, ban_records, refused16, bans_of}
 use Rattle.code.specs.Laws.Clean.{Clean, record_fields}
 use Rattle.csv_records.specs.Front.{rest_of, rest_within, rest_past}
-use Rattle.ban_list.specs.declared.BanList.{BanList}
-use Rattle.ban_list.specs.declared.BanList.TheVariants.{Wrong, Bans}
+use Rattle.std.specs.Prelude.{Option, Some, None}
 use Rattle.ban_list.specs.declared.fields.Record.{Record}
-use Rattle.ban_list.specs.declared.fields.Record.TheVariants.{Wrong as Malformed, Ban as Found}
 use Rattle.ban_theory.specs.Triples.{bans_from, bans_none}
-use Rattle.ban_list.specs.Ensured.{BanFrom, RecordFrom, malformed, found, Room, Stored, Listed, wrong, bans}
+use Rattle.ban_list.specs.Ensured.{BanFrom, Room, Stored, Listed}
 
 -- k bans of s are stored, and the next record begins at `at`.
 pub record Passed (n : ℕ) (s numbers : List ℕ) (k at : ℕ) : Type 0 where
@@ -36,76 +34,58 @@ passing_starts n s numbers c = record {
   within = omega arith;
 }
 
--- What a record that was read says, by its answer.
-was_malformed : {n : ℕ} {s : List ℕ} {from : ℕ} {r : Record} → RecordFrom n s from r → r ≡ Malformed → any (bad_ban n) (record_fields (drop from s)) ≡ true
-was_malformed (malformed e) q = e
-was_malformed (found b) q = let z : ◌≡◌ {A = ℕ} 0 1 = cc in absurd (omega arith)
-
-was_found : {n : ℕ} {s : List ℕ} {from x y z next : ℕ} {r : Record} → RecordFrom n s from r → r ≡ Found x y z next → BanFrom n s from x y z next
-was_found (malformed e) q = let z : ◌≡◌ {A = ℕ} 0 1 = cc in absurd (omega arith)
-was_found {x = x} {y = y} {z = z} {next = next} (found {x = a} {y = b} {z = c} {next = d} p) q =
-    let i : a ≡ x = cc in
-    let j : b ≡ y = cc in
-    let k : c ≡ z = cc in
-    let l : d ≡ next = cc in
-    rw (i, j, k, l) at p
-
 -- One record further.
 module _ {n : ℕ} {s numbers : List ℕ} {k at : ℕ} (p : Passed n s numbers k at) where
   -- past the last record
   pub passing_ends : (old : List ℕ) → length s ≤ length old → length numbers ≡ length old → length s < at
-      → Listed (any (bad_ban n) (record_fields s)) (map ban_of (record_fields s)) numbers (Bans k)
+      → Listed (any (bad_ban n) (record_fields s)) (map ban_of (record_fields s)) numbers (Some k)
   unfolding any
   passing_ends old l q h =
       let rest = rest_past s at h in
-      bans (sym p.refused ∙ rw rest) (sym (append-nil (bans_from numbers k)) ∙ (rw rest at p.stored)) (omega (arith, p.few, p.within))
+      (sym p.refused ∙ rw rest, sym (append-nil (bans_from numbers k)) ∙ (rw rest at p.stored), omega (arith, p.few, p.within))
 
   module _ (h : at ≤ length s) where
     pub passing_clean : Clean (drop at s)
     passing_clean = p.clean h
 
-    module _ {r : Record} (a : RecordFrom n s at r) where
-      pub passing_stops : r ≡ Malformed → any (bad_ban n) (record_fields s) ≡ true
-      passing_stops e = sym p.refused ∙ rw (rest_within s at h) (was_malformed a e)
+    pub passing_stops : any (bad_ban n) (record_fields (drop at s)) ≡ true → any (bad_ban n) (record_fields s) ≡ true
+    passing_stops e = sym p.refused ∙ rw (rest_within s at h) e
 
-      module _ {x y z next : ℕ} (e : r ≡ Found x y z next) where
-        pub passing_room : (old : List ℕ) → length s ≤ length old → length numbers ≡ length old → n ≤ 256 → Room numbers k x y z
-        passing_room old l q m =
-            let b = was_found a e in
-            record {
-              wide = omega (arith, p.few, b.long, b.within);
-              byte_x = omega (arith, b.low_x);
-              byte_y = omega (arith, b.low_y);
-              byte_z = omega (arith, b.low_z);
-            }
+    module _ {b : Record} (a : BanFrom n s at b) where
+      pub passing_room : (old : List ℕ) → length s ≤ length old → length numbers ≡ length old → n ≤ 256 → Room numbers k b
+      passing_room old l q m = record {
+        wide = omega (arith, p.few, a.long, a.within);
+        byte_x = omega (arith, a.low_x);
+        byte_y = omega (arith, a.low_y);
+        byte_z = omega (arith, a.low_z);
+      }
 
-        pub passing_less : length s + 2 - next < length s + 2 - at
-        passing_less = let b = was_found a e in omega (arith, b.long, b.within)
+      pub passing_less : length s + 2 - b.next < length s + 2 - at
+      passing_less = omega (arith, a.long, a.within)
 
-        pub passing_on : {more : List ℕ} → Stored numbers k x y z more → Passed n s more (k + 1) next
-        unfolding any
-        passing_on {more} t =
-            let b = was_found a e in
-            let rest = rest_within s at h ∙ b.first in
-            record {
-              stored = rw (t.bans, append_snoc, ← b.same) (rw rest at p.stored);
-              refused = sym (rw (rest, b.right)) ∙ p.refused;
-              clean = b.clean;
-              few = omega (arith, p.few, b.long);
-              within = b.within;
-            }
+      pub passing_on : {more : List ℕ} → Stored numbers k b more → Passed n s more (k + 1) b.next
+      unfolding any
+      passing_on {more} t =
+          let rest = rest_within s at h ∙ a.first in
+          record {
+            stored = rw (t.bans, append_snoc, ← a.same) (rw rest at p.stored);
+            refused = sym (rw (rest, a.right)) ∙ p.refused;
+            clean = a.clean;
+            few = omega (arith, p.few, a.long);
+            within = a.within;
+          }
 
 -- The whole list: 0 bytes, wrong bytes, or what its records say.
 module _ (n : ℕ) (list numbers : List ℕ) where
-  pub list_empty : length list ≡ 0 → Listed (refused16 n list) (bans_of list) numbers (Bans 0)
+  pub list_empty : length list ≡ 0 → Listed (refused16 n list) (bans_of list) numbers (Some 0)
   unfolding refused16 bans_of ban_records any bad_bytes
-  list_empty h = let none = drop_of_length-le list {i = 0} (omega arith) in bans (rw none) (bans_none numbers ∙ rw none) (omega arith)
+  list_empty h = let none = drop_of_length-le list {i = 0} (omega arith) in (rw none, bans_none numbers ∙ rw none, omega arith)
 
-  pub list_bytes : {t : Bool} → t ≡ bad_bytes false list → t ≡ true → Listed (refused16 n list) (bans_of list) numbers Wrong
+  pub list_bytes : {t : Bool} → t ≡ bad_bytes false list → t ≡ true → Listed (refused16 n list) (bans_of list) numbers None
   unfolding refused16
-  list_bytes q e = wrong (rw (← q, e))
+  list_bytes q e = rw (← q, e)
 
-  pub list_records : {t : Bool} {b : List ℕ} {r : BanList} → b ≡ body list → (length list ≡ 0 → ⊥) → t ≡ bad_bytes false list → t ≡ false
+  pub list_records : {t : Bool} {b : List ℕ} (r : Option ℕ) → b ≡ body list → (length list ≡ 0 → ⊥) → t ≡ bad_bytes false list → t ≡ false
       → Listed (any (bad_ban n) (record_fields b)) (map ban_of (record_fields b)) numbers r → Listed (refused16 n list) (bans_of list) numbers r
   unfolding refused16 bans_of ban_records grid
-  list_records e h q f l = rw (← q, f, ne_eqb (length list) 0 h) (rw e at l)
+  list_records r e h q f l = rw (← q, f, ne_eqb (length list) 0 h) (rw e at l)

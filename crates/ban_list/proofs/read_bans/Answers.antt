@@ -1,5 +1,6 @@
 -- 0 bytes and wrong bytes first; then the body without a final CR LF, whose records decide.
-use mathlib.Core.Path.{sym, ◌∙◌}
+use Rattle.std.proofs.Common.{sym, ◌∙◌, eqb-true}
+use Rattle.std.proofs.lemmas.Bool.{eqb-false}
 use native.Mathlib.Omega.{arith}
 use lib.Seq.{length-take-le}
 use Rattle.code.specs.Laws.Clean.{clean_body}
@@ -7,8 +8,8 @@ use Rattle.ban_list.proofs.Laws.Passing.{list_empty, list_bytes, list_records}
 use borrow.Author.Rules.{rules}
 use Rattle.ban_list.proofs.read_bans.Goals as goal
 
-pub returns-then-list-eq0 : goal.returns-then-list-eq0
-returns-then-list-eq0 c = (search list_empty, search rules)
+pub returns-then-is_empty : goal.returns-then-is_empty
+returns-then-is_empty c = (list_empty _ _ _ (eqb-true _ 0 (sym c.is_empty.ensures ∙ c.if-is_empty.true)), search rules)
 
 pub returns-then-bad_bytes : goal.returns-then-bad_bytes
 returns-then-bad_bytes c = (search list_bytes, search rules)
@@ -26,4 +27,4 @@ read_records-requires c = let s = c.before.before.before.before.before.before.be
     )
 
 pub returns : goal.returns
-returns c = (search list_records, search rules)
+returns c = (list_records _ _ _ _ c.body_len-e.ensures.0 (eqb-false _ 0 (sym c.is_empty.ensures ∙ c.if-is_empty.false)) c.bad_bytes.ensures c.if-bad_bytes.false c.read_records.ensures, search rules)

@@ -1,15 +1,10 @@
--- Three stores behind one another make one ban more.
-use native.Mathlib.Omega.{arith}
-use lib.ListN.{length-set}
-use Rattle.ban_list.proofs.Laws.Storing.{stored_more}
-use borrow.Author.Rules.{rules}
+-- Three bytes written behind the others make one ban more.
+use Rattle.std.proofs.Common.{◌≡◌, arith, ◌+◌, ◌*◌, ◌-◌}
+use Rattle.ban_list.proofs.Laws.Storing.{stored_more, stored_long}
 use Rattle.ban_list.proofs.store.Goals as goal
 
-pub bounds-numbers-k-2 : goal.bounds-numbers-k-2
-bounds-numbers-k-2 c = simp length-set (omega arith)
-
-pub bounds-numbers-k-3 : goal.bounds-numbers-k-3
-bounds-numbers-k-3 c = simp length-set (omega arith)
-
 pub returns : goal.returns
-returns c = record { bans = stored_more _ _ _ _ _ (search rules); long = simp length-set }
+returns c =
+    let a = c.args in
+    let three : 3 * a.k + 3 - 3 * a.k ≡ 3 = omega arith in
+    rw (three, c.copy_from_slice.ensures.after) record { bans = stored_more a.numbers.now a.k a.ban.x a.ban.y a.ban.z c.requires.wide; long = stored_long a.numbers.now a.k a.ban.x a.ban.y a.ban.z c.requires.wide }

@@ -1,13 +1,7 @@
 -- The length is stored behind the symbols, so both are one run of stores.
-use mathlib.Core.Path.{◌≡◌}
-use native.Mathlib.Omega.{arith}
-use lib.ListN.{length}
 use borrow.Author.Rules.{rules}
 use Rattle.c_image.specs.Packing.{word_stored}
 use Rattle.c_image.proofs.put_word.Goals as goal
-
-pub copy_at-requires : goal.copy_at-requires
-copy_at-requires c = let long : length c.args.w.symbols ≡ 16 = search rules in (omega arith, omega arith)
 
 pub returns : goal.returns
 returns c =

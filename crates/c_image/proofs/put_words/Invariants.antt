@@ -1,13 +1,9 @@
 -- The loop keeps that the words passed are stored, and that the length is as it was.
 use mathlib.Core.Path.{◌≡◌}
-use Prim.Native.Nat.{◌-◌, ◌≤◌}
 use lib.ListN.{length, take}
 use lib.Seq.{sets}
 use Rattle.c_image.specs.Image.{words_bytes}
 use Rattle.c_image.proofs.put_words.Given as goal
 
 abbrev pub invariant-loop-k : goal.invariant-loop-k
-invariant-loop-k l = (l.k ≤ 32) × (length l.table ≡ length l.initial.table) × (l.table ≡ sets l.initial.table 0 (words_bytes (take l.k l.code.words)))
-
-abbrev pub decreases-loop-k : goal.decreases-loop-k
-decreases-loop-k l = 32 - l.k
+invariant-loop-k l = (length l.table ≡ length l.initial.table) × (l.table ≡ sets l.initial.table 0 (words_bytes (take l.k l.code.words)))

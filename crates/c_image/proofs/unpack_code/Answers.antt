@@ -1,22 +1,21 @@
-use mathlib.Core.Path.{refl, ap}
+-- Each word and each row is what its closure reads at its number.
+use borrow.Author.Rules.{rules}
+use borrow.Author.Tests.{tests}
 use native.Mathlib.Omega.{arith}
-use Rattle.code.specs.declared.Row.{Row}
-use Rattle.code.specs.Definitions.Lists.{tabulate as filling}
-use Rattle.c_image.specs.Image.{count_place}
-use Rattle.c_image.proofs.Laws.Unpacking.{unpacked_next, unpacked_all}
+use Rattle.code.specs.Definitions.Tables.{no_word, no_row}
+use Rattle.code.specs.Laws.Lists.{tabulate_list}
+use Rattle.c_image.specs.Image.{word_number, row_number, code_in}
+use Rattle.c_image.proofs.Laws.Unpacking.{from_fn_at}
 use Rattle.c_image.proofs.unpack_code.Goals as goal
 
-pub overflow_cast-code : goal.overflow_cast-code
-overflow_cast-code c = omega (arith, c.shared_slice_known-2-1.given count_place)
-
-pub loop-k-init : goal.loop-k-init
-unfolding filling
-loop-k-init c = record { most = omega arith; words_long = refl; rows_long = refl; words = refl; rows = refl; begins = ap (λ (r : Row). r.entries) c.row_in-marks.ensures; count = refl }
-
-pub loop-k-preserved : goal.loop-k-preserved
-loop-k-preserved c =
-    let l = c.loop-k in
-    unpacked_next _ l.code l.k _ _ l.invariant (omega arith) c.word_in-word.ensures c.row_in-row.ensures
-
 pub returns : goal.returns
-returns c = let l = c.loop-k in unpacked_all _ l.code l.k l.invariant (omega arith)
+unfolding code_in
+returns c =
+    let b = c.args.table.now in
+    let words = c.from_fn-words.ensures.items in
+    let rows = c.from_fn-rows.ensures.items in
+    let ws = tabulate_list (word_number b) 32 c.from_fn-words.result no_word words.long
+    (λ k h. from_fn_at _ _ (word_number b) c.from_fn-words.result no_word (λ x y q d. search (rules, tests)) 32 0 words.each k (omega arith) (omega arith)) in
+    let rs = tabulate_list (row_number b) 32 c.from_fn-rows.result no_row rows.long
+    (λ k h. from_fn_at _ _ (row_number b) c.from_fn-rows.result no_row (λ x y q d. search (rules, tests)) 32 0 rows.each k (omega arith) (omega arith)) in
+    rw (ws, rs) (cc)

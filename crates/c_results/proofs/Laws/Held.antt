@@ -1,4 +1,5 @@
 -- After a 0 the sheet or the list was accepted, and the buffer begins with what it gives.
+use Rattle.std.specs.Prelude.{Err, Ok, Result}
 use mathlib.Core.Path.{◌≡◌, refl, ap}
 use mathlib.Core.List.{List}
 use Prim.Native.Nat.{ℕ, ◌≤◌, ◌<◌}
@@ -9,8 +10,6 @@ use lib.Seq.{take_at}
 use borrow.Author.Tests.{lt-ltb, le-ltb}
 use Rattle.code.specs.declared.Refusal.{Refusal}
 use Rattle.code.specs.declared.Refusal.TheVariants.{SheetLength, SheetBytes, RecordCount, WordLength, CodeLength, FieldCount, RowEntry, NotFromSheet, UnknownWord, ForbiddenPair, MessageLength, MessageSymbol, ShortBuffer, NoReading, StartField, BanRecord, BanLimit, ClassRecord, ClassRange, ClassOverlap, NoFiniteDelay}
-use Rattle.code.specs.declared.SheetAnswer.{SheetAnswer}
-use Rattle.code.specs.declared.SheetAnswer.TheVariants.{Accepted, Refused}
 use Rattle.code.specs.Definitions.Answers.{refusal_number}
 use Rattle.code.specs.Definitions.ClassSheets.{different_bytes}
 use Rattle.code.specs.Definitions.Operations.{written}
@@ -39,13 +38,13 @@ some_number ClassRange = omega arith
 some_number ClassOverlap = omega arith
 some_number NoFiniteDelay = omega arith
 
-accepted : (a : SheetAnswer) (n : ℕ) (b : List ℕ) → 0 ≡ sheet_number a n b → Dec (length b < n) → (a ≡ Accepted) × (n ≤ length b)
-accepted Accepted n b e (yes h) = let k = rw (lt-ltb (length b) n h) at e in absurd (omega arith)
-accepted Accepted n b e (no h) = (refl, omega arith)
-accepted (Refused r) n b e (yes h) = let k = rw (lt-ltb (length b) n h) at e in absurd (omega (arith, some_number r))
-accepted (Refused r) n b e (no h) = let k = rw (le-ltb (length b) n (omega arith)) at e in absurd (omega (arith, some_number r))
+accepted : (a : Result Unit Refusal) (n : ℕ) (b : List ℕ) → 0 ≡ sheet_number a n b → Dec (length b < n) → (a ≡ Ok tt) × (n ≤ length b)
+accepted (Ok tt) n b e (yes h) = let k = rw (lt-ltb (length b) n h) at e in absurd (omega arith)
+accepted (Ok tt) n b e (no h) = (refl, omega arith)
+accepted (Err r) n b e (yes h) = let k = rw (lt-ltb (length b) n h) at e in absurd (omega (arith, some_number r))
+accepted (Err r) n b e (no h) = let k = rw (le-ltb (length b) n (omega arith)) at e in absurd (omega (arith, some_number r))
 
-pub given : {a : SheetAnswer} {n : ℕ} {bytes b b' : List ℕ} → Answered a n bytes b b' 0 → (a ≡ Accepted) × (b' ≡ written bytes b)
+pub given : {a : Result Unit Refusal} {n : ℕ} {bytes b b' : List ℕ} → Answered a n bytes b b' 0 → (a ≡ Ok tt) × (b' ≡ written bytes b)
 given {a} {n} {bytes} {b} call =
     let d = accepted a n b call.number (dec_lt (length b) n) in
     (d.0, rw (d.0, le-ltb (length b) n d.1) at call.buffer)

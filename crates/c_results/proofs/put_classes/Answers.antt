@@ -9,7 +9,7 @@ use Rattle.c_results.proofs.Laws.Ways.{given_short, given_written, given_refused
 use Rattle.c_results.proofs.put_classes.Goals as goal
 
 pub returns-then-short : goal.returns-then-short
-returns-then-short c = given_short refl c.in-Accepted.is (lt-ltb _ _ c.if-short.true) c.number.ensures
+returns-then-short c = given_short refl c.in-Ok.is (lt-ltb _ _ c.if-short.true) c.number.ensures
 
 pub copy_at-requires : goal.copy_at-requires
 copy_at-requires c =
@@ -22,8 +22,8 @@ pub returns-else-short : goal.returns-else-short
 returns-else-short c =
     let a = c.args in
     let whole : length a.classes.entries ≡ different_bytes = search rules in
-    given_written refl c.in-Accepted.is (le-ltb _ _ c.if-short.false)
+    given_written refl c.in-Ok.is (le-ltb _ _ c.if-short.false)
     (front_pasted a.out.now a.classes.entries different_bytes whole c.copy_at.ensures)
 
-pub returns-in-Refused : goal.returns-in-Refused
-returns-in-Refused c = given_refused refl c.in-Refused.is c.lower.ensures
+pub returns-in-Err : goal.returns-in-Err
+returns-in-Err c = given_refused refl c.in-Err.is c.lower.ensures

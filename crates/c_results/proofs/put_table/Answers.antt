@@ -5,13 +5,13 @@ use Rattle.c_results.proofs.Laws.Ways.{given_short, given_written, given_refused
 use Rattle.c_results.proofs.put_table.Goals as goal
 
 pub returns-then-short : goal.returns-then-short
-returns-then-short c = given_short refl c.in-Accepted.is (lt-ltb _ _ c.if-short.true) c.number.ensures
+returns-then-short c = given_short refl c.in-Ok.is (lt-ltb _ _ c.if-short.true) c.number.ensures
 
 pub pack-requires : goal.pack-requires
-pack-requires c = (c.requires c.in-Accepted.is, c.if-short.false)
+pack-requires c = (c.requires c.in-Ok.is, c.if-short.false)
 
 pub returns-else-short : goal.returns-else-short
-returns-else-short c = given_written refl c.in-Accepted.is (le-ltb _ _ c.if-short.false) c.pack.ensures
+returns-else-short c = given_written refl c.in-Ok.is (le-ltb _ _ c.if-short.false) c.pack.ensures
 
-pub returns-in-Refused : goal.returns-in-Refused
-returns-in-Refused c = given_refused refl c.in-Refused.is c.lower.ensures
+pub returns-in-Err : goal.returns-in-Err
+returns-in-Err c = given_refused refl c.in-Err.is c.lower.ensures

@@ -69,14 +69,14 @@ module _ (s : List ℕ) (from : ℕ) (c : Clean (drop from s)) {t : Bool} (first
   abbrev f : List ℕ
   f = leading (drop from s)
 
-  pub lowest_wrong : not t ≡ true → Formed s from false
+  pub lowest_wrong : t ≡ false → Formed s from false
   lowest_wrong n =
       formed_not (any_first malformed (f ∷ drop 1 (get_or (record_fields (drop from s)) 0 [])) (drop 1 (record_fields (drop from s))) (first_field_lem c)
-      (malformed_unless (f ∷ drop 1 (get_or (record_fields (drop from s)) 0 [])) (λ l p q r. true≢false (sym p ∙ sym first ∙ not-true t n))))
+      (malformed_unless (f ∷ drop 1 (get_or (record_fields (drop from s)) 0 [])) (λ l p q r. true≢false (sym p ∙ sym first ∙ n))))
 
-  module _ (yes-1 : not t ≡ false) {b : ℕ} (behind : b ≡ get_or s (from + 2) 0) where
+  module _ (yes-1 : t ≡ true) {b : ℕ} (behind : b ≡ get_or s (from + 2) 0) where
     d_1 : digits 2 f ≡ true
-    d_1 = sym first ∙ not-false t yes-1
+    d_1 = sym first ∙ yes-1
 
     pub lowest_only : (b ≡ 44 → ⊥) → Formed s from false
     lowest_only n =
@@ -94,15 +94,15 @@ module _ (s : List ℕ) (from : ℕ) (c : Clean (drop from s)) {t : Bool} (first
       from_1 r l = joined f (record_fields (drop (from + 3) s)) r l next_1.same
 
       module _ {u : Bool} (second : u ≡ digits 2 g) where
-        pub highest_wrong : not u ≡ true → Formed s from false
+        pub highest_wrong : u ≡ false → Formed s from false
         highest_wrong n =
             let r = drop 1 (get_or (record_fields (drop (from + 3) s)) 0 []) in
             formed_not (any_first malformed (f ∷ g ∷ r) (drop 1 (record_fields (drop (from + 3) s))) (from_1 (g ∷ r) (drop 1 (record_fields (drop (from + 3) s))) (first_field_lem next_1.clean))
-            (malformed_unless (f ∷ g ∷ r) (λ l p q z. true≢false (sym q ∙ sym second ∙ not-true u n))))
+            (malformed_unless (f ∷ g ∷ r) (λ l p q z. true≢false (sym q ∙ sym second ∙ n))))
 
-        module _ (yes-2 : not u ≡ false) {a : ℕ} (behind-2 : a ≡ get_or s (from + 5) 0) where
+        module _ (yes-2 : u ≡ true) {a : ℕ} (behind-2 : a ≡ get_or s (from + 5) 0) where
           d_2 : digits 2 g ≡ true
-          d_2 = sym second ∙ not-false u yes-2
+          d_2 = sym second ∙ yes-2
 
           pub highest_last : (a ≡ 44 → ⊥) → Formed s from false
           highest_last n =
@@ -121,16 +121,16 @@ module _ (s : List ℕ) (from : ℕ) (c : Clean (drop from s)) {t : Bool} (first
             from_2 r l e = from_1 (g ∷ r) l (joined g (record_fields (drop (from + 6) s)) r l next_2.same e)
 
             module _ {v : Bool} (third : v ≡ digits 1 h) where
-              pub symbol_wrong : not v ≡ true → Formed s from false
+              pub symbol_wrong : v ≡ false → Formed s from false
               symbol_wrong n =
                   let r = drop 1 (get_or (record_fields (drop (from + 6) s)) 0 []) in
                   formed_not (any_first malformed (f ∷ g ∷ h ∷ r) (drop 1 (record_fields (drop (from + 6) s))) (from_2 (h ∷ r) (drop 1 (record_fields (drop (from + 6) s))) (first_field_lem next_2.clean))
-                  (malformed_unless (f ∷ g ∷ h ∷ r) (λ l p q z. true≢false (sym z ∙ sym third ∙ not-true v n))))
+                  (malformed_unless (f ∷ g ∷ h ∷ r) (λ l p q z. true≢false (sym z ∙ sym third ∙ n))))
 
               -- The byte behind the symbol decides: a comma, and the record has a fourth field; else it is a range.
-              module _ (yes-3 : not v ≡ false) {z : ℕ} (behind-3 : z ≡ get_or s (from + 7) 0) where
+              module _ (yes-3 : v ≡ true) {z : ℕ} (behind-3 : z ≡ get_or s (from + 7) 0) where
                 d_3 : digits 1 h ≡ true
-                d_3 = sym third ∙ not-false v yes-3
+                d_3 = sym third ∙ yes-3
 
                 fourth : get_or s (from + 7) 0 ≡ 44 → any malformed (record_fields (drop from s)) ≡ true
                 fourth k =
@@ -159,19 +159,44 @@ module _ (s : List ℕ) (from : ℕ) (c : Clean (drop from s)) {t : Bool} (first
                   no = λ e. fourth (sym behind-3 ∙ eqb-true z 44 (not-false (eqb z 44) e));
                 }
 
+-- The six tests in turn.
+module _ (s : List ℕ) (from : ℕ) (c : Clean (drop from s)) where
+  abbrev field_has : ℕ → ℕ → Bool
+  field_has k n = digits n (leading (drop (from + k) s))
+
+  abbrev comma_at : ℕ → Bool
+  comma_at k = eqb (get_or s (from + k) 0) 44
+
+  abbrev pub six_tests : Bool
+  six_tests = (((((digits 2 (leading (drop from s)) && comma_at 2) && field_has 3 2) && comma_at 5) && field_has 6 1) && not (comma_at 7))
+
+  by_tests : (t b u a v : Bool) → digits 2 (leading (drop from s)) ≡ t → comma_at 2 ≡ b → field_has 3 2 ≡ u → comma_at 5 ≡ a → field_has 6 1 ≡ v
+      → Formed s from (((((t && b) && u) && a) && v) && not (comma_at 7))
+  by_tests false b u a v p q r x y = lowest_wrong s from c refl p
+  by_tests true false u a v p q r x y = lowest_only s from c (sym p) refl refl (eqb-false (get_or s (from + 2) 0) 44 q)
+  by_tests true true false a v p q r x y = highest_wrong s from c (sym p) refl refl (eqb-true (get_or s (from + 2) 0) 44 q) refl r
+  by_tests true true true false v p q r x y =
+      highest_last s from c (sym p) refl refl (eqb-true (get_or s (from + 2) 0) 44 q) (sym r) refl refl (eqb-false (get_or s (from + 5) 0) 44 x)
+  by_tests true true true true false p q r x y =
+      symbol_wrong s from c (sym p) refl refl (eqb-true (get_or s (from + 2) 0) 44 q) (sym r) refl refl (eqb-true (get_or s (from + 5) 0) 44 x) refl y
+  by_tests true true true true true p q r x y =
+      last_byte s from c (sym p) refl refl (eqb-true (get_or s (from + 2) 0) 44 q) (sym r) refl refl (eqb-true (get_or s (from + 5) 0) 44 x) (sym y) refl refl
+
+  pub formed_tests : (r : Bool) → r ≡ six_tests → Formed s from r
+  formed_tests r e =
+      rw e (by_tests (digits 2 (leading (drop from s))) (comma_at 2) (field_has 3 2) (comma_at 5) (field_has 6 1) refl refl refl refl refl)
+
 -- A record that is formed, with what its fields stand for
-pub range_read : {s : List ℕ} {from : ℕ} {r : Bool} {lowest highest symbol : ℕ} → Formed s from r → r ≡ true → lowest ≡ byte_of (leading (drop from s))
+pub range_read : {s : List ℕ} {from lowest highest symbol : ℕ} → SevenBytes s from → lowest ≡ byte_of (leading (drop from s))
     → highest ≡ byte_of (leading (drop (from + 3) s)) → (symbol ≡ symbol_of (leading (drop (from + 6) s))) × (symbol < other)
-    → RangeFrom s from lowest highest symbol (from + 9)
-range_read {s} {from} {r} formed n p q z =
-    let b = formed.yes n in
-    record {
-      fields = leading (drop from s) ∷ leading (drop (from + 3) s) ∷ leading (drop (from + 6) s) ∷ [];
-      first = b.first;
-      right = three_formed (leading (drop from s)) (leading (drop (from + 3) s)) (leading (drop (from + 6) s)) b.lowest b.highest b.symbol;
-      same = rw (p, q, z.0);
-      clean = b.clean;
-      letter = z.1;
-      long = omega arith;
-      within = omega (arith, b.within);
-    }
+    → RangeFrom s from (record { lowest = lowest; highest = highest; symbol = symbol; next = from + 9 })
+range_read {s} {from} b p q z = record {
+  fields = leading (drop from s) ∷ leading (drop (from + 3) s) ∷ leading (drop (from + 6) s) ∷ [];
+  first = b.first;
+  right = three_formed (leading (drop from s)) (leading (drop (from + 3) s)) (leading (drop (from + 6) s)) b.lowest b.highest b.symbol;
+  same = rw (p, q, z.0);
+  clean = b.clean;
+  letter = z.1;
+  long = omega arith;
+  within = omega (arith, b.within);
+}

@@ -50,7 +50,7 @@ module _ (low high symbol : ℕ) {c d : List ℕ} {m : Bool} (f : FilledBy (from
   twice_at b e (still_none x q y) = let k : 0 + (0 + takers b g) ≡ 0 + takers b g = omega arith in rw (e, x, y, k)
 
   -- A byte is in two records from this one on: it was a letter and is in this one, or it is in two of a letter's record and the later ones.
-  pub twice_next : (t : Bool) → (m || t) || any (λ b. ltb 1 (seen d b + takers b g)) all_bytes ≡ t || any (λ b. ltb 1 (seen c b + takers b (r ∷ g))) all_bytes
+  pub twice_next : (t : Bool) → (t || m) || any (λ b. ltb 1 (seen d b + takers b g)) all_bytes ≡ t || any (λ b. ltb 1 (seen c b + takers b (r ∷ g))) all_bytes
   unfolding all_bytes
   twice_next t =
       let split = any_alike (λ b. ltb 1 (seen c b + takers b (r ∷ g))) (λ b. (is_letter c b && takes_in b r) || ltb 1 (seen d b + takers b g)) (λ b. b) different_bytes
@@ -58,10 +58,9 @@ module _ (low high symbol : ℕ) {c d : List ℕ} {m : Bool} (f : FilledBy (from
       let parts = split ∙ any_either (λ b. is_letter c b && takes_in b r) (λ b. ltb 1 (seen d b + takers b g)) all_bytes in
       rw (parts, ← f.met) (exchange m t (any (λ b. ltb 1 (seen d b + takers b g)) all_bytes))
     where
-      exchange : (a b c : Bool) → (a || b) || c ≡ b || (a || c)
-      exchange true true c = refl
-      exchange true false c = refl
-      exchange false b c = refl
+      exchange : (a b c : Bool) → (b || a) || c ≡ b || (a || c)
+      exchange a true c = refl
+      exchange a false c = refl
 
   class_at : (b : ℕ) {t : Bool} → takes_in b r ≡ t → Turned symbol c d b t
       → (if is_letter d b then class_of d b else class_by g b) ≡ (if is_letter c b then class_of c b else class_by (r ∷ g) b)

@@ -1,10 +1,11 @@
--- A test of B7 and of the four brackets, as the code joins it.
-use mathlib.Core.Path.{◌≡◌}
-use mathlib.Core.Bool.{Bool, ◌||◌, or_assoc, or-false}
+-- A test of B7 and of the four brackets, by std's word for `any`.
+use mathlib.Core.Path.{◌≡◌, refl}
+use mathlib.Core.Bool.{Bool}
 use Prim.Native.Nat.{ℕ}
+use Rattle.std.specs.List.{list_any}
 use Rattle.code.specs.Definitions.Lists.{any}
-use Rattle.code.specs.Definitions.Texts.{syllable_break, signs}
+use Rattle.code.specs.Definitions.Texts.{signs}
 
-pub signs_tested : (p : ℕ → Bool) → p syllable_break || (p 40 || p 41 || (p 91 || p 93)) ≡ any p signs
+pub signs_tested : (p : ℕ → Bool) → list_any p signs ≡ any p signs
 unfolding any
-signs_tested p = rw (or-false (p 93), or_assoc (p 40) (p 41) (p 91 || p 93))
+signs_tested p = refl

@@ -1,5 +1,5 @@
 -- What is known of a class sheet after some of its records: joined with the records to come, it is what the whole sheet says.
-use Rattle.std.specs.Prelude.{if◌then◌else◌}
+use Rattle.std.specs.Prelude.{if◌then◌else◌, Err, Result}
 use mathlib.Core.Path.{◌≡◌, refl, sym, ap, subst, ◌∙◌}
 use mathlib.Core.Bool.{Bool, true, false, ◌||◌, or_assoc, or-false}
 use mathlib.Core.List.{List, [], ◌∷◌}
@@ -8,8 +8,7 @@ use native.Mathlib.Omega.{arith}
 use lib.Dec.{ltb}
 use lib.ListN.{length, replicate, length-replicate, get_or-replicate}
 use Rattle.code.specs.declared.Refusal.TheVariants.{ClassRecord, ClassRange, ClassOverlap}
-use Rattle.code.specs.declared.SheetAnswer.{SheetAnswer}
-use Rattle.code.specs.declared.SheetAnswer.TheVariants.{Refused}
+use Rattle.code.specs.declared.Refusal.{Refusal}
 use Rattle.code.specs.Definitions.ClassSheets.{Range, range_of, malformed, takes_sign, refused19, different_bytes, all_bytes, takers, refused20, class_by, classes_of}
 use Rattle.code.specs.Definitions.Lists.{any}
 use Rattle.code.specs.Definitions.Texts.{other, class_of, is_letter, signs}
@@ -62,7 +61,7 @@ module _ {whole g : List (List (List ℕ))} {f : List (List ℕ)} {c : List ℕ}
       last false = refl
 
   pub sofar_next : malformed f ≡ false → takes ≡ false → symbol < other → {d : List ℕ} {m : Bool} → FilledBy (from_to low high) symbol c d m
-      → Sofar whole g d (upside || ltb high low) (m || twice)
+      → Sofar whole g d (upside || ltb high low) (twice || m)
   unfolding any refused19
   sofar_next right free small {d} {m} filled =
       let down = subst (λ (r : Range). upside || refused19 (r ∷ ranges_in g) ≡ refused19 (ranges_in whole)) is s.down in
@@ -104,7 +103,7 @@ module _ {whole : List (List (List ℕ))} {c : List ℕ} {upside twice : Bool} (
       by_test b h true e = refl
       by_test b h false e = sym (s.others b h e)
 
-  pub sofar_ends : {a : SheetAnswer} → a ≡ judged false upside twice → Answers whole c a
+  pub sofar_ends : {a : Result Unit Refusal} → a ≡ judged false upside twice → Answers whole c a
   unfolding taken_records any
   sofar_ends e = rw e (by_flags upside twice is_upside is_twice)
     where
@@ -114,6 +113,6 @@ module _ {whole : List (List (List ℕ))} {c : List ℕ} {upside twice : Bool} (
       by_flags false false p q = accepted (rw (← s.bad, p, q, is_classes))
 
 -- A record is malformed, or takes in a sign.
-pub refused_18 : (g : List (List (List ℕ))) {c : List ℕ} → bad_records g ≡ true → {a : SheetAnswer} → a ≡ Refused ClassRecord → Answers g c a
+pub refused_18 : (g : List (List (List ℕ))) {c : List ℕ} → bad_records g ≡ true → {a : Result Unit Refusal} → a ≡ Err ClassRecord → Answers g c a
 unfolding taken_records
 refused_18 g bad e = rw e (refused {r = ClassRecord} (rw bad))

@@ -1,4 +1,5 @@
 -- Taking in a class sheet: one lemma for each way out.
+use Rattle.std.specs.Prelude.{Err, Ok, Result}
 use mathlib.Core.Path.{◌≡◌, sym, ap, ◌∙◌}
 use mathlib.Core.Bool.{true, false}
 use mathlib.Core.List.{List}
@@ -8,8 +9,6 @@ use lib.ListN.{length}
 use borrow.Author.Tests.{ne_eqb, lt-ltb, le-ltb}
 use Rattle.code.specs.declared.Refusal.{Refusal}
 use Rattle.code.specs.declared.Refusal.TheVariants.{SheetLength, ClassRecord}
-use Rattle.code.specs.declared.SheetAnswer.{SheetAnswer}
-use Rattle.code.specs.declared.SheetAnswer.TheVariants.{Accepted, Refused}
 use Rattle.code.specs.Definitions.ClassSheets.{ranges_of, refused18, no_classes, taken_classes}
 use Rattle.code.specs.Definitions.Sheets.{limits, grid, body, bad_bytes}
 use Rattle.code.specs.Laws.Clean.{record_fields}
@@ -17,11 +16,11 @@ use Rattle.class_sheet.specs.Records.{taken_records, Answers, refused, accepted}
 
 -- What the answer to the records says
 module _ {g : List (List (List ℕ))} {c : List ℕ} where
-  pub way_refused : {a : SheetAnswer} {r : Refusal} → Answers g c a → a ≡ Refused r → no_classes r ≡ taken_records g
+  pub way_refused : {a : Result Unit Refusal} {r : Refusal} → Answers g c a → a ≡ Err r → no_classes r ≡ taken_records g
   way_refused {r = r} (refused {r = q} e) d = let same : q ≡ r = cc in sym (e ∙ ap no_classes same)
   way_refused (accepted e) d = let z : ◌≡◌ {A = ℕ} 0 1 = cc in absurd (omega arith)
 
-  pub way_accepted : {a : SheetAnswer} → Answers g c a → a ≡ Accepted → record { answer = Accepted; classes = record { entries = c } } ≡ taken_records g
+  pub way_accepted : {a : Result Unit Refusal} → Answers g c a → a ≡ Ok tt → record { answer = Ok tt; classes = record { entries = c } } ≡ taken_records g
   way_accepted (refused e) d = let z : ◌≡◌ {A = ℕ} 0 1 = cc in absurd (omega arith)
   way_accepted (accepted e) d = sym e
 

@@ -1,27 +1,21 @@
+use native.Mathlib.Omega.{arith}
 use borrow.Author.Rules.{rules}
-use Rattle.class_sheet.proofs.Laws.Passing.{passing_starts, passing_clean, passing_long, passing_wrong, passing_sign, passing_on, passing_less, passing_ends}
+use Rattle.class_sheet.proofs.Laws.Passing.{passing_starts, passing_wrong, passing_sign, passing_on, passing_ends}
 use Rattle.class_sheet.proofs.take_records.Goals as goal
+use Rattle.class_sheet.proofs.take_records.Goals.{in_default-via-in-Some+else-not-takes_sign, in_default-via-in_default}
 
 pub loop-at-init : goal.loop-at-init
-loop-at-init c = (search passing_starts, search rules)
+loop-at-init c = search passing_starts
 
-pub read_range-requires : goal.read_range-requires
-read_range-requires c = (search passing_clean, search rules)
-
-pub returns-in-Wrong : goal.returns-in-Wrong
-returns-in-Wrong c = search passing_wrong
-
-pub returns-then-takes_sign : goal.returns-then-takes_sign
-returns-then-takes_sign c = search passing_sign
-
-pub fill-requires : goal.fill-requires
-fill-requires c = passing_long c.loop-at.invariant.0
-
-pub loop-at-smaller : goal.loop-at-smaller
-loop-at-smaller c = search passing_less
+pub returns-in_default : goal.returns-in_default
+returns-in_default c =
+    elim c.in_default.branch [
+      | in_default-via-in-Some+else-not-takes_sign w ↦ passing_sign c.loop-at.invariant (omega arith) w.in-Some.ensures w.takes_sign.ensures (search rules) c.judge.ensures
+      | in_default-via-in_default w ↦ passing_wrong c.loop-at.invariant (omega arith) (search rules) c.judge.ensures
+    ]
 
 pub loop-at-preserved : goal.loop-at-preserved
-loop-at-preserved c = (search passing_on, cc)
+loop-at-preserved c = passing_on c.loop-at.invariant (omega arith) c.in-Some.ensures c.takes_sign.ensures (search rules) c.fill-twice.ensures
 
 pub returns : goal.returns
-returns c = search passing_ends
+returns c = passing_ends c.loop-at.invariant (omega arith) c.judge-2.ensures

@@ -1,20 +1,14 @@
--- The five tests are joined as `any` joins them (`signs_tested`).
+use mathlib.Core.Path.{◌∙◌}
+use borrow.Author.Rules.{rules}
+use borrow.Author.Tests.{tests}
+use Rattle.std.proofs.lemmas.Iterator.{YieldsList-from_slice}
+use Rattle.std.proofs.lemmas.Iterator.Search.{any_from_yields_List}
+use Rattle.code.specs.Definitions.Texts.{signs}
 use Rattle.class_sheet.specs.Filling.{from_to}
 use Rattle.class_sheet.proofs.Laws.Signs.{signs_tested}
 use Rattle.class_sheet.proofs.takes_sign.Goals as goal
 
 pub returns : goal.returns
 returns c =
-    let a = c.args in
-    rw (
-      c.or-2.ensures,
-      c.or.ensures,
-      c.takes_in-5.ensures,
-      c.or-square.ensures,
-      c.takes_in-4.ensures,
-      c.takes_in-3.ensures,
-      c.or-round.ensures,
-      c.takes_in-2.ensures,
-      c.takes_in.ensures,
-    )
-    (signs_tested (from_to a.lowest a.highest))
+    let p = from_to c.args.range.lowest c.args.range.highest in
+    any_from_yields_List p _ _ c.any.result c.any.ensures.ran (YieldsList-from_slice signs c.iter.ensures.rest) (λ x b q k. search (rules, tests)) ∙ signs_tested p

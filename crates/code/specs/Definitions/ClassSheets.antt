@@ -1,11 +1,10 @@
 -- What a class sheet means: its ranges, the refusals 1 and 18 to 20 in order, the classes that it gives; and the classes that a sheet gives. The bytes are parted
 -- into records and fields as those of a code sheet are.
-use Rattle.std.specs.Prelude.{◌≡◌, Bool, false, not, ◌&&◌, ◌||◌, List, [], ◌∷◌, map, ℕ, ◌+◌, ◌*◌, ltb, leb, eqb, length, get_or, if◌then◌else◌}
+use Rattle.std.specs.Prelude.{◌≡◌, Bool, false, not, ◌&&◌, ◌||◌, List, [], ◌∷◌, map, ℕ, ◌+◌, ◌*◌, ltb, leb, eqb, length, get_or, if◌then◌else◌, Err, Ok}
 use Rattle.code.specs.declared.Classes.{Classes}
 use Rattle.code.specs.declared.Limits.{Limits}
 use Rattle.code.specs.declared.Refusal.{Refusal}
 use Rattle.code.specs.declared.Refusal.TheVariants.{SheetLength, ClassRecord, ClassRange, ClassOverlap}
-use Rattle.code.specs.declared.SheetAnswer.TheVariants.{Accepted, Refused}
 use Rattle.code.specs.declared.TakenClasses.{TakenClasses}
 use Rattle.code.specs.Definitions.Lists.{any, every, tabulate}
 use Rattle.code.specs.Definitions.Sheets.{is_digit, value_of, grid, bad_bytes, wrong_length}
@@ -85,7 +84,7 @@ unfoldable pub no_letters : Classes
 no_letters = classes_of []
 
 abbrev pub no_classes : Refusal → TakenClasses
-no_classes r = record { answer = Refused r; classes = no_letters }
+no_classes r = record { answer = Err r; classes = no_letters }
 
 module _ (l : Limits) where
   -- "lowest number first"; 1 as for a code sheet
@@ -95,9 +94,9 @@ module _ (l : Limits) where
       if refused18 s then no_classes ClassRecord else
       if refused19 (ranges_of s) then no_classes ClassRange else
       if refused20 (ranges_of s) then no_classes ClassOverlap else
-      record { answer = Accepted; classes = classes_of (ranges_of s) }
+      record { answer = Ok tt; classes = classes_of (ranges_of s) }
 
   -- 02, request 5: "classes that no accepted class sheet gives" get 8: here one gives them.
   pub record FromClassSheet (c : Classes) : Type 0 where
     pub sheet : List ℕ
-    pub gives : taken_classes sheet ≡ record { answer = Accepted; classes = c }
+    pub gives : taken_classes sheet ≡ record { answer = Ok tt; classes = c }

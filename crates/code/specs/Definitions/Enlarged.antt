@@ -1,12 +1,11 @@
 -- The value of a code with copies: how a table and its bans give one, and the table with bans that such a value stands for.
-use Rattle.std.specs.Prelude.{Bool, ◌&&◌, ◌||◌, List, [], map, ℕ, ◌+◌, ◌-◌, ltb, length, take, get_or, if◌then◌else◌}
+use Rattle.std.specs.Prelude.{Bool, ◌&&◌, ◌||◌, List, [], map, ℕ, ◌+◌, ◌-◌, ltb, length, take, get_or, if◌then◌else◌, Err, Ok}
 use Rattle.code.specs.declared.Word.{Word}
 use Rattle.code.specs.declared.Code.{Code}
 use Rattle.code.specs.declared.Enlarged.{Enlarged}
 use Rattle.code.specs.declared.Enlargement.{Enlargement}
 use Rattle.code.specs.declared.Limits.{Limits}
 use Rattle.code.specs.declared.Refusal.TheVariants.{BanLimit}
-use Rattle.code.specs.declared.SheetAnswer.TheVariants.{Accepted, Refused}
 use Rattle.code.specs.Definitions.Lists.{tabulate, sum}
 use Rattle.code.specs.Definitions.Tables.{Table, no_word, table_of}
 use Rattle.code.specs.Definitions.Sheets.{blank_code}
@@ -58,7 +57,7 @@ module _ (l : Limits) where
 
     -- 01: "Where none holds, the operation gives its result."
     unfoldable pub enlargement : Enlargement
-    enlargement = if refused17 then record { answer = Refused BanLimit; enlarged = blank_enlarged } else record { answer = Accepted; enlarged = enlarged_code }
+    enlargement = if refused17 then record { answer = Err BanLimit; enlarged = blank_enlarged } else record { answer = Ok tt; enlarged = enlarged_code }
 
 -- The copies of a value.
 abbrev pub copies_in : Enlarged → List Copy

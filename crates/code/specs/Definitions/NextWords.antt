@@ -1,9 +1,7 @@
 -- The word that the first symbols of a message tell, as many of them as the delay, and what naming it promises, for every input.
-use Rattle.std.specs.Prelude.{◌≡◌, List, [], ◌∷◌, ◌⊎◌, ℕ, ◌<◌, length, take}
+use Rattle.std.specs.Prelude.{◌≡◌, List, [], ◌∷◌, ◌⊎◌, ℕ, ◌<◌, length, take, Err, Ok, Result}
 use Rattle.code.specs.declared.Enlarged.{Enlarged}
 use Rattle.code.specs.declared.Limits.{Limits}
-use Rattle.code.specs.declared.Naming.{Naming}
-use Rattle.code.specs.declared.Naming.TheVariants.{Named, Refused as Not-named}
 use Rattle.code.specs.declared.Refusal.{Refusal}
 use Rattle.code.specs.declared.Refusal.TheVariants.{NotFromSheet, MessageLength, MessageSymbol, ShortBuffer, NoReading, NoFiniteDelay}
 use Rattle.code.specs.Definitions.Tables.{Table, Permitted, message}
@@ -58,8 +56,8 @@ module _ (l : Limits) (e : Enlarged) where
       ∷ []
 
   -- "The delay is worked out in the verdict's working buffer, left all zero unless 8, 11 or 13 is returned."
-  pub data NamesNext (m w w' : List ℕ) : Naming → Type 0 where
-    refused : {r : Refusal} → Lowest (naming_conditions m w) r → w' ≡ w → NamesNext m w w' (Not-named r)
-    unnamed : {r : Refusal} → NoneHolds (naming_conditions m w) → FirstHolds (foretelling_conditions m) r → w' ≡ zeroed w → NamesNext m w w' (Not-named r)
+  pub data NamesNext (m w w' : List ℕ) : Result ℕ Refusal → Type 0 where
+    refused : {r : Refusal} → Lowest (naming_conditions m w) r → w' ≡ w → NamesNext m w w' (Err r)
+    unnamed : {r : Refusal} → NoneHolds (naming_conditions m w) → FirstHolds (foretelling_conditions m) r → w' ≡ zeroed w → NamesNext m w w' (Err r)
     named : {x : ℕ} → NoneHolds (naming_conditions m w) → NoneHolds (foretelling_conditions m) → Foretells (original_table e) m x → w' ≡ zeroed w
-        → NamesNext m w w' (Named x)
+        → NamesNext m w w' (Ok x)

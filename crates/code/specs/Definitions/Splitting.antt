@@ -1,13 +1,11 @@
 -- What splitting a text promises, for every input: the answer, and what each lent buffer then holds.
-use Rattle.std.specs.Prelude.{◌≡◌, List, [], ◌∷◌, ◌⊎◌, ℕ, ◌+◌, ◌*◌, ◌<◌, length}
+use Rattle.std.specs.Prelude.{◌≡◌, List, [], ◌∷◌, ◌⊎◌, ℕ, ◌+◌, ◌*◌, ◌<◌, length, Err, Ok, Result}
 use Rattle.code.specs.declared.ByteCount.{ByteCount}
 use Rattle.code.specs.declared.Classes.{Classes}
 use Rattle.code.specs.declared.Enlarged.{Enlarged}
 use Rattle.code.specs.declared.Limits.{Limits}
 use Rattle.code.specs.declared.Refusal.{Refusal}
 use Rattle.code.specs.declared.Refusal.TheVariants.{NotFromSheet, MessageLength, ShortBuffer}
-use Rattle.code.specs.declared.Splitting.{Splitting}
-use Rattle.code.specs.declared.Splitting.TheVariants.{Split, Refused as Not-split}
 use Rattle.code.specs.Definitions.Enlarged.{original_table}
 use Rattle.code.specs.Definitions.Operations.{Condition, Lowest, NoneHolds, written, zeroed, FromLists}
 use Rattle.code.specs.Definitions.ClassSheets.{FromClassSheet}
@@ -29,8 +27,8 @@ module _ (l : Limits) (e : Enlarged) (classes : Classes) where
       ∷ []
 
   -- The answer is the output's length. 02, request 4: "all left zero after a result"
-  pub data SplitsText (s b m f g w b' m' f' g' w' : List ℕ) : Splitting → Type 0 where
+  pub data SplitsText (s b m f g w b' m' f' g' w' : List ℕ) : Result ByteCount Refusal → Type 0 where
     refused : {r : Refusal} → Lowest (splitting_conditions s b m f g w) r → b' ≡ b → m' ≡ m → f' ≡ f → g' ≡ g → w' ≡ w
-        → SplitsText s b m f g w b' m' f' g' w' (Not-split r)
+        → SplitsText s b m f g w b' m' f' g' w' (Err r)
     split : {n : ByteCount} {o : List ℕ} → NoneHolds (splitting_conditions s b m f g w) → Splits (original_table e) classes.entries s o → n.0 ≡ length o → b' ≡ written o b
-        → m' ≡ zeroed m → f' ≡ zeroed f → g' ≡ zeroed g → w' ≡ zeroed w → SplitsText s b m f g w b' m' f' g' w' (Split n)
+        → m' ≡ zeroed m → f' ≡ zeroed f → g' ≡ zeroed g → w' ≡ zeroed w → SplitsText s b m f g w b' m' f' g' w' (Ok n)

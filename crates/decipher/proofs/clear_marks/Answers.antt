@@ -10,15 +10,15 @@ use Rattle.decipher.proofs.clear_marks.Goals as goal
 
 pub slice_bounds-lay-end-3 : goal.slice_bounds-lay-end-3
 slice_bounds-lay-end-3 c =
-    sym (used_length c.args.work.now (verdict_work limits) c.clear.new.sets c.requires c.clear.ensures)
+    sym (used_length c.args.work.now (verdict_work limits) c.fill.new.self c.requires (c.fill.ensures.after (λ y e. e)))
 
 pub lay-requires : goal.lay-requires
 lay-requires c =
-    omega (arith, used_length c.args.work.now (verdict_work limits) c.clear.new.sets c.requires c.clear.ensures)
+    omega (arith, used_length c.args.work.now (verdict_work limits) c.fill.new.self c.requires (c.fill.ensures.after (λ y e. e)))
 
 pub returns : goal.returns
 returns c =
     let w = c.args.work.now in
-    let z = c.clear.new.sets in
-    let used = used_length w (verdict_work limits) z c.requires c.clear.ensures in
-    all_zero w (verdict_work limits) z c.requires c.clear.ensures _ (c.lay.ensures ∙ laid_whole (take (verdict_work limits) (with_rest w (verdict_work limits) z)) (verdict_work limits) used)
+    let z = c.fill.new.self in
+    let used = used_length w (verdict_work limits) z c.requires (c.fill.ensures.after (λ y e. e)) in
+    all_zero w (verdict_work limits) z c.requires (c.fill.ensures.after (λ y e. e)) _ (c.lay.ensures ∙ laid_whole (take (verdict_work limits) (with_rest w (verdict_work limits) z)) (verdict_work limits) used)

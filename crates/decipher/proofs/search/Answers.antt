@@ -17,8 +17,8 @@ shortest-requires c =
 pub slice_bounds-ambiguous-end : goal.slice_bounds-ambiguous-end
 slice_bounds-ambiguous-end c = search (rules, found_inside)
 
-pub slice_bounds-ambiguous-end-in-Found : goal.slice_bounds-ambiguous-end-in-Found
-slice_bounds-ambiguous-end-in-Found c = search (rules, found_long)
+pub slice_bounds-ambiguous-end-in-Some : goal.slice_bounds-ambiguous-end-in-Some
+slice_bounds-ambiguous-end-in-Some c = search (rules, found_long)
 
 pub ambiguous-requires : goal.ambiguous-requires
 ambiguous-requires c =
@@ -30,12 +30,12 @@ ambiguous-requires c =
 pub decipherable-requires : goal.decipherable-requires
 decipherable-requires c =
     let long : length c.shortest.new.work ≡ length c.args.work.now = omega arith in
-    lent_again c.requires c.shortest.new.work long c.clear.ensures
+    lent_again c.requires c.shortest.new.work long (c.fill.ensures.after (λ y e. e))
 
-pub returns-in-Found : goal.returns-in-Found
-returns-in-Found c = search decided_ambiguous
+pub returns-in-Some : goal.returns-in-Some
+returns-in-Some c = search decided_ambiguous
 
-pub returns-in-Nothing : goal.returns-in-Nothing
-returns-in-Nothing c =
-    let long : length c.clear.new.sets ≡ length c.args.work.now = omega arith in
-    decided_decipherable c.requires.value c.requires.laid c.requires.ended c.shortest.ensures long c.in-Nothing.is c.decipherable.ensures
+pub returns-in-None : goal.returns-in-None
+returns-in-None c =
+    let long : length c.fill.new.self ≡ length c.args.work.now = omega arith in
+    decided_decipherable c.requires.value c.requires.laid c.requires.ended c.shortest.ensures long c.in-None.is c.decipherable.ensures

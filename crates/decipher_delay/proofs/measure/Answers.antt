@@ -2,14 +2,14 @@
 use Rattle.decipher_delay.specs.Delays.{given_laid, extent_low, by_finite, by_unbounded}
 use Rattle.decipher_delay.proofs.measure.Goals as goal
 
+pub returns-in_err-longest : goal.returns-in_err-longest
+returns-in_err-longest c = rw c.from_residual.ensures (search (by_unbounded, c.in_err-longest.was))
+
 pub some_rivals-requires : goal.some_rivals-requires
 some_rivals-requires c = search given_laid
 
-pub delay_of-delay-requires : goal.delay_of-delay-requires
-delay_of-delay-requires c = search extent_low
+pub delay_of-requires : goal.delay_of-requires
+delay_of-requires c = search (extent_low, c.in_ok-longest.was)
 
-pub returns-in-Finite : goal.returns-in-Finite
-returns-in-Finite c = search by_finite
-
-pub returns-in-Unbounded : goal.returns-in-Unbounded
-returns-in-Unbounded c = search by_unbounded
+pub returns : goal.returns
+returns c = search (by_finite, c.in_ok-longest.was)

@@ -1,58 +1,64 @@
-use Prim.Native.Nat.{◌+◌, ◌<◌}
-use native.Mathlib.Omega.{arith}
-use lib.ListN.{length}
+-- The loop goes from pair to pair; each way out is one of those through the walk.
+use Rattle.std.proofs.Common.{◌≡◌, arith, rules, ℕ, ◌+◌, ◌-◌, ◌<◌, length, get_or}
+use Rattle.std.specs.Slice.Iter.{windows_rest}
+use Rattle.std.proofs.lemmas.Iterator.{window_more}
 use Rattle.code.specs.Definitions.Sheets.{limits}
-use Rattle.encode_permitted.proofs.Laws.Walk.{walk_begins, number_low, held_low, next_low, forbidden_empty, forbidden_opening, forbidden_here, walked_on, forbidden_nowhere}
+use Rattle.encode_permitted.proofs.Laws.Walk.{Opens, next_in, held_low, next_low, forbidden_here, walked_on, forbidden_nowhere}
 use Rattle.encode_permitted.proofs.has_forbidden.Goals as goal
-use Rattle.encode_permitted.proofs.has_forbidden.Goals.{After-number_after-next, At-loop-i}
+use Rattle.encode_permitted.proofs.has_forbidden.Goals.{After-number_in-next}
 
--- there is a next word
-more : (c : After-number_after-next) → c.loop-i.i + 1 < length c.args.words.now
-more c = omega arith
+-- where the pair stands
+abbrev at : (c : After-number_in-next) → ℕ
+at c = length c.args.words.now - length (windows_rest c.loop-pair.pair-iterator)
 
--- the number that is found has a row
-row_low : (c : After-number_after-next) → c.number_after-next.result < limits.words
-row_low c = let next = more c in search (next_low limits)
+record Turn (c : After-number_in-next) : Type 0 where
+  more : at c + 1 < length c.args.words.now
+  next : c.number_in-next.result ≡ next_in c.args.e (get_or c.args.words.now (at c) 0) (get_or c.args.words.now (at c + 1) 0)
+  on : length c.args.words.now - length (windows_rest c.next.new.self) ≡ at c + 1
 
--- and the number in hand a column
-column_low : (c : At-loop-i) → c.loop-i.last < limits.words
-column_low c = search (held_low limits)
+turn : (c : After-number_in-next) → Turn c
+turn c =
+    let inv = c.loop-pair.invariant in
+    let t = window_more c.args.words.now c.loop-pair.pair-iterator c.next.new.self _ _ c.in-Some-pair.is c.next.ensures.steps (omega arith) inv.1 inv.2 in
+    let zero : at c + 0 ≡ at c = omega arith in
+    let first : get_or c.in-Some-pair.pair.now 0 0 ≡ get_or c.args.words.now (at c) 0 = rw zero at (t.3 0 0 (omega (arith, inv.0))) in
+    let second : get_or c.in-Some-pair.pair.now 1 0 ≡ get_or c.args.words.now (at c + 1) 0 = t.3 1 0 (omega (arith, inv.0)) in
+    record {
+      more = omega (arith, inv.0, t.2);
+      next = rw (c.from.ensures, c.from-in-loop-pair.ensures, first, second) at c.number_in-next.ensures;
+      on = omega (arith, t.0, inv.1);
+    }
 
-pub returns-then-words-eq0 : goal.returns-then-words-eq0
-returns-then-words-eq0 c = search (forbidden_empty limits)
+row_low : (c : After-number_in-next) → c.number_in-next.result < limits.words
+row_low c = next_low limits c.requires c.loop-pair.invariant.3 (turn c).more (turn c).next
 
-pub overflow_cast-last : goal.overflow_cast-last
-overflow_cast-last c = omega (arith, c.shared_slice_known-2-1.given 0)
+pub bounds-e-next : goal.bounds-e-next
+bounds-e-next c = row_low c
 
-pub bounds-code-last : goal.bounds-code-last
-bounds-code-last c = let low = number_low limits c.requires 0 (omega arith) in omega arith
-
-pub returns-then-code-last-ne1 : goal.returns-then-code-last-ne1
-returns-then-code-last-ne1 c = forbidden_opening limits c.requires (omega arith) (λ o. omega arith)
-
-pub loop-i-init : goal.loop-i-init
-loop-i-init c = walk_begins (omega arith)
-
-pub overflow_cast-y : goal.overflow_cast-y
-overflow_cast-y c = omega (arith, c.shared_slice_known-in-loop-i-1.given c.loop-i.i)
-
-pub overflow_cast-x : goal.overflow_cast-x
-overflow_cast-x c = omega (arith, c.shared_slice_known-in-loop-i-2-1.given (c.loop-i.i + 1))
-
-pub bounds-code-next : goal.bounds-code-next
-bounds-code-next c = row_low c
-
-pub returns-then-row-last-ne1 : goal.returns-then-row-last-ne1
-returns-then-row-last-ne1 c = let next = more (goal.at.returns-then-row-last-ne1 c).After-number_after-next in search (forbidden_here limits)
-
-pub loop-i-preserved : goal.loop-i-preserved
-loop-i-preserved c = let next = more (goal.at.loop-i-preserved c).After-number_after-next in search (walked_on limits)
-
-pub returns : goal.returns
-returns c = search (forbidden_nowhere limits)
-
-pub offset_bounds-code-next : goal.offset_bounds-code-next
-offset_bounds-code-next c = omega (arith, row_low c)
+pub offset_bounds-e-next : goal.offset_bounds-e-next
+offset_bounds-e-next c = omega (arith, row_low c)
 
 pub bounds-row-last : goal.bounds-row-last
-bounds-row-last c = column_low (goal.at.bounds-row-last c).At-loop-i
+bounds-row-last c = held_low limits c.requires c.loop-pair.invariant.3
+
+pub returns-then-row-last-ne1 : goal.returns-then-row-last-ne1
+returns-then-row-last-ne1 c =
+    let t = turn (goal.at.returns-then-row-last-ne1 c).After-number_in-next in
+    forbidden_here limits c.requires c.loop-pair.invariant.3 t.more t.next c.if-row-last-ne1.true
+
+pub loop-pair-preserved : goal.loop-pair-preserved
+loop-pair-preserved c =
+    let inv = c.loop-pair.invariant in
+    let t = turn (goal.at.loop-pair-preserved c).After-number_in-next in
+    let left = window_more c.args.words.now c.loop-pair.pair-iterator c.next.new.self _ _ c.in-Some-pair.is c.next.ensures.steps (omega arith) inv.1 inv.2 in (
+      search rules,
+      omega (arith, left.0),
+      left.1,
+      rw t.on (walked_on limits c.requires inv.3 t.more t.next c.if-row-last-ne1.false),
+    )
+
+pub returns : goal.returns
+returns c =
+    let inv = c.loop-pair.invariant in
+    let opens : Opens c.args.e c.args.words.now = search rules in
+    forbidden_nowhere limits c.requires inv.3 opens (omega (arith, inv.0, inv.1, c.in-None.ensures.steps.1.0))

@@ -1,4 +1,5 @@
 -- The ways through the functions for C, one for each end of a call.
+use Rattle.std.specs.Prelude.{Ok, Result}
 use mathlib.Core.Path.{◌≡◌, refl, sym, ◌∙◌}
 use mathlib.Core.Bool.{Bool, true, false}
 use mathlib.Core.List.{List, []}
@@ -13,12 +14,11 @@ use Rattle.code.specs.declared.Enlarged.{Enlarged}
 use Rattle.code.specs.declared.Enlargement.{Enlargement}
 use Rattle.code.specs.declared.Taken.{Taken}
 use Rattle.code.specs.declared.TakenClasses.{TakenClasses}
-use Rattle.code.specs.declared.SheetAnswer.TheVariants.{Accepted}
-use Rattle.code.specs.declared.Encoding.{Encoding}
-use Rattle.code.specs.declared.Reading.{Reading}
-use Rattle.code.specs.declared.Judgement.{Judgement}
-use Rattle.code.specs.declared.Naming.{Naming}
-use Rattle.code.specs.declared.Splitting.{Splitting}
+use Rattle.code.specs.declared.Refusal.{Refusal}
+use Rattle.code.specs.declared.Readings.{Readings}
+use Rattle.code.specs.declared.Verdict.{Verdict}
+use Rattle.code.specs.declared.ByteCount.{ByteCount}
+use Rattle.code.specs.declared.SymbolCount.{SymbolCount}
 use Rattle.code.specs.Definitions.ClassSheets.{different_bytes, taken_classes}
 use Rattle.code.specs.Definitions.Enlarged.{plain_of}
 use Rattle.code.specs.Definitions.NextWords.{naming_conditions, NamesNext}
@@ -29,7 +29,7 @@ use Rattle.c_results.specs.Given.{Answered, classes_in}
 use Rattle.c_image.specs.Image.{image_length, image_of, enlarged_in}
 use Rattle.turkish_letters.specs.Letters.{turkish_classes}
 use Rattle.turkish.specs.Types.{types, code_of_types}
-use Rattle.c_answers.specs.Answers.{short_number, answer_length, encoding_number, encoding_entries, splitting_number, splitting_entries, reading_number, reading_entries, naming_number, naming_entries, judgement_number, judgement_entries}
+use Rattle.c_answers.specs.Answers.{short_number, answer_length, answer_number, answer_entries, symbols_entries, bytes_entries, readings_entries, word_entries, verdict_entries}
 use Rattle.c_short_answers.specs.Untold.{Untold}
 use Rattle.furlazon.specs.Calls.{TakesIn, ClassesCall, TurkishCall, TurkishClassesCall, EnlargeCall, EncodeCall, ReadCall, NextCall, VerdictCall, SplitCall}
 
@@ -39,7 +39,7 @@ pub sheet_answered : (s : List ℕ) {b b' : List ℕ} {n : ℕ} {t : Taken} {e :
     → Answered t.answer image_length (image_of e) b b' n → TakesIn s b b' n
 sheet_answered s g p h = rw (p, g) at h
 
-pub turkish_answered : {b b' : List ℕ} {n : ℕ} {c : Code} {e : Enlarged} → c ≡ code_of_types limits types → e ≡ plain_of limits c → Answered Accepted image_length (image_of e) b b' n
+pub turkish_answered : {b b' : List ℕ} {n : ℕ} {c : Code} {e : Enlarged} → c ≡ code_of_types limits types → e ≡ plain_of limits c → Answered (Ok tt) image_length (image_of e) b b' n
     → TurkishCall b b' n
 turkish_answered g p h = rw (p, g) at h
 
@@ -47,7 +47,7 @@ pub classes_answered : (s : List ℕ) {b b' : List ℕ} {n : ℕ} {t : TakenClas
     → ClassesCall s b b' n
 classes_answered s g h = rw g at h
 
-pub letters_answered : {b b' : List ℕ} {n : ℕ} {c : Classes} → c.entries ≡ turkish_classes → Answered Accepted different_bytes c.entries b b' n → TurkishClassesCall b b' n
+pub letters_answered : {b b' : List ℕ} {n : ℕ} {c : Classes} → c.entries ≡ turkish_classes → Answered (Ok tt) different_bytes c.entries b b' n → TurkishClassesCall b b' n
 letters_answered g h = rw g at h
 
 pub list_unread : {t s b : List ℕ} {n : ℕ} → length t < image_length → n ≡ short_number → EnlargeCall t s b b n
@@ -74,8 +74,8 @@ module _ {t s m a : List ℕ} where
       → EncodeCall t s m a m a n
   encode_untold h l u e = EncodeCall.untold h l (rw u at e) refl refl
 
-  pub encode_answered : {m' a' : List ℕ} {n : ℕ} {e : Encoding} {v : Enlarged} → image_length ≤ length t → answer_length ≤ length a → v ≡ enlarged_in t → Encodes limits v s m m' e
-      → (n ≡ encoding_number e) × (a' ≡ written (encoding_entries e) a) → EncodeCall t s m a m' a' n
+  pub encode_answered : {m' a' : List ℕ} {n : ℕ} {e : Result SymbolCount Refusal} {v : Enlarged} → image_length ≤ length t → answer_length ≤ length a → v ≡ enlarged_in t → Encodes limits v s m m' e
+      → (n ≡ answer_number e) × (a' ≡ written (answer_entries symbols_entries e) a) → EncodeCall t s m a m' a' n
   encode_answered h l u r w = EncodeCall.answered h l (rw u at r) w.0 w.1
 
 module _ {t m f g w a : List ℕ} where
@@ -86,8 +86,8 @@ module _ {t m f g w a : List ℕ} where
       → ReadCall t m f g w a f g w a n
   read_untold h l u e = ReadCall.untold h l (rw u at e) refl refl refl refl
 
-  pub read_answered : {f' g' w' a' : List ℕ} {n : ℕ} {e : Reading} {v : Enlarged} → image_length ≤ length t → answer_length ≤ length a → v ≡ enlarged_in t
-      → ReadsMessage limits v m f g w f' g' w' e → (n ≡ reading_number e) × (a' ≡ written (reading_entries e) a) → ReadCall t m f g w a f' g' w' a' n
+  pub read_answered : {f' g' w' a' : List ℕ} {n : ℕ} {e : Result Readings Refusal} {v : Enlarged} → image_length ≤ length t → answer_length ≤ length a → v ≡ enlarged_in t
+      → ReadsMessage limits v m f g w f' g' w' e → (n ≡ answer_number e) × (a' ≡ written (answer_entries readings_entries e) a) → ReadCall t m f g w a f' g' w' a' n
   read_answered h l u r e = ReadCall.answered h l (rw u at r) e.0 e.1
 
   pub verdict_unread : {n : ℕ} → length t < image_length → n ≡ short_number → VerdictCall t m f g w a m f g w a n
@@ -97,8 +97,8 @@ module _ {t m f g w a : List ℕ} where
       → VerdictCall t m f g w a m f g w a n
   verdict_untold h l u e = VerdictCall.untold h l (rw u at e) refl refl refl refl refl
 
-  pub verdict_answered : {m' f' g' w' a' : List ℕ} {n : ℕ} {e : Judgement} {v : Enlarged} → image_length ≤ length t → answer_length ≤ length a → v ≡ enlarged_in t
-      → Judges limits v m f g w m' f' g' w' e → (n ≡ judgement_number e) × (a' ≡ written (judgement_entries e) a) → VerdictCall t m f g w a m' f' g' w' a' n
+  pub verdict_answered : {m' f' g' w' a' : List ℕ} {n : ℕ} {e : Result Verdict Refusal} {v : Enlarged} → image_length ≤ length t → answer_length ≤ length a → v ≡ enlarged_in t
+      → Judges limits v m f g w m' f' g' w' e → (n ≡ answer_number e) × (a' ≡ written (answer_entries verdict_entries e) a) → VerdictCall t m f g w a m' f' g' w' a' n
   verdict_answered h l u r e = VerdictCall.answered h l (rw u at r) e.0 e.1
 
 module _ {t m w a : List ℕ} where
@@ -109,8 +109,8 @@ module _ {t m w a : List ℕ} where
       → NextCall t m w a w a n
   next_untold h l u e = NextCall.untold h l (rw u at e) refl refl
 
-  pub next_answered : {w' a' : List ℕ} {n : ℕ} {e : Naming} {v : Enlarged} → image_length ≤ length t → answer_length ≤ length a → v ≡ enlarged_in t → NamesNext limits v m w w' e
-      → (n ≡ naming_number e) × (a' ≡ written (naming_entries e) a) → NextCall t m w a w' a' n
+  pub next_answered : {w' a' : List ℕ} {n : ℕ} {e : Result ℕ Refusal} {v : Enlarged} → image_length ≤ length t → answer_length ≤ length a → v ≡ enlarged_in t → NamesNext limits v m w w' e
+      → (n ≡ answer_number e) × (a' ≡ written (answer_entries word_entries e) a) → NextCall t m w a w' a' n
   next_answered h l u r e = NextCall.answered h l (rw u at r) e.0 e.1
 
 module _ {t k s b m f g w a : List ℕ} where
@@ -124,6 +124,6 @@ module _ {t k s b m f g w a : List ℕ} where
     pub split_untold : {n : ℕ} → length a < answer_length → Untold (splitting_conditions limits v c s [] [] [] [] []) n → SplitCall t k s b m f g w a b m f g w a n
     split_untold l e = SplitCall.untold long whole l (rw (table, classes) at e) refl refl refl refl refl refl
 
-    pub split_answered : {b' m' f' g' w' a' : List ℕ} {n : ℕ} {e : Splitting} → answer_length ≤ length a → SplitsText limits v c s b m f g w b' m' f' g' w' e
-        → (n ≡ splitting_number e) × (a' ≡ written (splitting_entries e) a) → SplitCall t k s b m f g w a b' m' f' g' w' a' n
+    pub split_answered : {b' m' f' g' w' a' : List ℕ} {n : ℕ} {e : Result ByteCount Refusal} → answer_length ≤ length a → SplitsText limits v c s b m f g w b' m' f' g' w' e
+        → (n ≡ answer_number e) × (a' ≡ written (answer_entries bytes_entries e) a) → SplitCall t k s b m f g w a b' m' f' g' w' a' n
     split_answered l r e = SplitCall.answered long whole l (rw (table, classes) at r) e.0 e.1

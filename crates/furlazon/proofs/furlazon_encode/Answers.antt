@@ -11,5 +11,5 @@ returns-then-is_short c = search (encode_untold, answer_short)
 pub returns : goal.returns
 returns c = search (encode_answered, answer_room)
 
-pub put_encoding-requires : goal.put_encoding-requires
-put_encoding-requires c = search answer_room
+pub put_answer-requires : goal.put_answer-requires
+put_answer-requires c = search answer_room

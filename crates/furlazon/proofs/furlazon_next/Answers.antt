@@ -11,5 +11,5 @@ returns-then-is_short c = search (next_untold, answer_short)
 pub returns : goal.returns
 returns c = search (next_answered, answer_room)
 
-pub put_naming-requires : goal.put_naming-requires
-put_naming-requires c = search answer_room
+pub put_answer-requires : goal.put_answer-requires
+put_answer-requires c = search answer_room

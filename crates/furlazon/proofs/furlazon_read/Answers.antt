@@ -11,5 +11,5 @@ returns-then-is_short c = search (read_untold, answer_short)
 pub returns : goal.returns
 returns c = search (read_answered, answer_room)
 
-pub put_reading-requires : goal.put_reading-requires
-put_reading-requires c = search answer_room
+pub put_answer-requires : goal.put_answer-requires
+put_answer-requires c = search answer_room

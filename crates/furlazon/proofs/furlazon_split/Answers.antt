@@ -13,11 +13,11 @@ returns-then-is_short c =
     split_untold c.if-table-lt-LENGTH.false c.if-classes-lt-BYTES.false c.unpack-value.ensures c.classes_in-letters.ensures
     (answer_short _ c.is_short.ensures c.if-is_short.true) c.untold_splitting.ensures
 
-pub put_splitting-requires : goal.put_splitting-requires
-put_splitting-requires c =
+pub put_answer-requires : goal.put_answer-requires
+put_answer-requires c =
     answer_room _ c.is_short.ensures c.if-is_short.false
 
 pub returns : goal.returns
 returns c =
     split_answered c.if-table-lt-LENGTH.false c.if-classes-lt-BYTES.false c.unpack-value.ensures c.classes_in-letters.ensures
-    (answer_room _ c.is_short.ensures c.if-is_short.false) c.split-e.ensures c.put_splitting.ensures
+    (answer_room _ c.is_short.ensures c.if-is_short.false) c.split-e.ensures c.put_answer.ensures

@@ -11,5 +11,5 @@ returns-then-is_short c = search (verdict_untold, answer_short)
 pub returns : goal.returns
 returns c = search (verdict_answered, answer_room)
 
-pub put_judgement-requires : goal.put_judgement-requires
-put_judgement-requires c = search answer_room
+pub put_answer-requires : goal.put_answer-requires
+put_answer-requires c = search answer_room

@@ -1,18 +1,21 @@
 -- The ways through the operation: the refusals in their order, and the word that is named. What the plain code tells is told of the table of original words: a copy
 -- never begins, so each word that begins is its own original.
+use Rattle.std.specs.Prelude.{Err, Ok, Result}
+use Rattle.std.proofs.Common.{Option, Some, None}
+use Rattle.std.specs.Option.{ok_or}
 use mathlib.Core.Path.{◌≡◌, refl, sym, ap, subst}
 use mathlib.Core.Bool.{Bool, true, false}
 use mathlib.Core.List.{List, [], ◌∷◌}
 use mathlib.Core.Logic.{inl, inr}
+use Rattle.std.proofs.Common.{None, Some}
 use Prim.Native.Nat.{ℕ, ◌≤◌, ◌<◌}
 use native.Mathlib.Omega.{arith}
 use lib.ListN.{length, take, replicate}
 use lib.Seq.{take_all}
 use Rattle.code.specs.declared.Enlarged.{Enlarged}
-use Rattle.code.specs.declared.Naming.{Naming}
-use Rattle.code.specs.declared.Naming.TheVariants.{Named, Refused}
 use Rattle.code.specs.declared.Refusal.TheVariants.{NotFromSheet, MessageLength, MessageSymbol, ShortBuffer, NoReading, NoFiniteDelay}
 use Rattle.code.specs.declared.SymbolCount.{SymbolCount}
+use Rattle.code.specs.declared.Refusal.{Refusal}
 use Rattle.code.specs.Definitions.Delays.{Delay}
 use Rattle.code.specs.Definitions.Enlarged.{original_table}
 use Rattle.code.specs.Definitions.NextWords.{NextWord, NoDelay, HighSoon, NotForetold, NamesNext, refused, unnamed, named}
@@ -26,8 +29,6 @@ use Rattle.well_enlarged.specs.Meaning.{value_covers}
 use Rattle.well_enlarged.specs.WellEnlarged.{WellEnlarged}
 use Rattle.code.specs.Laws.Exactly.{Exactly}
 use Rattle.code.specs.Laws.Words.{size-count}
-use Rattle.decipher_bound.specs.declared.Bound.{Bound}
-use Rattle.decipher_bound.specs.declared.Bound.TheVariants.{Delay as Known, Nothing}
 use Rattle.decipher_bound.specs.Bounds.{BoundBy, known_low, known_means, nothing_means}
 use Rattle.pair_graph.specs.RivalPairs.{Ended}
 use Rattle.pair_places.specs.Whole.{LaidOut}
@@ -59,20 +60,20 @@ module _ {e : Enlarged} (well : WellEnlarged limits e) where
     no_high : (HasHigh (take N m) → ⊥) → HighSoon (original_table e) m → ⊥
     no_high n h = n (high_by d h)
 
-    pub way_12 : {b : Bool} → Exactly b (HasHigh (take N m)) → b ≡ true → Told e m (Refused MessageSymbol)
+    pub way_12 : {b : Bool} → Exactly b (HasHigh (take N m)) → b ≡ true → Told e m (Err MessageSymbol)
     way_12 x h = not_told (inr (has_delay d, inl (high_iff (x.yes h), refl)))
 
     module _ {b : Bool} (x : Exactly b (HasHigh (take N m))) (low : b ≡ false) where
-      pub way_empty : length m ≡ 0 → Told e m (Refused NoReading)
+      pub way_empty : length m ≡ 0 → Told e m (Err NoReading)
       way_empty h = not_told (inr (has_delay d, inr (no_high (x.no low), inl (record { N = N; delay = d; none = inl (empty m h) }, refl))))
         where
           empty : (l : List ℕ) → length l ≡ 0 → l ≡ []
           empty [] q = refl
           empty (y ∷ l) q = absurd (omega arith)
 
-      module _ {r : ℕ} (some : length m ≡ 0 → ⊥) (f : Picked (NextWord (table_of e.code) N m) e.code.count r) where
-        pub way_14 : e.code.count ≤ r → Told e m (Refused NoReading)
-        way_14 h =
+      module _ (some : length m ≡ 0 → ⊥) where
+        pub way_14 : Picked (NextWord (table_of e.code) N m) e.code.count None → Told e m (Err NoReading)
+        way_14 f =
             not_told (inr (
               has_delay d,
               inr (
@@ -81,32 +82,36 @@ module _ {e : Enlarged} (well : WellEnlarged limits e) where
                   record {
                     N = N;
                     delay = d;
-                    none = inr (λ z a. let b = back a in f.none h z (code_size b) b);
+                    none = inr (λ z a. let b = back a in f z (code_size b) b);
                   },
                   refl,
                 ),
               ),
             ))
 
-        pub way_named : r < e.code.count → Told e m (Named r)
-        way_named h = told (has_delay d, (no_high (x.no low), (some_told, tt))) (record { N = N; delay = d; next = there (f.is h) })
+        pub way_named : {r : ℕ} → Picked (NextWord (table_of e.code) N m) e.code.count (Some r) → Told e m (Ok r)
+        way_named {r} f = told (has_delay d, (no_high (x.no low), (some_told, tt))) (record { N = N; delay = d; next = there f.1 })
           where
             some_told : NotForetold (original_table e) m → ⊥
             some_told u =
                 elim (not_foretold_by d u) [
                   | inl q ↦ some (ap length q)
-                  | inr n ↦ n r (there (f.is h))
+                  | inr n ↦ n r (there f.1)
                 ]
 
+        pub way_last : (o : Option ℕ) → Picked (NextWord (table_of e.code) N m) e.code.count o → Told e m (ok_or o NoReading)
+        way_last None f = way_14 f
+        way_last (Some r) f = way_named f
+
   -- What the searches say.
-  module _ {places : List ℕ} {b : Bound} (laid : LaidOut (table_of e.code) places) (ended : Ended (table_of e.code) places) (h : BoundBy places b) where
-    pub way_21 : {m : List ℕ} → b ≡ Nothing → Told e m (Refused NoFiniteDelay)
+  module _ {places : List ℕ} {b : Option SymbolCount} (laid : LaidOut (table_of e.code) places) (ended : Ended (table_of e.code) places) (h : BoundBy places b) where
+    pub way_21 : {m : List ℕ} → b ≡ None → Told e m (Err NoFiniteDelay)
     way_21 q = not_told (inl (named_endless (value_covers well) (nothing_means laid ended h q), refl))
 
-    pub bound_delay : {d : SymbolCount} → b ≡ Known d → Delay (original_table e) d.0
+    pub bound_delay : {d : SymbolCount} → b ≡ Some d → Delay (original_table e) d.0
     bound_delay q = named_delay (value_covers well) (known_means h q laid ended)
 
-    pub bound_room : {d : SymbolCount} {w : ℕ} → b ≡ Known d → verdict_work limits ≤ w → d.0 < w
+    pub bound_room : {d : SymbolCount} {w : ℕ} → b ≡ Some d → verdict_work limits ≤ w → d.0 < w
     bound_room q l = omega (arith, known_low h q laid.laid)
 
 -- The first symbols.
@@ -115,18 +120,18 @@ high_all {n} m h x = rw (take_all n m h) x
 
 -- The refusals that change nothing, and what was told with the working buffer zero.
 module _ {e : Enlarged} (m w : List ℕ) where
-  pub way_8 : {t : Bool} → Exactly t (FromLists limits e) → t ≡ false → NamesNext limits e m w w (Refused NotFromSheet)
+  pub way_8 : {t : Bool} → Exactly t (FromLists limits e) → t ≡ false → NamesNext limits e m w w (Err NotFromSheet)
   way_8 lists h = refused (inl (lists.no h, refl)) refl
 
   module _ (from : FromLists limits e) where
-    pub way_11 : limits.message < length m → NamesNext limits e m w w (Refused MessageLength)
+    pub way_11 : limits.message < length m → NamesNext limits e m w w (Err MessageLength)
     way_11 h = refused (inr (λ n. n from, inl (h, refl))) refl
 
     module _ (short : length m ≤ limits.message) where
-      pub way_13 : length w < verdict_work limits → NamesNext limits e m w w (Refused ShortBuffer)
+      pub way_13 : length w < verdict_work limits → NamesNext limits e m w w (Err ShortBuffer)
       way_13 h = refused (inr (λ n. n from, inr (λ n. omega arith, inl (h, refl)))) refl
 
-      pub way_told : {w' : List ℕ} {r : Naming} {k : ℕ} → verdict_work limits ≤ length w → Told e m r → k ≡ length w → w' ≡ replicate k 0 → NamesNext limits e m w w' r
+      pub way_told : {w' : List ℕ} {r : Result ℕ Refusal} {k : ℕ} → verdict_work limits ≤ length w → Told e m r → k ≡ length w → w' ≡ replicate k 0 → NamesNext limits e m w w' r
       way_told h (not_told l) q z = unnamed (λ n. n from, (λ n. omega arith, (λ n. omega arith, tt))) l (rw q at z)
       way_told h (told n f) q z = named (λ n. n from, (λ n. omega arith, (λ n. omega arith, tt))) n f (rw q at z)
 

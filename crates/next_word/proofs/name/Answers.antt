@@ -1,6 +1,5 @@
 -- `name` meets its contract: 12, 14 for the empty message, 14 for a message that tells no word, or the word that it tells.
-use native.Mathlib.Omega.{arith}
-use Rattle.next_word.proofs.Laws.Ways.{way_12, way_empty, way_14, way_named}
+use Rattle.next_word.proofs.Laws.Ways.{way_12, way_empty, way_last}
 use Rattle.next_word.proofs.name.Goals as goal
 
 pub returns-then-high_soon : goal.returns-then-high_soon
@@ -10,13 +9,7 @@ pub returns-then-message-eq0 : goal.returns-then-message-eq0
 returns-then-message-eq0 c =
     way_empty c.requires.0 c.args.message.now c.requires.1 c.high_soon.ensures c.if-high_soon.false c.if-message-eq0.true
 
-pub tell-x-requires : goal.tell-x-requires
-tell-x-requires c = (c.requires.0.code, omega (arith, c.requires.2), omega arith)
-
-pub returns-then-code-x : goal.returns-then-code-x
-returns-then-code-x c =
-    way_14 c.requires.0 c.args.message.now c.requires.1 c.high_soon.ensures c.if-high_soon.false c.if-message-eq0.false c.tell-x.ensures c.if-code-x.true
-
 pub returns : goal.returns
 returns c =
-    way_named c.requires.0 c.args.message.now c.requires.1 c.high_soon.ensures c.if-high_soon.false c.if-message-eq0.false c.tell-x.ensures c.if-code-x.false
+    rw c.ok_or.ensures.value
+    (way_last c.requires.0 c.args.message.now c.requires.1 c.high_soon.ensures c.if-high_soon.false c.if-message-eq0.false _ c.tell.ensures)

@@ -21,4 +21,7 @@ foretell-r-requires c =
     (from_lists (from_tested c.well_enlarged.ensures c.if-not-well_enlarged.false), omega arith)
 
 pub returns : goal.returns
-returns c = search (way_told, from_tested)
+returns c =
+    let given = from_tested c.well_enlarged.ensures c.if-not-well_enlarged.false in
+    way_told c.args.message.now c.args.work.now given c.if-message-gt-SYMBOLS.false (omega arith) c.foretell-r.ensures (omega arith)
+    (c.fill.ensures.after (λ y z. z))

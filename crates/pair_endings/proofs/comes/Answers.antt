@@ -1,19 +1,13 @@
-use native.Mathlib.Omega.{arith}
+-- Where `x` may not begin, the closure asks of each word whether it lets `x` come.
 use borrow.Author.Rules.{rules}
-use Rattle.pair_endings.specs.Closing.{comes_begins, none_more, comes_after, comes_none}
+use borrow.Author.Tests.{tests}
+use Rattle.pair_places.specs.Flat.{word_count}
+use Rattle.pair_places.proofs.Searches.{any_passes}
+use Rattle.pair_endings.specs.Closing.{lets_come, comes_behind}
 use Rattle.pair_endings.proofs.comes.Goals as goal
 
-pub returns-then-may_come : goal.returns-then-may_come
-returns-then-may_come c = search comes_begins
-
-pub loop-y-init : goal.loop-y-init
-loop-y-init c = (search rules, λ y h. absurd (omega arith))
-
-pub returns-then-lets : goal.returns-then-lets
-returns-then-lets c = search comes_after
-
-pub loop-y-preserved : goal.loop-y-preserved
-loop-y-preserved c = (search rules, search none_more)
-
-pub returns : goal.returns
-returns c = search comes_none
+pub returns-else-may_come : goal.returns-else-may_come
+returns-else-may_come c =
+    let a = c.args in
+    comes_behind a.places.now a.marks.now a.x c.may_come.ensures c.if-may_come.false
+    (any_passes (lets_come a.places.now a.marks.now a.x) (word_count a.places.now) _ _ _ (cc) c.any.ensures.ran (λ y b q k. search (rules, tests)))

@@ -53,5 +53,5 @@ module _ {f q : List ℕ} {tail a b : ℕ} (laid : Laid f) (s : Ascending (open_
   pub group_differs : {x y : ℕ} → x ≡ key_of f (get_or q b 0) → y ≡ key_of f (get_or q a 0) → (x ≡ y → ⊥) → IsGroup (open_graph f) q tail a b
   group_differs d e n = run_end r s (λ l z. n (d ∙ z ∙ sym e))
 
-  pub group_last : tail ≤ b → IsGroup (open_graph f) q tail a b
-  group_last h = run_end r s (λ l. absurd (omega arith))
+  pub group_last : tail ≤ b → IsGroup (open_graph f) q tail a tail
+  group_last h = let e : b ≡ tail = let l = r.ends in omega arith in rw e at (run_end r s (λ l. absurd (omega arith)))

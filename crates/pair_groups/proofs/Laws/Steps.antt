@@ -1,4 +1,5 @@
 -- One slot of a member, way by way: it leads to nothing new, to a goal, or to a node that is then queued.
+use Rattle.std.proofs.Common.{ControlFlow}
 use mathlib.Core.Path.{◌≡◌, ap, ◌∙◌}
 use mathlib.Core.List.{List}
 use Prim.Native.Nat.{ℕ, ◌+◌, ◌<◌}
@@ -8,7 +9,6 @@ use Rattle.pair_places.specs.Flat.{cell_count}
 use Rattle.pair_places.specs.Nodes.{cells_most}
 use Rattle.pair_places.specs.Opens.{toward, open_graph}
 use Rattle.pair_storage.specs.Entries.{entry_of, node_in, node_at, node_entry, above_entry, entries_in, length_entries_in}
-use Rattle.pair_slots.specs.declared.Progress.{Progress}
 use Rattle.pair_slots.specs.Ensured.{Turned, IsFresh, IsGoal, Arrived, known, final, queued}
 use Rattle.pair_groups.specs.Ensured.{Stands, Expanding, GoalNext, Progressed, met, went}
 use Rattle.pair_groups.proofs.Laws.Frontier.{first_goal}
@@ -50,18 +50,18 @@ module _ {f ms q : List ℕ} {tail a b t k c v : ℕ} (x : Expanding f ms q tail
       (link l) m.symbol m.plain m.clear
       (node_entry (a + 1) v (omega arith)) (above_entry (a + 1) v (omega arith)) leads
 
-  pub slot_done : {ms' q' : List ℕ} {p : Progress} → Arrived f ms (entries_in f q) ms' q' a t tail v p → Progressed f ms' q' a b t k (c + 1) p
+  pub slot_done : {ms' q' : List ℕ} {p : ControlFlow ℕ ℕ} → Arrived f ms (entries_in f q) ms' q' a t tail v p → Progressed f ms' q' a b t k (c + 1) p
   slot_done (known h d e) = rw (d, e) (went (pass x.stands (rw leads (λ l z. met_marked x.stands x.ready.low v (h l z)))))
   slot_done (final h d e) = rw (d, e) (met (goal_next h))
   slot_done (queued h d e) = rw (d, e) (went (pushed h))
 
 -- The member's number stays.
-module _ {f ms q ms' q' : List ℕ} {tail a b t k c v : ℕ} {p : Progress} (x : Expanding f ms q tail a b t k c)
+module _ {f ms q ms' q' : List ℕ} {tail a b t k c v : ℕ} {p : ControlFlow ℕ ℕ} (x : Expanding f ms q tail a b t k c)
     (h : Arrived f ms (entries_in f q) ms' q' a t tail v p) where
   member_kept : node_at q' k ≡ node_at (entries_in f q) k
   member_kept = ap node_in (by h)
     where
-      by : {p : Progress} → Arrived f ms (entries_in f q) ms' q' a t tail v p → get_or q' k 0 ≡ get_or (entries_in f q) k 0
+      by : {p : ControlFlow ℕ ℕ} → Arrived f ms (entries_in f q) ms' q' a t tail v p → get_or q' k 0 ≡ get_or (entries_in f q) k 0
       by (known h d e) = ap (λ (l : List ℕ). get_or l k 0) e
       by (final h d e) = ap (λ (l : List ℕ). get_or l k 0) e
       by (queued h d e) =

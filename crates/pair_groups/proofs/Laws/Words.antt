@@ -1,5 +1,6 @@
 -- The slots of a member that turns, word by word: those of a word that cannot come by the symbol are passed over, the others lead to the pairs of that word
 -- and each word in order behind it.
+use Rattle.std.proofs.Common.{ControlFlow, Continue, Break}
 use Rattle.std.specs.Prelude.{if◌then◌else◌}
 use mathlib.Core.Path.{◌≡◌, refl, sym, ap, ◌∙◌}
 use mathlib.Core.Bool.{Bool, true, false, not, true≢false, and-eq-true_iff}
@@ -15,8 +16,6 @@ use Rattle.pair_places.specs.Flat.{symbol_at, first_at, may_come, opens_at, word
 use Rattle.pair_places.specs.Nodes.{node_of}
 use Rattle.pair_places.specs.Opens.{left_word, right_word, in_order, pair_behind, toward, open_graph, behind_tests, behind_words, in_order_lem, in_order_least, toward-turning}
 use Rattle.pair_storage.specs.Entries.{node_at, entries_in}
-use Rattle.pair_slots.specs.declared.Progress.{Progress}
-use Rattle.pair_slots.specs.declared.Progress.TheVariants.{Goal, Tail}
 use Rattle.pair_slots.specs.Ensured.{Turned, Arrived}
 use Rattle.pair_slots.specs.Widths.{width-turning}
 use Rattle.pair_slots.specs.Words.{leads_behind, least_behind}
@@ -66,7 +65,7 @@ module _ {f ms q : List ℕ} {tail a b t k : ℕ} (y : ℕ) (u : Turned f (node_
 module _ {f ms q : List ℕ} {tail a b t k : ℕ} (y : ℕ) (u : Turned f (node_at (entries_in f q) k) y) where
   -- A word that does not lead by t.
   pub word_over : (x : ℕ) {r : Bool} → Expanding f ms q tail a b t k (x * limits.words) → r ≡ leads_behind f t y x → not r ≡ true
-      → Progressed f ms (entries_in f q) a b t k ((x + 1) * limits.words) (Tail tail)
+      → Progressed f ms (entries_in f q) a b t k ((x + 1) * limits.words) (Continue tail)
   word_over x {r} s d e =
       went
       (pass_over y u s.stands (λ j l m h i. let z : left_word j ≡ x = omega arith in true≢false (sym (word_leads f t y j h i) ∙ rw z (sym d ∙ not-true r e))))
@@ -88,23 +87,23 @@ module _ {f ms q : List ℕ} {tail a b t k : ℕ} (y : ℕ) (u : Turned f (node_
 
   -- After the last word.
   pub word_ended : (x : ℕ) {z n : ℕ} → Expanding f ms q tail a b t k (x * limits.words + z) → n ≡ word_count f → n ≤ z
-      → Progressed f ms (entries_in f q) a b t k ((x + 1) * limits.words) (Tail tail)
+      → Progressed f ms (entries_in f q) a b t k ((x + 1) * limits.words) (Continue tail)
   word_ended x {z} {n} s e l = went (pass_over y u s.stands (λ j m o h i. let g = (behind_tests f y j h).known in omega arith))
 
   -- After the pair of words x and z was met.
-  module _ (x z : ℕ) {ms' q' : List ℕ} {p : Progress} (s : Expanding f ms q tail a b t k (x * limits.words + z)) where
-    pub word_next : {e : ℕ} → Arrived f ms (entries_in f q) ms' (entries_in f q') a t tail (pair_behind f y (x * limits.words + z)) p → p ≡ Tail e → length q' ≡ length q
+  module _ (x z : ℕ) {ms' q' : List ℕ} {p : ControlFlow ℕ ℕ} (s : Expanding f ms q tail a b t k (x * limits.words + z)) where
+    pub word_next : {e : ℕ} → Arrived f ms (entries_in f q) ms' (entries_in f q') a t tail (pair_behind f y (x * limits.words + z)) p → p ≡ Continue e → length q' ≡ length q
         → Expanding f ms' q' e a b t k (x * limits.words + (z + 1))
     word_next m d l =
         let w : x * limits.words + z + 1 ≡ x * limits.words + (z + 1) = omega arith in
         rw w at (expanding_next s (slot_done s (toward_behind f u (x * limits.words + z)) m) d l)
 
-    pub word_goal : {g t' k' c' : ℕ} → Arrived f ms (entries_in f q) ms' q' a t tail (pair_behind f y (x * limits.words + z)) p → p ≡ Goal g
-        → Progressed f ms' q' a b t' k' c' (Goal g)
+    pub word_goal : {g t' k' c' : ℕ} → Arrived f ms (entries_in f q) ms' q' a t tail (pair_behind f y (x * limits.words + z)) p → p ≡ Break g
+        → Progressed f ms' q' a b t' k' c' (Break g)
     word_goal m = goal_again (slot_done s (toward_behind f u (x * limits.words + z)) m)
 
   -- After the last word the member is done.
-  pub words_ended : (x : ℕ) {n : ℕ} → Expanding f ms q tail a b t k (x * limits.words) → n ≡ word_count f → n ≤ x → Progressed f ms (entries_in f q) a b t (k + 1) 0 (Tail tail)
+  pub words_ended : (x : ℕ) {n : ℕ} → Expanding f ms q tail a b t k (x * limits.words) → n ≡ word_count f → n ≤ x → Progressed f ms (entries_in f q) a b t (k + 1) 0 (Continue tail)
   words_ended x s e l =
       let w = width-turning f (node_at (entries_in f q) k) t (let g = u.turns in let h = u.behind in omega arith) in
       went (slots_begin (next_member s.stands (pair_slots s.laid s.numbered) (omega arith) s.ready.member))

@@ -1,6 +1,5 @@
 -- `expand_group` deals with a group symbol by symbol. The invariant: the symbols before `symbol` are done for every member. The measure is what is left of the
 -- alphabet.
-use mathlib.Core.Path.{◌≡◌}
 use Prim.Native.Nat.{◌+◌, ◌≤◌, ◌-◌}
 use lib.ListN.{length}
 use Rattle.pair_places.specs.Flat.{pair_count}
@@ -13,7 +12,6 @@ abbrev pub invariant-loop-symbol : goal.invariant-loop-symbol
 invariant-loop-symbol l =
     Stands l.places (marks l.places l.work) (entries_in l.places l.work) l.tail l.group.start l.group.end l.symbol l.group.start 0 × (pair_count l.places + 2 ≤ length l.work)
     × (l.group.end ≤ length l.work)
-    × (length l.work ≡ length l.initial.work)
 
 abbrev pub decreases-loop-symbol : goal.decreases-loop-symbol
 decreases-loop-symbol l = 16 - l.symbol

@@ -1,7 +1,5 @@
--- `expand_symbol` deals with the members of a group for one symbol. The invariant: the members before `member` are done. The measure is what is left of the
--- group.
-use mathlib.Core.Path.{◌≡◌}
-use Prim.Native.Nat.{◌+◌, ◌≤◌, ◌-◌}
+-- `expand_symbol` deals with the members of a group for one symbol. The invariant: the members before `index` are done.
+use Prim.Native.Nat.{◌+◌, ◌≤◌}
 use lib.ListN.{length}
 use Rattle.pair_places.specs.Flat.{pair_count}
 use Rattle.pair_storage.specs.Entries.{entries_in}
@@ -9,10 +7,6 @@ use Rattle.pair_storage.specs.Marks.{marks}
 use Rattle.pair_groups.specs.Ensured.{Stands}
 use Rattle.pair_groups.proofs.expand_symbol.Given as goal
 
-abbrev pub invariant-loop-member : goal.invariant-loop-member
-invariant-loop-member l =
-    Stands l.places (marks l.places l.work) (entries_in l.places l.work) l.tail l.group.start l.group.end l.symbol l.member 0 × (pair_count l.places + 2 ≤ length l.work)
-    × (length l.work ≡ length l.initial.work)
-
-abbrev pub decreases-loop-member : goal.decreases-loop-member
-decreases-loop-member l = l.group.end - l.member
+abbrev pub invariant-loop-index : goal.invariant-loop-index
+invariant-loop-index l =
+    Stands l.places (marks l.places l.work) (entries_in l.places l.work) l.tail l.group.start l.group.end l.symbol l.index 0 × (pair_count l.places + 2 ≤ length l.work)

@@ -1,5 +1,4 @@
--- `group_end` scans for the end of a group. The invariant: the entries from `start` to `end` have one key. The measure is what is left of the queue.
-use Prim.Native.Nat.{◌-◌}
+-- `group_end` scans for the end of a group. The invariant: the entries from `start` to `end` have one key.
 use Rattle.pair_places.specs.Opens.{open_graph}
 use Rattle.pair_storage.specs.Entries.{entries_in}
 use Rattle.pair_groups.proofs.Laws.Runs.{Run}
@@ -7,6 +6,3 @@ use Rattle.pair_groups.proofs.group_end.Given as goal
 
 abbrev pub invariant-loop-end : goal.invariant-loop-end
 invariant-loop-end l = Run (open_graph l.places) (entries_in l.places l.work) l.tail l.start l.end
-
-abbrev pub decreases-loop-end : goal.decreases-loop-end
-decreases-loop-end l = l.tail - l.end

@@ -9,8 +9,8 @@ returns-then-place_count-next c = search follow_nowhere
 pub store-requires : goal.store-requires
 store-requires c = (search rules, search push_room, search rules, search rules)
 
-pub overflow_add-deeper : goal.overflow_add-deeper
-overflow_add-deeper c = search push_small
+pub overflow_add-result : goal.overflow_add-result
+overflow_add-result c = search push_small
 
 pub returns-then-met-eq0 : goal.returns-then-met-eq0
 returns-then-met-eq0 c = search follow_push

@@ -1,8 +1,6 @@
--- `pair_longest::longest` meets its contract. The loop keeps what is counted, up to the next row, and the length of the list.
-use mathlib.Core.Path.{◌≡◌}
-use Prim.Native.Nat.{◌+◌, ◌-◌, ◌≤◌}
+-- `pair_longest::longest` meets its contract. The loop keeps what is counted up to the next row, and the room of the list.
+use Prim.Native.Nat.{◌+◌, ◌≤◌}
 use lib.ListN.{length}
-use Rattle.code.specs.Definitions.Sheets.{limits}
 use Rattle.pair_places.specs.Flat.{cell_count}
 use Rattle.pair_storage.specs.Marks.{marks}
 use Rattle.pair_longest.specs.Visit.{Counting}
@@ -10,7 +8,4 @@ use Rattle.pair_longest.proofs.longest.Given as goal
 
 abbrev pub invariant-loop-x : goal.invariant-loop-x
 invariant-loop-x l =
-    Counting l.places (marks l.places l.work) l.x (l.x + 1) l.most × (cell_count l.places ≤ length l.work) × (length l.work ≡ length l.initial.work)
-
-abbrev pub decreases-loop-x : goal.decreases-loop-x
-decreases-loop-x l = limits.words - l.x
+    Counting l.places (marks l.places l.work) l.x (l.x + 1) l.most × (cell_count l.places ≤ length l.work)

@@ -1,6 +1,5 @@
--- `pair_longest::row` meets its contract. The loop keeps what is counted, up to the next word, and the length of the list.
-use mathlib.Core.Path.{◌≡◌}
-use Prim.Native.Nat.{◌-◌, ◌≤◌, ◌<◌}
+-- `pair_longest::row` meets its contract. The loop keeps what is counted up to the next word, and the room of the list.
+use Prim.Native.Nat.{◌≤◌}
 use lib.ListN.{length}
 use Rattle.pair_places.specs.Flat.{cell_count}
 use Rattle.pair_storage.specs.Marks.{marks}
@@ -9,7 +8,4 @@ use Rattle.pair_longest.proofs.row.Given as goal
 
 abbrev pub invariant-loop-y : goal.invariant-loop-y
 invariant-loop-y l =
-    Counting l.places (marks l.places l.work) l.x l.y l.most × (l.x < l.y) × (cell_count l.places ≤ length l.work) × (length l.work ≡ length l.initial.work)
-
-abbrev pub decreases-loop-y : goal.decreases-loop-y
-decreases-loop-y l = l.words - l.y
+    Counting l.places (marks l.places l.work) l.x l.y l.most × (cell_count l.places ≤ length l.work)

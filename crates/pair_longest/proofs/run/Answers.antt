@@ -7,22 +7,16 @@ pub advance-requires : goal.advance-requires
 advance-requires c = search searching
 
 pub loop-depth-smaller : goal.loop-depth-smaller
-loop-depth-smaller c = search run_less
+loop-depth-smaller c = search (run_less, c.in_ok-depth.was)
 
 pub loop-depth-preserved : goal.loop-depth-preserved
-loop-depth-preserved c = (search run_on, (cc))
+loop-depth-preserved c = (search (run_on, c.in_ok-depth.was), (cc))
 
-pub returns-in-Cycle : goal.returns-in-Cycle
-returns-in-Cycle c = search run_cycle
+pub returns-in_err-depth : goal.returns-in_err-depth
+returns-in_err-depth c = rw c.from_residual.ensures (search (run_cycle, c.in_err-depth.was))
 
 pub height_at-requires : goal.height_at-requires
 height_at-requires c = (search rules, search run_mark)
 
 pub returns : goal.returns
 returns c = search run_end
-
-pub shape_of-work-in-Cycle : goal.shape_of-work-in-Cycle
-shape_of-work-in-Cycle c = cc
-
-pub shape_of-work : goal.shape_of-work
-shape_of-work c = cc

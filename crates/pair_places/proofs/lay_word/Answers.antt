@@ -5,15 +5,6 @@ use Rattle.pair_places.specs.Words.{word_laid}
 use Rattle.pair_places.specs.Writes.{written_copy, written_one}
 use Rattle.pair_places.proofs.lay_word.Goals as goal
 
-pub copy_at-requires : goal.copy_at-requires
-copy_at-requires c = (omega arith, omega arith)
-
-pub bounds-places-x : goal.bounds-places-x
-bounds-places-x c = simp length-set (omega arith)
-
-pub copy_at-requires-2 : goal.copy_at-requires-2
-copy_at-requires-2 c = (simp length-set (omega arith), omega arith)
-
 pub returns : goal.returns
 returns c =
     word_laid c.args.at c.args.x c.args.word c.args.row c.requires
@@ -22,6 +13,3 @@ returns c =
     (written_one _ _ _ (omega arith))
     (written_one _ _ _ (simp length-set (omega arith)))
     (written_copy c.args.row.entries c.copy_at-2.ensures (simp length-set (omega arith)) (omega arith))
-
-pub shape_of-places : goal.shape_of-places
-shape_of-places c = (returns c).long

@@ -1,22 +1,8 @@
 -- `pair_places::pair_of` meets its contract: each way out is a case of `pair_node`.
 use native.Mathlib.Omega.{arith}
-use Rattle.pair_places.specs.Steps.{nowhere, no_pair_lem, in_order_lem, turned}
+use Rattle.pair_places.specs.Steps.{nowhere, no_pair_lem}
 use Rattle.pair_places.proofs.pair_of.Goals as goal
 use Rattle.pair_places.proofs.pair_of.Goals.{else-p-count-via-then-p-count+then-q-count+else-places-p, else-p-count-via-then-p-count+else-q-count, else-p-count-via-else-p-count}
-
-pub returns-then-p-q : goal.returns-then-p-q
-returns-then-p-q c =
-    let n = c.place_count-count.ensures in
-    let a = c.args in
-    let q = c.if-q-count.true in
-    in_order_lem a.places.now a.p a.q (omega (arith, n, c.if-p-count.true)) (omega (arith, n, q)) c.if-places-p.true c.if-p-q.true
-
-pub returns-else-p-q : goal.returns-else-p-q
-returns-else-p-q c =
-    let n = c.place_count-count.ensures in
-    let a = c.args in
-    let q = c.if-q-count.true in
-    turned a.places.now a.p a.q (omega (arith, n, c.if-p-count.true)) (omega (arith, n, q)) c.if-places-p.true (omega arith)
 
 pub returns-else-p-count : goal.returns-else-p-count
 returns-else-p-count c =

@@ -1,16 +1,12 @@
-use Rattle.code.specs.Laws.Below.{none_yet, none_more}
-use Rattle.pair_rivals.specs.Rivals.{before_here, before_none}
+-- The closure asks of each word before `x` whether it is a rival.
+use mathlib.Core.Path.{refl}
 use borrow.Author.Rules.{rules}
+use borrow.Author.Tests.{tests}
+use Rattle.pair_places.specs.Flat.{rivals_at}
+use Rattle.pair_rivals.specs.Rivals.{rival_before}
+use Rattle.pair_places.proofs.Searches.{any_passes}
 use Rattle.pair_rivals.proofs.has_rival.Goals as goal
 
-pub loop-y-init : goal.loop-y-init
-loop-y-init c = (search rules, search none_yet)
-
-pub returns-then-are_rivals : goal.returns-then-are_rivals
-returns-then-are_rivals c = search before_here
-
-pub loop-y-preserved : goal.loop-y-preserved
-loop-y-preserved c = (search rules, search none_more)
-
 pub returns : goal.returns
-returns c = search before_none
+unfolding rival_before
+returns c = let a = c.args in any_passes (rivals_at a.places.now a.x) a.x _ _ _ refl c.any.ensures.ran (λ x b q k. search (rules, tests))

@@ -1,16 +1,13 @@
-use Rattle.code.specs.Laws.Below.{none_yet, none_more}
-use Rattle.pair_rivals.specs.Rivals.{some_rivals_here, some_rivals_none}
+-- The closure asks of each word whether one before it is a rival.
 use borrow.Author.Rules.{rules}
+use borrow.Author.Tests.{tests}
+use Rattle.pair_places.specs.Flat.{word_count}
+use Rattle.pair_rivals.specs.Rivals.{rival_before, some_rivals}
+use Rattle.pair_places.proofs.Searches.{any_passes}
 use Rattle.pair_rivals.proofs.some_rivals.Goals as goal
 
-pub loop-x-init : goal.loop-x-init
-loop-x-init c = (search rules, search none_yet)
-
-pub returns-then-has_rival : goal.returns-then-has_rival
-returns-then-has_rival c = search some_rivals_here
-
-pub loop-x-preserved : goal.loop-x-preserved
-loop-x-preserved c = (search rules, search none_more)
-
 pub returns : goal.returns
-returns c = search some_rivals_none
+unfolding some_rivals
+returns c =
+    let f = c.args.places.now in
+    any_passes (rival_before f) (word_count f) _ _ _ (cc) c.any.ensures.ran (λ x b q k. search (rules, tests))

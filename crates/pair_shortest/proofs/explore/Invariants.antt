@@ -1,6 +1,5 @@
--- `explore` deals with group after group. The invariant: all groups before `start` are done. The measure falls as `start` rises: the queue has no more
+-- `explore` deals with group after group. The invariant: all groups before the rest are done. The measure falls as the rest starts later: the queue has no more
 -- entries than the source and the pairs.
-use mathlib.Core.Path.{◌≡◌}
 use Prim.Native.Nat.{◌+◌, ◌≤◌, ◌-◌}
 use lib.ListN.{length}
 use Rattle.pair_places.specs.Flat.{pair_count}
@@ -10,10 +9,9 @@ use Rattle.pair_storage.specs.Marks.{marks}
 use Rattle.pair_groups.specs.Queue.{Between}
 use Rattle.pair_shortest.proofs.explore.Given as goal
 
-abbrev pub invariant-loop-start : goal.invariant-loop-start
-invariant-loop-start l =
-    Between (open_graph l.places) (marks l.places l.work) (entries_in l.places l.work) l.tail l.start × (pair_count l.places + 2 ≤ length l.work) × (l.tail ≤ pair_count l.places + 1)
-    × (length l.work ≡ length l.initial.work)
+abbrev pub invariant-loop-rest : goal.invariant-loop-rest
+invariant-loop-rest l =
+    Between (open_graph l.places) (marks l.places l.work) (entries_in l.places l.work) l.rest.tail l.rest.start × (pair_count l.places + 2 ≤ length l.work) × (l.rest.tail ≤ pair_count l.places + 1)
 
-abbrev pub decreases-loop-start : goal.decreases-loop-start
-decreases-loop-start l = pair_count l.places + 1 - l.start
+abbrev pub decreases-loop-rest : goal.decreases-loop-rest
+decreases-loop-rest l = pair_count l.places + 1 - l.rest.start

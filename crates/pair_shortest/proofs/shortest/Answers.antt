@@ -7,12 +7,12 @@ use Rattle.pair_shortest.proofs.shortest.Goals as goal
 pub explore-requires : goal.explore-requires
 explore-requires c = (search rules, search rules, search rules, search started)
 
+pub returns-in_err-step : goal.returns-in_err-step
+returns-in_err-step c = rw c.from_residual.ensures (search (answer_nothing, c.in_err-step.was))
+
 pub write-requires : goal.write-requires
 write-requires c =
-    (search rules, was_reached c.explore.ensures c.in-Goal.is, search rules, search rules)
+    (search rules, was_reached c.explore.ensures c.in_ok-step.was, search rules, search rules)
 
-pub returns-in-Goal : goal.returns-in-Goal
-returns-in-Goal c = search found
-
-pub returns-in-Exhausted : goal.returns-in-Exhausted
-returns-in-Exhausted c = search answer_nothing
+pub returns : goal.returns
+returns c = search found

@@ -1,4 +1,5 @@
 -- What comes of meeting a pair, by what stands there: nothing new, a goal, or a node that is then queued.
+use Rattle.std.proofs.Common.{Continue, Break}
 use mathlib.Core.Path.{◌≡◌, refl}
 use mathlib.Core.List.{List}
 use Prim.Native.Nat.{ℕ, ◌+◌, ◌≤◌, ◌<◌}
@@ -14,7 +15,6 @@ use Rattle.pair_storage.specs.Marks.{marks}
 use Rattle.pair_storage.specs.Stores.{Stored}
 use Rattle.pair_slots.specs.declared.Arrival.{Arrival}
 use Rattle.pair_slots.specs.declared.Arrival.TheVariants.{Passed, Fresh, Goal as Final}
-use Rattle.pair_slots.specs.declared.Progress.TheVariants.{Goal, Tail}
 use Rattle.pair_slots.specs.Ensured.{IsFresh, IsGoal, Seen, passed, fresh, goal, Space, Arrived, known, final, queued}
 
 -- What each arrival says.
@@ -36,10 +36,10 @@ module _ {f ms : List ℕ} {v t : ℕ} where
 
   -- What `meet` returns.
   module _ {q : List ℕ} {a tail : ℕ} {x : Arrival} (y : Seen f ms v t x) where
-    pub meets_known : x ≡ Passed → Arrived f ms q ms q a t tail v (Tail tail)
+    pub meets_known : x ≡ Passed → Arrived f ms q ms q a t tail v (Continue tail)
     meets_known e = known (was_passed y e) refl refl
 
-    pub meets_goal : x ≡ Final → Arrived f ms q ms q a t tail v (Goal t)
+    pub meets_goal : x ≡ Final → Arrived f ms q ms q a t tail v (Break t)
     meets_goal e = final (was_final y e) refl refl
 
 -- A pair that is stored has two places,
@@ -48,7 +48,7 @@ fresh_low {f} p y e = low_inside f p.low p.high (was_fresh y e).node
 
 -- and the mark that is set and the entry that is stored are those of one pair.
 pub meets_fresh : {f q q' : List ℕ} {a t tail : ℕ} {x : Arrival} (p : Pair) → Seen f (marks f q) (cell f p.low p.high) t x → x ≡ Fresh
-    → Stored f q tail (a + 1) p 1 q' → Arrived f (marks f q) (entries_in f q) (marks f q') (entries_in f q') a t tail (cell f p.low p.high) (Tail (tail + 1))
+    → Stored f q tail (a + 1) p 1 q' → Arrived f (marks f q) (entries_in f q) (marks f q') (entries_in f q') a t tail (cell f p.low p.high) (Continue (tail + 1))
 meets_fresh p y e s = queued (was_fresh y e) s.marks s.entries
 
 -- The number above an entry fits its field.

@@ -8,7 +8,7 @@ pub symbol-requires : goal.symbol-requires
 symbol-requires c = (search rules, search high_carried)
 
 pub overflow_add-result : goal.overflow_add-result
-overflow_add-result c = omega (arith, c.symbol.ensures, c.shared_slice_known-1.given c.pair_at-pair.result.high)
+overflow_add-result c = omega (arith, c.symbol.ensures, c.type_inv.places c.pair_at-pair.result.high)
 
 pub returns : goal.returns
 returns c =

@@ -1,39 +1,23 @@
--- What the sums of a stored number and of a cell come to: they fit their types, and each is the number that its contract names.
+-- What a stored number and a cell come to: each is the number that its contract names.
 use mathlib.Core.Path.{◌≡◌}
 use mathlib.Core.List.{List}
-use Prim.Native.Nat.{ℕ, ◌+◌, ◌*◌, ◌%◌, ◌-◌, ◌^◌, ◌≤◌, ◌<◌}
-use native.Mathlib.Nat.{mul-le-mul}
+use Prim.Native.Nat.{ℕ, ◌+◌, ◌*◌, ◌%◌, ◌-◌, ◌^◌, ◌<◌}
 use native.Mathlib.Omega.{arith}
 use lib.Bits.{bit_and, and_mask}
-use Rattle.code.specs.Definitions.Sheets.{limits}
 use Rattle.pair_places.specs.Cells.{cell_of}
 use Rattle.pair_places.specs.Flat.{Laid, place_count, cell_count, cell}
-use Rattle.pair_places.specs.Nodes.{cell_inside, cells_most}
+use Rattle.pair_places.specs.Nodes.{cell_inside}
 use Rattle.pair_storage.specs.Fields.{place_bits, place_room, mark_bits, mark_in}
 
 module _ {f : List ℕ} (laid : Laid f) (low : ℕ) {high n : ℕ} (l : low < place_count f) (h : high < place_count f) (e : n ≡ place_count f) where
-  product : low * place_count f ≤ limits.total * limits.total
-  product = mul-le-mul {n₂ = limits.total} {m₂ = limits.total} (omega (arith, laid.places)) laid.places
-
-  pub product_fits : low * n < 2 ^ 64
-  product_fits = rw e (omega (arith, product))
-
-  pub sum_fits : low * n + high < 2 ^ 64
-  sum_fits = rw e (omega (arith, product, h, laid.places))
-
   pub is_cell : (low * n + high ≡ cell f low high) × (low * n + high < cell_count f)
   unfolding cell_of
   is_cell = rw e (omega arith, cell_inside f low high h l)
 
--- The square of the number of places fits, and is the number of cells.
-module _ {f : List ℕ} (laid : Laid f) {n : ℕ} (e : n ≡ place_count f) where
-  pub square_fits : n * n < 2 ^ 64
-  unfolding cell_count
-  square_fits = let m = cells_most laid in rw e (omega arith)
-
-  pub is_count : n * n ≡ cell_count f
-  unfolding cell_count
-  is_count = rw e
+-- The square of the number of places is the number of cells.
+pub is_count : (f : List ℕ) {n : ℕ} → n ≡ place_count f → n * n ≡ cell_count f
+unfolding cell_count
+is_count f e = rw e
 
 -- A mask keeps the bits of one place, another those of a mark.
 pub masked : (k : ℕ) → bit_and k (2 ^ place_bits - 1) ≡ k % place_room

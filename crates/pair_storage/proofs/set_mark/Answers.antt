@@ -1,19 +1,6 @@
 -- One store in the pair's cell, of the new mark and the old link.
-use borrow.Author.Rules.{rules}
-use Rattle.pair_storage.specs.Stores.{cell_within, mark_written, mark_stored}
+use Rattle.pair_storage.specs.Stores.{mark_written, mark_stored}
 use Rattle.pair_storage.proofs.set_mark.Goals as goal
-
-pub offset_bounds-work-at : goal.offset_bounds-work-at
-offset_bounds-work-at c = search (rules, cell_within)
-
-pub bounds-work-at : goal.bounds-work-at
-bounds-work-at c = search (rules, cell_within)
-
-pub offset_bounds-work-at-2 : goal.offset_bounds-work-at-2
-offset_bounds-work-at-2 c = search (rules, cell_within)
-
-pub bounds-work-at-2 : goal.bounds-work-at-2
-bounds-work-at-2 c = search (rules, cell_within)
 
 pub returns : goal.returns
 returns c =

@@ -3,9 +3,6 @@ use mathlib.Core.Path.{refl}
 use Rattle.printing.specs.Prints.{all, none}
 use Rattle.printing.proofs.print_result.Goals as goal
 
-pub put_result-requires : goal.put_result-requires
-put_result-requires c = c.printable.ensures.yes c.if-printable.true
-
 pub returns-then-printable : goal.returns-then-printable
 returns-then-printable c = all (c.printable.ensures.yes c.if-printable.true) c.put_result.ensures.count c.put_result.ensures.out
 

@@ -1,8 +1,7 @@
 use Prim.Native.Nat.{◌+◌, ◌<◌}
-use borrow.Author.Rules.{rules}
-use mathlib.Core.Path.{refl, sym, ◌∙◌}
+use mathlib.Core.Path.{sym, ◌∙◌}
 use native.Mathlib.Omega.{arith}
-use Rattle.bits.specs.Lowest.{lowest_below, left_above, left_less}
+use Rattle.bits.specs.Lowest.{lowest_below, left_above}
 use Rattle.read_choices.specs.Choices.{none_more, usable_lowest, none_lowest, none_left}
 use Rattle.read_choices.proofs.seek.Goals as goal
 use Rattle.read_choices.proofs.seek.Goals.{After-lowest-skipped}
@@ -13,9 +12,6 @@ below c =
     let l = c.loop-left in
     lowest_below _ l.x l.invariant.1 c.lowest-skipped.ensures c.requires.0.bound
 
-pub loop-left-init : goal.loop-left-init
-loop-left-init c = (search rules, refl, λ z a b. absurd (omega arith))
-
 pub overflow_add-x : goal.overflow_add-x
 overflow_add-x c = omega (arith, below c, c.requires.0.small)
 
@@ -25,11 +21,6 @@ offset_bounds-rows-x c = omega (arith, below c, c.requires.0.small)
 pub bounds-rows-x : goal.bounds-rows-x
 bounds-rows-x c = omega (arith, below (goal.at.bounds-rows-x c).After-lowest-skipped, c.requires.0.rowed)
 
-pub has-requires : goal.has-requires
-has-requires c =
-    let p = c.requires.0 in
-    omega (arith, p.last, p.small)
-
 pub returns-then-has : goal.returns-then-has
 returns-then-has c =
     let a = c.args in
@@ -37,19 +28,13 @@ returns-then-has c =
     let f = c.lowest-skipped.ensures in
     record {
       low = omega (arith, l.invariant.0);
-      high = omega (arith, below (goal.at.returns-then-has c).After-lowest-skipped);
-      is = λ k. usable_lowest a.work.now a.rows.now a.pos l.x _ _ l.invariant.1 f a.y ∙ sym c.has.ensures ∙ c.if-has.true;
+      known = below (goal.at.returns-then-has c).After-lowest-skipped;
+      is = usable_lowest a.work.now a.rows.now a.pos l.x _ _ l.invariant.1 f a.y ∙ sym c.has.ensures ∙ c.if-has.true;
       none = none_lowest a.work.now a.rows.now a.pos l.x _ _ l.invariant.1 f a.y a.from l.invariant.2;
     }
 
-pub overflow_shr-left-in-loop-left : goal.overflow_shr-left-in-loop-left
-overflow_shr-left-in-loop-left c = omega (arith, c.lowest-skipped.ensures.near)
-
 pub overflow_add-x-in-loop-left : goal.overflow_add-x-in-loop-left
 overflow_add-x-in-loop-left c = omega (arith, below (goal.at.overflow_add-x-in-loop-left c).After-lowest-skipped, c.requires.0.small)
-
-pub loop-left-smaller : goal.loop-left-smaller
-loop-left-smaller c = left_less _ _ c.loop-left-test.true
 
 pub loop-left-preserved : goal.loop-left-preserved
 loop-left-preserved c =
@@ -64,9 +49,4 @@ pub returns : goal.returns
 returns c =
     let a = c.args in
     let l = c.loop-left in
-    record {
-      low = c.requires.1;
-      high = omega arith;
-      is = λ h. absurd (omega arith);
-      none = none_left a.work.now a.rows.now a.pos l.x l.left l.invariant.1 a.y a.n a.from l.invariant.2 (omega arith);
-    }
+    none_left a.work.now a.rows.now a.pos l.x l.left l.invariant.1 a.y a.n a.from l.invariant.2 (omega arith)

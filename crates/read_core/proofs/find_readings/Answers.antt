@@ -13,13 +13,13 @@ lay-longest-requires c =
 
 pub slice_bounds-read_core-end-6 : goal.slice_bounds-read_core-end-6
 slice_bounds-read_core-end-6 c =
-    sym (used_length c.args.work.now _ c.clear.new.sets (omega arith) c.clear.ensures)
+    sym (used_length c.args.work.now _ c.fill.new.self (omega arith) (c.fill.ensures.after (λ y z. z)))
 
 pub read_core-requires : goal.read_core-requires
 read_core-requires c =
     let p = c.requires in
     let n = length c.args.message.now + 1 in
-    let used = used_length c.args.work.now n c.clear.new.sets (omega arith) c.clear.ensures in
+    let used = used_length c.args.work.now n c.fill.new.self (omega arith) (c.fill.ensures.after (λ y z. z)) in
     (c.lay-longest.ensures.sets, used, p.1, p.2, p.3)
 
 pub returns : goal.returns
@@ -27,5 +27,5 @@ returns c =
     let r = c.read_core.ensures in
     record {
       finds = r.finds (table_of c.args.code) c.lay-longest.ensures;
-      work = all_zero c.args.work.now _ c.clear.new.sets (omega arith) c.clear.ensures _ r.work;
+      work = all_zero c.args.work.now _ c.fill.new.self (omega arith) (c.fill.ensures.after (λ y z. z)) _ r.work;
     }

@@ -16,5 +16,5 @@ returns c =
     let e : length c.mark_all.new.work ≡ length c.args.work.now = omega arith in
     record {
       finds = λ t l. answer_finds c.args.message.now l (c.mark_all.ensures.each _ _ p.0) c.first_readings-r.ensures;
-      work = rw e at c.clear.ensures;
+      work = rw e at (c.fill.ensures.after (λ y z. z));
     }

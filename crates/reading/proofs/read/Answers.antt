@@ -26,6 +26,6 @@ find_named-found-requires c =
 
 pub returns : goal.returns
 returns c =
-    rw c.reading_of.ensures
+    rw c.ok_or.ensures.value
     (finds_reads (c.well_enlarged.ensures.yes c.if-not-well_enlarged.false) c.if-message-gt-SYMBOLS.false
     (c.has_high.ensures.no c.if-has_high.false) (c.is_short.ensures.no c.if-is_short.false) c.find_named-found.ensures)

@@ -1,5 +1,8 @@
 use borrow.Author.Rules.{rules}
-use native.Mathlib.Omega.{arith}
+use mathlib.Core.Path.{ap}
+use mathlib.Core.List.{List}
+use Prim.Native.Nat.{ℕ}
+use Rattle.code.specs.declared.Row.{Row}
 use Rattle.code.specs.Definitions.Sheets.{limits}
 use Rattle.renumbering.specs.Reordering.{filled_none, rows_more, rows_all}
 use Rattle.renumbering.proofs.reorder_rows.Goals as goal
@@ -7,15 +10,10 @@ use Rattle.renumbering.proofs.reorder_rows.Goals as goal
 pub loop-i-init : goal.loop-i-init
 loop-i-init c = filled_none _ _ _
 
-pub offset_bounds-rows-x : goal.offset_bounds-rows-x
-offset_bounds-rows-x c = omega (arith, c.requires.0.known c.loop-i.i (search rules))
-
-pub bounds-rows-x : goal.bounds-rows-x
-bounds-rows-x c = omega (arith, c.requires.0.known c.loop-i.i (search rules))
-
 pub loop-i-preserved : goal.loop-i-preserved
 loop-i-preserved c =
-    rows_more limits _ _ _ c.requires.0 (search rules) c.loop-i.invariant (search rules) _ c.reorder_row-row.ensures
+    let row : List ℕ → Row = λ entries. record { entries = entries } in
+    rows_more limits _ _ _ c.requires.0 (search rules) c.loop-i.invariant (search rules) _ (ap row (c.reorder_entries.ensures 0))
 
 pub returns : goal.returns
 returns c = rows_all limits _ _ _ c.requires.0 (search rules) c.loop-i.invariant c.requires.1 (search rules)

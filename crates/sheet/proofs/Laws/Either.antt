@@ -1,13 +1,12 @@
 -- A sheet is accepted, or gets one refusal.
+use Rattle.std.specs.Prelude.{Err, Ok, Result}
 use mathlib.Core.Path.{◌≡◌}
 use Prim.Native.Nat.{ℕ}
 use native.Mathlib.Omega.{arith}
 use Rattle.code.specs.declared.Refusal.{Refusal}
-use Rattle.code.specs.declared.SheetAnswer.{SheetAnswer}
-use Rattle.code.specs.declared.SheetAnswer.TheVariants.{Accepted, Refused}
 
-pub not_both : {a : SheetAnswer} {r : Refusal} → a ≡ Accepted → a ≡ Refused r → ⊥
+pub not_both : {a : Result Unit Refusal} {r : Refusal} → a ≡ Ok tt → a ≡ Err r → ⊥
 not_both p q = let z : ◌≡◌ {A = ℕ} 0 1 = cc in omega arith
 
-pub one_refusal : {a : SheetAnswer} {r i : Refusal} → a ≡ Refused r → a ≡ Refused i → r ≡ i
+pub one_refusal : {a : Result Unit Refusal} {r i : Refusal} → a ≡ Err r → a ≡ Err i → r ≡ i
 one_refusal p q = cc

@@ -1,5 +1,5 @@
 -- What the survey of all records says: its counts and flags are those of the refusals 3 to 7 and 15, so its answer is the definition's.
-use Rattle.std.specs.Prelude.{if◌then◌else◌}
+use Rattle.std.specs.Prelude.{if◌then◌else◌, Err, Ok, Result}
 use mathlib.Core.Path.{◌≡◌, refl, sym, ap, ◌∙◌}
 use mathlib.Core.Bool.{Bool, true, false, not, ◌&&◌, ◌||◌, or-false, or-true, and-true, and-false, and-eq-true_iff}
 use mathlib.Core.List.{List, [], ◌∷◌, map}
@@ -8,10 +8,9 @@ use native.Mathlib.Omega.{arith}
 use lib.Dec.{ltb, eqb}
 use lib.ListN.{length}
 use borrow.Author.Tests.{eqb-true, eq-eqb}
-use Rattle.code.specs.declared.SheetAnswer.{SheetAnswer}
-use Rattle.code.specs.declared.SheetAnswer.TheVariants.{Accepted, Refused}
 use Rattle.code.specs.declared.Refusal.TheVariants.{RecordCount, WordLength, CodeLength, FieldCount, RowEntry, StartField}
 use Rattle.code.specs.declared.Taken.{Taken}
+use Rattle.code.specs.declared.Refusal.{Refusal}
 use Rattle.code.specs.Definitions.Lists.{any, every, sum}
 use Rattle.code.specs.Definitions.Sheets.{limits, all_wide, has_starts, bad_entry, bad_row, start_field, bad_word, word_length, refused6, refused7, refused15, refused_by, code_of, taken_grid}
 use Rattle.sheet_survey.specs.declared.Survey.{Survey}
@@ -82,14 +81,14 @@ survey_flags no_row h = absurd (omega arith)
 survey_flags (row {f} {r} rs) h = flags f r rs
 
 -- The answer with its table.
-abbrev pub result_of : SheetAnswer → List (List (List ℕ)) → Taken
-result_of Accepted g = record { answer = Accepted; code = code_of limits g }
-result_of (Refused r) g = refused_by limits r
+abbrev pub result_of : Result Unit Refusal → List (List (List ℕ)) → Taken
+result_of (Ok tt) g = record { answer = Ok tt; code = code_of limits g }
+result_of (Err r) g = refused_by limits r
 
 chain : (a b c d e f : Bool) (g : List (List (List ℕ)))
     → (if a then refused_by limits RecordCount else if b then refused_by limits WordLength else if c then refused_by limits CodeLength else
     if d then refused_by limits FieldCount else if e then refused_by limits RowEntry else if f then refused_by limits StartField else
-    record { answer = Accepted; code = code_of limits g })
+    record { answer = Ok tt; code = code_of limits g })
     ≡ result_of (answer_by a b c d e f) g
 chain true b c d e f g = refl
 chain false true c d e f g = refl

@@ -1,4 +1,5 @@
 -- Taking in a sheet: what the survey says of its records, and one lemma for each way out.
+use Rattle.std.specs.Prelude.{Err, Ok, Result}
 use mathlib.Core.Path.{◌≡◌, sym, ap, ◌∙◌}
 use mathlib.Core.Bool.{Bool, true, false}
 use mathlib.Core.List.{List, [], ◌∷◌, map}
@@ -6,8 +7,6 @@ use Prim.Native.Nat.{ℕ, ◌≤◌, ◌<◌}
 use native.Mathlib.Omega.{arith}
 use lib.ListN.{length}
 use borrow.Author.Tests.{ne_eqb, lt-ltb, le-ltb}
-use Rattle.code.specs.declared.SheetAnswer.{SheetAnswer}
-use Rattle.code.specs.declared.SheetAnswer.TheVariants.{Accepted, Refused}
 use Rattle.code.specs.declared.Refusal.{Refusal}
 use Rattle.code.specs.declared.Refusal.TheVariants.{SheetLength, SheetBytes}
 use Rattle.code.specs.declared.Taken.{Taken}
@@ -37,15 +36,15 @@ module _ (s : List ℕ) (v : Survey) (t : Bool) (surveyed : v ≡ survey_records
   flags_v = rw surveyed (flags_of s)
 
   -- the answer decides
-  result : (a : SheetAnswer) → answer_of v t ≡ a → result_of a (record_fields s) ≡ taken_grid limits (record_fields s)
+  result : (a : Result Unit Refusal) → answer_of v t ≡ a → result_of a (record_fields s) ≡ taken_grid limits (record_fields s)
   result a e = sym (survey_answers (record_fields s) v flags_v ∙ rw (← told, e))
 
   -- a refused sheet, and an accepted one
-  pub way_refused : (r : Refusal) → answer_of v t ≡ Refused r → refused_by limits r ≡ taken_grid limits (record_fields s)
-  way_refused r = result (Refused r)
+  pub way_refused : (r : Refusal) → answer_of v t ≡ Err r → refused_by limits r ≡ taken_grid limits (record_fields s)
+  way_refused r = result (Err r)
 
-  pub way_accepted : answer_of v t ≡ Accepted → record { answer = Accepted; code = code_of limits (record_fields s) } ≡ taken_grid limits (record_fields s)
-  way_accepted = result Accepted
+  pub way_accepted : answer_of v t ≡ Ok tt → record { answer = Ok tt; code = code_of limits (record_fields s) } ≡ taken_grid limits (record_fields s)
+  way_accepted = result (Ok tt)
 
   pub count_accepted : v.records ≡ length (record_fields s)
   count_accepted = flags_v.records
@@ -53,7 +52,7 @@ module _ (s : List ℕ) (v : Survey) (t : Bool) (surveyed : v ≡ survey_records
   pub starts_accepted : t ≡ has_starts (record_fields s)
   starts_accepted = told ∙ starts (record_fields s) v flags_v
 
-  pub fits_accepted : answer_of v t ≡ Accepted → Fits limits (record_fields s)
+  pub fits_accepted : answer_of v t ≡ Ok tt → Fits limits (record_fields s)
   fits_accepted e = fits limits (record_fields s) (ap (λ (u : Taken). u.answer) (sym (way_accepted e)))
 
 -- the refusals 1 and 2, and what is left

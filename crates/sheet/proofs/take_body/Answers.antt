@@ -8,17 +8,17 @@ build-requires c =
     let p = c.requires in
     let v = c.survey_all-v.ensures.0 in
     let t = c.has_starts-starts.ensures in
-    let accepted = sym c.judge-answer.ensures ∙ c.in-Accepted.is in
+    let accepted = sym c.judge-answer.ensures ∙ c.in-Ok.is in
     (p.0, p.1, fits_accepted _ _ _ v t accepted, count_accepted _ _ _ v t, starts_accepted _ _ _ v t)
 
-pub returns-in-Refused : goal.returns-in-Refused
-returns-in-Refused c =
+pub returns-in-Err : goal.returns-in-Err
+returns-in-Err c =
     let v = c.survey_all-v.ensures.0 in
     let t = c.has_starts-starts.ensures in
-    c.refuse.ensures ∙ way_refused _ _ _ v t _ (sym c.judge-answer.ensures ∙ c.in-Refused.is)
+    c.refuse.ensures ∙ way_refused _ _ _ v t _ (sym c.judge-answer.ensures ∙ c.in-Err.is)
 
-pub returns-in-Accepted : goal.returns-in-Accepted
-returns-in-Accepted c =
+pub returns-in-Ok : goal.returns-in-Ok
+returns-in-Ok c =
     let v = c.survey_all-v.ensures.0 in
     let t = c.has_starts-starts.ensures in
-    rw c.build.ensures (way_accepted _ _ _ v t (sym c.judge-answer.ensures ∙ c.in-Accepted.is))
+    rw c.build.ensures (way_accepted _ _ _ v t (sym c.judge-answer.ensures ∙ c.in-Ok.is))

@@ -1,18 +1,16 @@
 use borrow.Author.Rules.{rules}
-use mathlib.Core.Path.{sym, ◌∙◌}
 use native.Mathlib.Omega.{arith}
-use Rattle.sheet_survey.specs.Passing.{passing_starts, passing_ends}
+use Rattle.sheet_survey.specs.Passing.{passed_first, passing_on, passed_end}
 use Rattle.sheet_survey.proofs.survey_all.Goals as goal
 
 pub loop-c-init : goal.loop-c-init
-loop-c-init c = (passing_starts _, λ h. c.requires.0, record { records = search rules; fields = search rules; symbols = search rules }, search rules)
+loop-c-init c = passed_first _ _ c.default-c.ensures c.requires.0
 
 pub next_field-c-requires : goal.next_field-c-requires
-next_field-c-requires c = let l = c.loop-c in (l.invariant.1 (search rules), search rules, search rules, l.invariant.2)
+next_field-c-requires c = let p = c.loop-c.invariant in (p.clean (search rules), search rules, search rules, p.bounded)
 
 pub loop-c-preserved : goal.loop-c-preserved
-loop-c-preserved c = let l = c.loop-c in let r = c.next_field-c.ensures in (r.rest ∙ l.invariant.0, r.clean, r.bounded, r.within)
+loop-c-preserved c = passing_on c.loop-c.invariant c.next_field-c.ensures
 
 pub returns : goal.returns
-returns c = let l = c.loop-c in
-    (sym (passing_ends c.args.s.now l.c.survey l.c.at (search rules)) ∙ l.invariant.0, omega (arith, l.invariant.2.records))
+returns c = let p = c.loop-c.invariant in (passed_end p (omega arith), omega (arith, p.bounded.records))

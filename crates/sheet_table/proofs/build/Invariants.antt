@@ -1,11 +1,7 @@
 -- The loop keeps the table after k records and where the next one begins.
-use Prim.Native.Nat.{◌-◌}
 use Rattle.code.specs.Laws.Clean.{record_fields}
 use Rattle.sheet_table.specs.Building.{Built}
 use Rattle.sheet_table.proofs.build.Given as goal
 
 abbrev pub invariant-loop-k : goal.invariant-loop-k
 invariant-loop-k l = Built l.s (record_fields l.s) l.code l.at l.k
-
-abbrev pub decreases-loop-k : goal.decreases-loop-k
-decreases-loop-k l = l.n - l.k

@@ -1,5 +1,6 @@
 -- The ways through the program: a refused code sheet, a refused class sheet, a text that is too long, and a text that is split. No other refusal comes, since sheets
 -- give the code and the classes and the buffers are long enough.
+use Rattle.std.specs.Prelude.{Err, Ok, Result}
 use mathlib.Core.Path.{◌≡◌, refl, sym, ap, subst, ◌∙◌}
 use mathlib.Core.Bool.{Bool, true, false}
 use mathlib.Core.List.{List}
@@ -12,11 +13,9 @@ use Rattle.code.specs.declared.Classes.{Classes}
 use Rattle.code.specs.declared.Code.{Code}
 use Rattle.code.specs.declared.Refusal.{Refusal}
 use Rattle.code.specs.declared.Refusal.TheVariants.{SheetLength, MessageLength}
-use Rattle.code.specs.declared.SheetAnswer.TheVariants.{Accepted, Refused}
-use Rattle.code.specs.declared.Splitting.{Splitting}
-use Rattle.code.specs.declared.Splitting.TheVariants.{Refused as Not-split}
 use Rattle.code.specs.declared.Taken.{Taken}
 use Rattle.code.specs.declared.TakenClasses.{TakenClasses}
+use Rattle.code.specs.declared.ByteCount.{ByteCount}
 use Rattle.class_sheet.proofs.Laws.Taking.{way_long as classes-long}
 use Rattle.code.specs.Definitions.ClassSheets.{taken_classes, FromClassSheet}
 use Rattle.code.specs.Definitions.Enlarged.{plain_of}
@@ -41,12 +40,12 @@ pub given_named : (named : Bool) (sheet : List ℕ) {t : Taken} → named ≡ tr
 unfolding code_given
 given_named named sheet e p = p ∙ rw e
 
-pub given_built_in : (named : Bool) (sheet : List ℕ) {c : Code} → named ≡ false → c ≡ code_of_types limits types → record { answer = Accepted; code = c } ≡ code_given named sheet
+pub given_built_in : (named : Bool) (sheet : List ℕ) {c : Code} → named ≡ false → c ≡ code_of_types limits types → record { answer = Ok tt; code = c } ≡ code_given named sheet
 unfolding code_given
 given_built_in named sheet e p = rw (e, p)
 
 -- An accepted code comes from a sheet, also where it is built in.
-pub given_sheet : (named : Bool) (sheet : List ℕ) {t : Taken} → t ≡ code_given named sheet → t.answer ≡ Accepted → FromSheet limits t.code
+pub given_sheet : (named : Bool) (sheet : List ℕ) {t : Taken} → t ≡ code_given named sheet → t.answer ≡ Ok tt → FromSheet limits t.code
 unfolding code_given
 given_sheet true sheet {t} e a = record { sheet = sheet; gives = sym e ∙ ap (λ (x : Taken). x) (λ i. record { answer = a i; code = t.code }) }
 given_sheet false sheet {t} e a = rw e twelve_from_sheet
@@ -56,28 +55,28 @@ pub classes_named : (named : Bool) (sheet : List ℕ) {k : TakenClasses} → nam
 unfolding classes_given
 classes_named named sheet e p = p ∙ rw e
 
-pub classes_built_in : (named : Bool) (sheet : List ℕ) {c : Classes} → named ≡ false → c.entries ≡ turkish_classes → record { answer = Accepted; classes = c } ≡ classes_given named sheet
+pub classes_built_in : (named : Bool) (sheet : List ℕ) {c : Classes} → named ≡ false → c.entries ≡ turkish_classes → record { answer = Ok tt; classes = c } ≡ classes_given named sheet
 unfolding classes_given
 classes_built_in named sheet e p = rw (e, p)
 
-pub given_classes : (named : Bool) (sheet : List ℕ) {k : TakenClasses} → k ≡ classes_given named sheet → k.answer ≡ Accepted → FromClassSheet limits k.classes
+pub given_classes : (named : Bool) (sheet : List ℕ) {k : TakenClasses} → k ≡ classes_given named sheet → k.answer ≡ Ok tt → FromClassSheet limits k.classes
 unfolding classes_given
 given_classes true sheet {k} e a = record { sheet = sheet; gives = sym e ∙ ap (λ (x : TakenClasses). x) (λ i. record { answer = a i; classes = k.classes }) }
 given_classes false sheet {k} e a = rw e turkish_from_sheet
 
 -- A refused code sheet; a refused class sheet
-pub sheet_first : {t : Taken} {k : TakenClasses} {text o : List ℕ} {r : Refusal} → t.answer ≡ Refused r → SplitsGiven t k text o o (Not-split r)
+pub sheet_first : {t : Taken} {k : TakenClasses} {text o : List ℕ} {r : Refusal} → t.answer ≡ Err r → SplitsGiven t k text o o (Err r)
 sheet_first e = Answers.refused refl (sheet_refused e)
 
-pub classes_next : {t : Taken} {k : TakenClasses} {text o : List ℕ} {r : Refusal} → t.answer ≡ Accepted → k.answer ≡ Refused r → SplitsGiven t k text o o (Not-split r)
+pub classes_next : {t : Taken} {k : TakenClasses} {text o : List ℕ} {r : Refusal} → t.answer ≡ Ok tt → k.answer ≡ Err r → SplitsGiven t k text o o (Err r)
 classes_next a e = Answers.refused refl (classes_refused a e)
 
 -- An accepted code sheet gives what its code does.
-pub code_accepted : {t : Taken} {k : TakenClasses} {text o o' : List ℕ} {s : Splitting} → t.answer ≡ Accepted
-    → SplitsGiven (record { answer = Accepted; code = t.code }) k text o o' s → SplitsGiven t k text o o' s
-code_accepted {t} {k} {text} {o} {o'} {s} a h = let same : record { answer = Accepted; code = t.code } ≡ t = sym (rw a) in subst (λ (u : Taken). SplitsGiven u k text o o' s) same h
+pub code_accepted : {t : Taken} {k : TakenClasses} {text o o' : List ℕ} {s : Result ByteCount Refusal} → t.answer ≡ Ok tt
+    → SplitsGiven (record { answer = Ok tt; code = t.code }) k text o o' s → SplitsGiven t k text o o' s
+code_accepted {t} {k} {text} {o} {o'} {s} a h = let same : record { answer = Ok tt; code = t.code } ≡ t = sym (rw a) in subst (λ (u : Taken). SplitsGiven u k text o o' s) same h
 
-module _ {t : Taken} {k : TakenClasses} (code : t.answer ≡ Accepted) (classes : k.answer ≡ Accepted) (from : FromSheet limits t.code)
+module _ {t : Taken} {k : TakenClasses} (code : t.answer ≡ Ok tt) (classes : k.answer ≡ Ok tt) (from : FromSheet limits t.code)
     (lettered : FromClassSheet limits k.classes) (text o m f g w : List ℕ) (room : length o ≡ output_room)
     (m-room : length m ≡ limits.text) (f-room : length f ≡ limits.text) (g_room : length g ≡ limits.text) (w-room : length w ≡ limits.text + 1) where
   -- Only the length of the text is refused.
@@ -92,7 +91,7 @@ module _ {t : Taken} {k : TakenClasses} (code : t.answer ≡ Accepted) (classes 
   lowest_length (inr (n, inr (h, inl (inr (inr (inr (inr l))), e)))) = absurd (h (omega arith))
   lowest_length (inr (n, inr (h, inr z))) = absurd z.1
 
-  pub splits_given : {o' m' f' g' w' : List ℕ} {r : Splitting} → SplitsText limits (plain_of limits t.code) k.classes text o m f g w o' m' f' g' w' r
+  pub splits_given : {o' m' f' g' w' : List ℕ} {r : Result ByteCount Refusal} → SplitsText limits (plain_of limits t.code) k.classes text o m f g w o' m' f' g' w' r
       → SplitsGiven t k text o o' r
   splits_given (refused {r} lowest p q u v z) =
       let h = lowest_length lowest in
@@ -107,7 +106,7 @@ module _ {t : Taken} {k : TakenClasses} (code : t.answer ≡ Accepted) (classes 
 
 -- What is found is printed.
 pub given_answers : (named : Bool) (sheet : List ℕ) (lettered : Bool) (class_sheet : List ℕ) {t : Taken} {k : TakenClasses} {text o o₁ o' : List ℕ} {r : ℕ}
-    → t ≡ code_given named sheet → k ≡ classes_given lettered class_sheet → {s : Splitting} → SplitsGiven t k text o o₁ s → Printed o₁ o' r s
+    → t ≡ code_given named sheet → k ≡ classes_given lettered class_sheet → {s : Result ByteCount Refusal} → SplitsGiven t k text o o₁ s → Printed o₁ o' r s
     → Answers named sheet lettered class_sheet text o o' r
 given_answers named sheet lettered class_sheet e f (stands h) (stays p q) =
     let right = rw (e, f) at h.right in
@@ -120,30 +119,30 @@ given_answers named sheet lettered class_sheet e f (Answers.refused {r = q} h a)
 pub answer_counts : {t : Taken} {k : TakenClasses} {text o o' : List ℕ} {r : ℕ} → Shown t k text o o' r → IsPrefixLen r o'
 answer_counts a = starts_counts a.starts
 
-long_text : {t : Taken} {k : TakenClasses} {text b : List ℕ} → t.answer ≡ Accepted → k.answer ≡ Accepted → limits.text < length text → Answer t k text b
+long_text : {t : Taken} {k : TakenClasses} {text b : List ℕ} → t.answer ≡ Ok tt → k.answer ≡ Ok tt → limits.text < length text → Answer t k text b
     → b ≡ refused_record MessageLength
 long_text a c h (sheet_refused e) = absurd (not_both a e)
 long_text a c h (classes_refused d e) = absurd (not_both c e)
 long_text a c h (text_refused d e l) = refl
 long_text a c h (output d e l s) = absurd (omega arith)
 
-long_sheet : {t : Taken} {k : TakenClasses} {text b : List ℕ} {r : Refusal} → t.answer ≡ Refused r → Answer t k text b → b ≡ refused_record r
+long_sheet : {t : Taken} {k : TakenClasses} {text b : List ℕ} {r : Refusal} → t.answer ≡ Err r → Answer t k text b → b ≡ refused_record r
 long_sheet e (sheet_refused d) = ap refused_record (one_refusal d e)
 long_sheet e (classes_refused a d) = absurd (not_both a e)
 long_sheet e (text_refused a d l) = absurd (not_both a e)
 long_sheet e (output a d l s) = absurd (not_both a e)
 
-long_classes : {t : Taken} {k : TakenClasses} {text b : List ℕ} {r : Refusal} → t.answer ≡ Accepted → k.answer ≡ Refused r → Answer t k text b → b ≡ refused_record r
+long_classes : {t : Taken} {k : TakenClasses} {text b : List ℕ} {r : Refusal} → t.answer ≡ Ok tt → k.answer ≡ Err r → Answer t k text b → b ≡ refused_record r
 long_classes a e (sheet_refused d) = absurd (not_both a d)
 long_classes a e (classes_refused d f) = ap refused_record (one_refusal f e)
 long_classes a e (text_refused d f l) = absurd (not_both f e)
 long_classes a e (output d f l s) = absurd (not_both f e)
 
-sheet_answer : (named : Bool) (sheet : List ℕ) → named ≡ true → limits.bytes < length sheet → (code_given named sheet).answer ≡ Refused SheetLength
+sheet_answer : (named : Bool) (sheet : List ℕ) → named ≡ true → limits.bytes < length sheet → (code_given named sheet).answer ≡ Err SheetLength
 unfolding code_given
 sheet_answer named sheet e h = rw (e, ← way_long sheet h)
 
-classes-answer : (named : Bool) (sheet : List ℕ) → named ≡ true → limits.classes < length sheet → (classes_given named sheet).answer ≡ Refused SheetLength
+classes-answer : (named : Bool) (sheet : List ℕ) → named ≡ true → limits.classes < length sheet → (classes_given named sheet).answer ≡ Err SheetLength
 unfolding classes_given
 classes-answer named sheet e h = rw (e, ← classes-long sheet h)
 

@@ -1,4 +1,5 @@
 -- The public operation: which refusal holds first, and how the output where none holds is what splitting promises.
+use Rattle.std.specs.Prelude.{Err, Ok}
 use mathlib.Core.Path.{◌≡◌, refl, ◌∙◌}
 use mathlib.Core.Bool.{Bool, true, false, not}
 use mathlib.Core.List.{List}
@@ -10,7 +11,6 @@ use lib.ListN.{length, replicate}
 use Rattle.code.specs.declared.Classes.{Classes}
 use Rattle.code.specs.declared.Enlarged.{Enlarged}
 use Rattle.code.specs.declared.Refusal.TheVariants.{NotFromSheet, MessageLength, ShortBuffer}
-use Rattle.code.specs.declared.Splitting.TheVariants.{Split, Refused}
 use Rattle.code.specs.Definitions.ClassSheets.{FromClassSheet}
 use Rattle.code.specs.Definitions.Operations.{FromLists, zeroed}
 use Rattle.code.specs.Definitions.Sheets.{limits}
@@ -45,24 +45,24 @@ split_rooms {a = a} given kept short shortage long = ((from_lists (given.yes kep
 
 module _ {e : Enlarged} {classes : Classes} {s b m f g w : List ℕ} {a : Bool} (given : Exactly a (FromLists limits e)) where
   -- Each refusal, where it is the first that holds.
-  pub way_8 : not a ≡ true → SplitsText limits e classes s b m f g w b m f g w (Refused NotFromSheet)
+  pub way_8 : not a ≡ true → SplitsText limits e classes s b m f g w b m f g w (Err NotFromSheet)
   way_8 h = refused (inl (inl (given.no (not-true a h)), refl)) refl refl refl refl refl
 
   module _ (kept : a ≡ true) {k : Bool} (classed : Exactly k (FromClassSheet limits classes)) where
-    pub way_8_classes : not k ≡ true → SplitsText limits e classes s b m f g w b m f g w (Refused NotFromSheet)
+    pub way_8_classes : not k ≡ true → SplitsText limits e classes s b m f g w b m f g w (Err NotFromSheet)
     way_8_classes h = refused (inl (inr (classed.no (not-true k h)), refl)) refl refl refl refl refl
 
     module _ (well : k ≡ true) where
-      pub way_11 : limits.text < length s → SplitsText limits e classes s b m f g w b m f g w (Refused MessageLength)
+      pub way_11 : limits.text < length s → SplitsText limits e classes s b m f g w b m f g w (Err MessageLength)
       way_11 h = refused (inr (neither given kept classed well, inl (h, refl))) refl refl refl refl refl
 
       module _ (short : length s ≤ limits.text) {d : Bool} (shortage : Exactly d (Short (length s) (length b) (length m) (length f) (length g) (length w))) where
-        pub way_13 : d ≡ true → SplitsText limits e classes s b m f g w b m f g w (Refused ShortBuffer)
+        pub way_13 : d ≡ true → SplitsText limits e classes s b m f g w b m f g w (Err ShortBuffer)
         way_13 h = refused (inr (neither given kept classed well, inr (λ n. omega arith, inl (shortage.yes h, refl)))) refl refl refl refl refl
 
         -- Where none holds: the output by the plain code is that by the table of original words, which it covers.
         pub way_split : d ≡ false → {b' m' f' g' w' : List ℕ} {n : ℕ} → SplitsInto (table_of e.code) classes.entries s b b' n → m' ≡ zeroed m → f' ≡ zeroed f
-            → g' ≡ zeroed g → w' ≡ zeroed w → SplitsText limits e classes s b m f g w b' m' f' g' w' (Split (record { 0 = n }))
+            → g' ≡ zeroed g → w' ≡ zeroed w → SplitsText limits e classes s b m f g w b' m' f' g' w' (Ok (record { 0 = n }))
         way_split long i p q r z =
             split (neither given kept classed well, (λ n. omega arith, (shortage.no long, tt))) (named_splits (value_covers (from_lists (from given kept classed well))) i.splits)
             i.starts.count i.starts.out p q r z

@@ -2,4 +2,4 @@
 use Rattle.text_split.proofs.clear_all.Goals as goal
 
 pub returns : goal.returns
-returns c = (c.clear.ensures, c.clear-2.ensures, c.clear-3.ensures, c.clear-4.ensures)
+returns c = (c.fill.ensures.after (λ y z. z), c.fill-2.ensures.after (λ y z. z), c.fill-3.ensures.after (λ y z. z), c.fill-4.ensures.after (λ y z. z))

@@ -1,16 +1,9 @@
 -- The lines of the rows passed stand in the buffer.
-use mathlib.Core.Path.{◌≡◌}
 use mathlib.Core.List.{[]}
-use Prim.Native.Nat.{◌-◌, ◌≤◌}
-use lib.ListN.{length}
 use Rattle.writing.specs.Fields.{fields_to}
 use Rattle.writing.specs.Puts.{Puts}
-use Rattle.turkish.specs.Types.{types}
 use Rattle.turkish_matrix.proofs.Laws.Lines.{all_lines}
 use Rattle.turkish_matrix.proofs.put_lines.Given as goal
 
 abbrev pub invariant-loop-x : goal.invariant-loop-x
-invariant-loop-x l = (l.x ≤ length types) × (length l.out ≡ length l.initial.out) × Puts l.at (fields_to [] all_lines l.x) l.initial.out l.out l.next
-
-abbrev pub decreases-loop-x : goal.decreases-loop-x
-decreases-loop-x l = length types - l.x
+invariant-loop-x l = Puts l.at (fields_to [] all_lines l.x) l.initial.out l.out l.next

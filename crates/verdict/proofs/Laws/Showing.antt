@@ -1,4 +1,5 @@
 -- The judgement on a sheet and a ban list can be printed from its buffers: a refusal shows nothing, and after a verdict the buffers hold what it shows.
+use Rattle.std.specs.Prelude.{Err, Ok, Result}
 use mathlib.Core.Path.{◌≡◌, refl, sym, ap, ◌∙◌, subst}
 use mathlib.Core.List.{List, []}
 use mathlib.Core.Logic.{⊎_elim}
@@ -11,12 +12,9 @@ use Rattle.code.specs.declared.Enlargement.{Enlargement}
 use Rattle.code.specs.declared.SymbolCount.{SymbolCount}
 use Rattle.code.specs.declared.WordCount.{WordCount}
 use Rattle.code.specs.declared.Refusal.{Refusal}
-use Rattle.code.specs.declared.SheetAnswer.TheVariants.{Accepted, Refused}
 use Rattle.code.specs.declared.Taken.{Taken}
 use Rattle.code.specs.declared.Verdict.{Verdict}
 use Rattle.code.specs.declared.Verdict.TheVariants.{Ambiguous as Two-ways, Finite, Unbounded}
-use Rattle.code.specs.declared.Judgement.{Judgement}
-use Rattle.code.specs.declared.Judgement.TheVariants.{Judged, Refused as Not-judged}
 use Rattle.code.specs.Definitions.Readings.{Ambiguous}
 use Rattle.code.specs.Definitions.Answers.{VerdictMeans}
 use Rattle.code.specs.Definitions.Enlarged.{plain_of, original_table}
@@ -37,7 +35,7 @@ use Rattle.sheet.proofs.Laws.Either.{not_both}
 use Rattle.verdict.specs.Answers.{output_room, Gives, sheet_refused, sheet_accepted, Answers, Shows}
 
 -- What shows nothing of the buffers can be printed.
-plain : (j : Judgement) → lengths_of j ≡ record { message = 0; first = 0; second = 0 } → (m f g : List ℕ) → Printable j m f g output_room
+plain : (j : Result Verdict Refusal) → lengths_of j ≡ record { message = 0; first = 0; second = 0 } → (m f g : List ℕ) → Printable j m f g output_room
 plain j nothing m f g = record {
   message = rw nothing (omega arith);
   first = rw nothing (omega arith);
@@ -47,22 +45,22 @@ plain j nothing m f g = record {
 }
 
 -- What the sheet and the list give, in code: a refusal of the sheet, or what enlarging gives
-pub gives_refused : {t : Taken} {e : Enlarged} {x : Enlargement} (sheet list : List ℕ) {r : Refusal} → t ≡ taken limits sheet → e ≡ plain_of limits t.code → t.answer ≡ Refused r
+pub gives_refused : {t : Taken} {e : Enlarged} {x : Enlargement} (sheet list : List ℕ) {r : Refusal} → t ≡ taken limits sheet → e ≡ plain_of limits t.code → t.answer ≡ Err r
     → x ≡ record { answer = t.answer; enlarged = e } → Gives sheet list x
 gives_refused sheet list came plain answer is = sheet_refused (rw came at answer) (is ∙ rw (answer, plain, came))
 
-pub gives_accepted : {t : Taken} {e : Enlarged} {x : Enlargement} (sheet list : List ℕ) → t ≡ taken limits sheet → e ≡ plain_of limits t.code → t.answer ≡ Accepted
+pub gives_accepted : {t : Taken} {e : Enlarged} {x : Enlargement} (sheet list : List ℕ) → t ≡ taken limits sheet → e ≡ plain_of limits t.code → t.answer ≡ Ok tt
     → Enlarges limits e list x → Gives sheet list x
 gives_accepted sheet list came plain answer enlarges = sheet_accepted (rw came at answer) (rw (plain, came) at enlarges)
 
 -- A refusal of the sheet or the list
-pub shows_refused : {g : Enlargement} {sheet list : List ℕ} (m f h : List ℕ) {r : Refusal} → Gives sheet list g → g.answer ≡ Refused r → Shows sheet list m f h (Not-judged r)
+pub shows_refused : {g : Enlargement} {sheet list : List ℕ} (m f h : List ℕ) {r : Refusal} → Gives sheet list g → g.answer ≡ Err r → Shows sheet list m f h (Err r)
 shows_refused {g} m f h {r} gives answer = record {
   message = [];
   first = [];
   second = [];
   right = record { given = g; gives = gives; right = answer };
-  printable = plain (Not-judged r) refl m f h;
+  printable = plain (Err r) refl m f h;
   same = refl;
 }
 
@@ -77,7 +75,7 @@ module _ {e : Enlarged} (lists : FromLists limits e) where
       rw r.joined at (message_below_lem (table_with lists.table lists.list) (omega arith) (code_fits lists.table (well lists.given)).low (permitted_linked r.permitted))
 
 -- An accepted sheet and list give a code.
-gives_lists : {sheet list : List ℕ} {g : Enlargement} → Gives sheet list g → g.answer ≡ Accepted → FromLists limits g.enlarged
+gives_lists : {sheet list : List ℕ} {g : Enlargement} → Gives sheet list g → g.answer ≡ Ok tt → FromLists limits g.enlarged
 gives_lists (sheet_refused a is) answer = absurd (not_both answer (ap (λ (y : Enlargement). y.answer) is))
 gives_lists {sheet} {list} {g} (sheet_accepted a enlarges) answer = record {
   table = (taken limits sheet).code;
@@ -86,13 +84,13 @@ gives_lists {sheet} {list} {g} (sheet_accepted a enlarges) answer = record {
   gives = subst (Enlarges limits (plain_of limits (taken limits sheet).code) list) (λ i. record { answer = answer i; enlarged = g.enlarged }) enlarges;
 }
 
-module _ {sheet list : List ℕ} {g : Enlargement} (gives : Gives sheet list g) (accepted : g.answer ≡ Accepted) where
+module _ {sheet list : List ℕ} {g : Enlargement} (gives : Gives sheet list g) (accepted : g.answer ≡ Ok tt) where
   from_lists : FromLists limits g.enlarged
   from_lists = gives_lists gives accepted
 
   module _ (m f h m' f' h' x s u : List ℕ) (m-long : length m' ≡ verdict_room limits) (f-long : length f' ≡ verdict_room limits) (h-long : length h' ≡ verdict_room limits) where
     shows_ambiguous : (a : SymbolCount) (b k : WordCount) → VerdictMeans (original_table g.enlarged) x s u (Two-ways a b k) → Shown m f h m' f' h' x s u (Two-ways a b k)
-        → Shows sheet list m' f' h' (Judged (Two-ways a b k))
+        → Shows sheet list m' f' h' (Ok (Two-ways a b k))
     shows_ambiguous a b k means shown =
         let m-start = take-written a.0 x m m' (sym means.1) shown.0 in
         let m-within = start_within x m m' a.0 shown.0 means.1 in
@@ -114,15 +112,15 @@ module _ {sheet list : List ℕ} {g : Enlargement} (gives : Gives sheet list g) 
         }
 
     -- A verdict that is not ambiguous shows nothing of the buffers.
-    shows_plain : (v : Verdict) → VerdictMeans (original_table g.enlarged) x s u v → Printable (Judged v) m' f' h' output_room → result_of (Judged v) m' f' h' ≡ printed (Judged v) x s u
-        → Shows sheet list m' f' h' (Judged v)
+    shows_plain : (v : Verdict) → VerdictMeans (original_table g.enlarged) x s u v → Printable (Ok v) m' f' h' output_room → result_of (Ok v) m' f' h' ≡ printed (Ok v) x s u
+        → Shows sheet list m' f' h' (Ok v)
     shows_plain v means printable same =
         record { message = x; first = s; second = u; right = record { given = g; gives = gives; right = (accepted, means) }; printable = printable; same = same }
 
-    shows_verdict : (v : Verdict) → VerdictMeans (original_table g.enlarged) x s u v → Shown m f h m' f' h' x s u v → Shows sheet list m' f' h' (Judged v)
+    shows_verdict : (v : Verdict) → VerdictMeans (original_table g.enlarged) x s u v → Shown m f h m' f' h' x s u v → Shows sheet list m' f' h' (Ok v)
     shows_verdict (Two-ways a b k) means shown = shows_ambiguous a b k means shown
-    shows_verdict (Finite d) means shown = shows_plain (Finite d) means (plain (Judged (Finite d)) refl m' f' h') refl
-    shows_verdict Unbounded means shown = shows_plain Unbounded means (plain (Judged Unbounded) refl m' f' h') refl
+    shows_verdict (Finite d) means shown = shows_plain (Finite d) means (plain (Ok (Finite d)) refl m' f' h') refl
+    shows_verdict Unbounded means shown = shows_plain Unbounded means (plain (Ok Unbounded) refl m' f' h') refl
 
   -- No refusal of the verdict holds: a sheet and a list give the code, and the buffers are long enough.
   no_refusal : (m f h w : List ℕ) → length m ≡ verdict_room limits → length f ≡ verdict_room limits → length h ≡ verdict_room limits → length w ≡ verdict_work limits → {r : Refusal}
@@ -133,12 +131,12 @@ module _ {sheet list : List ℕ} {g : Enlargement} (gives : Gives sheet list g) 
 
   -- After a verdict, with buffers that are long enough
   pub shows_judged : {m f h w m' f' h' w' : List ℕ} → length m ≡ verdict_room limits → length f ≡ verdict_room limits → length h ≡ verdict_room limits → length w ≡ verdict_work limits → length m' ≡ verdict_room limits → length f' ≡ verdict_room limits
-      → length h' ≡ verdict_room limits → {j : Judgement} → Judges limits g.enlarged m f h w m' f' h' w' j → Shows sheet list m' f' h' j
+      → length h' ≡ verdict_room limits → {j : Result Verdict Refusal} → Judges limits g.enlarged m f h w m' f' h' w' j → Shows sheet list m' f' h' j
   shows_judged {m} {f} {h} {w} a b c d a' b' c' (refused lowest e₁ e₂ e₃ e₄) = absurd (no_refusal m f h w a b c d lowest)
   shows_judged {m} {f} {h} {w} {m'} {f'} {h'} a b c d a' b' c' (judged {v} x s u holds means shown e) = shows_verdict m f h m' f' h' x s u a' b' c' v means shown
 
 -- What a judgement shows is printed.
-pub answers : (sheet list m f g o o' : List ℕ) (j : Judgement) → Shows sheet list m f g j → length o ≡ output_room → {r : ℕ} → Prints j m f g o o' r → Answers sheet list o o' r
+pub answers : (sheet list m f g o o' : List ℕ) (j : Result Verdict Refusal) → Shows sheet list m f g j → length o ≡ output_room → {r : ℕ} → Prints j m f g o o' r → Answers sheet list o o' r
 answers sheet list m f g o o' j s long (all printable count out) = record {
   judgement = j;
   message = s.message;

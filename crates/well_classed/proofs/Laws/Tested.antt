@@ -1,35 +1,53 @@
 -- The tests of the entries and of the signs, joined as the code joins them, say exactly whether the entries are well-classed.
 use mathlib.Core.Path.{◌≡◌, sym, ◌∙◌}
-use mathlib.Core.Bool.{Bool, false, not, ◌&&◌, ◌||◌, true≢false, false≢true}
+use mathlib.Core.Bool.{Bool, true, false, not, true≢false, false≢true}
 use mathlib.Core.List.{List}
-use Prim.Native.Nat.{ℕ, ◌+◌, ◌≤◌, ◌<◌}
-use native.Mathlib.Numerals.{add-one}
+use Prim.Native.Nat.{ℕ, ◌≤◌, ◌<◌}
 use lib.ListN.{length}
-use borrow.Author.Tests.{not-true, not-false}
+use Rattle.std.specs.Prelude.{◌↔◌}
+use Rattle.std.specs.Bool.{MatchBool}
+use Rattle.std.specs.List.{AllWithin, HoldsAt}
+use native.Mathlib.Omega.{arith}
+use borrow.Author.Tests.{not-true, not-false, lt-ltb, ltb-true}
 use Rattle.code.specs.Definitions.Lists.{any}
 use Rattle.code.specs.Definitions.ClassSheets.{different_bytes}
 use Rattle.code.specs.Definitions.Texts.{other, class_of, is_letter, signs}
-use Rattle.code.specs.Laws.Below.{some_below, Some, some_out, some_in}
-use Rattle.code.specs.Laws.Exactly.{Exactly, exactly_iff, exactly_and}
+use Rattle.code.specs.Laws.Below.{Some}
+use Rattle.code.specs.Laws.Exactly.{Exactly, exactly_true, exactly_false, exactly_iff}
 use Rattle.well_classed.specs.WellClassed.{WellClassed}
 
--- Whether some number below a bound passes a test, and with one number more.
-pub exactly_some : (f : ℕ → Bool) (n : ℕ) → Exactly (some_below f n) (Some f n)
-exactly_some f n = record { yes = some_out f n; no = λ e s. false≢true (sym e ∙ some_in f n s.x s.below s.passes) }
+-- Whether all entries are small, and whether one is a letter's, by what a pass over them says.
+pub exactly_small : (r : Bool) (c : List ℕ) → length c ≡ different_bytes
+    → MatchBool r (AllWithin (λ x. x ≤ other) c 0 (length c)) ((k : ℕ) × (k < length c) × HoldsAt (λ x. other < x) c k)
+    → Exactly r ((b : ℕ) → b < different_bytes → class_of c b ≤ other)
+exactly_small true c long all = exactly_true (λ b h. all b 0 (omega arith) (omega arith))
+exactly_small false c long one = exactly_false (λ small. omega (arith, small one.0 (omega (arith, one.1)), one.2 0))
 
-pub some_more : (f : ℕ → Bool) (n : ℕ) → f n || some_below f n ≡ some_below f (n + 1)
-unfolding some_below
-some_more f n = rw (add-one n)
+pub exactly_letter : (r : Bool) (c : List ℕ) → length c ≡ different_bytes
+    → MatchBool r ((k : ℕ) × (k < length c) × HoldsAt (λ x. x < other) c k) (AllWithin (λ x. other ≤ x) c 0 (length c))
+    → Exactly r (Some (is_letter c) different_bytes)
+exactly_letter true c long one =
+    exactly_true (record { x = one.0; below = omega (arith, one.1); passes = lt-ltb (class_of c one.0) other (one.2 0) })
+exactly_letter false c long all =
+    exactly_false (λ s. omega (arith, all s.x 0 (omega arith) (omega (arith, s.below)), ltb-true (class_of c s.x) other s.passes))
+
+-- Two tests, of which the second is made where the first holds.
+pub exactly_first : {a b : Bool} {P Q : Type 0} → a ≡ true → Exactly a P → Exactly b Q → Exactly b (P × Q)
+exactly_first {b = b} e t u = record { yes = λ f. (t.yes e, u.yes f); no = λ f p. u.no f p.1 }
+
+pub exactly_neither : {a : Bool} {P Q : Type 0} → a ≡ false → Exactly a P → Exactly a (P × Q)
+exactly_neither e t = record { yes = λ f. absurd (false≢true (sym e ∙ f)); no = λ f p. t.no f p.0 }
 
 exactly_no : (t : Bool) → Exactly (not t) (t ≡ false)
 exactly_no t = record { yes = not-true t; no = λ e f. true≢false (sym (not-false t e) ∙ f) }
 
-module _ (c : List ℕ) where
-  abbrev pub SmallAt : ℕ → Type 0
-  SmallAt b = class_of c b ≤ other
+pub classes_tested : {c : List ℕ} → length c ≡ different_bytes → {t : Bool}
+    → Exactly t (((b : ℕ) → b < different_bytes → class_of c b ≤ other) × Some (is_letter c) different_bytes)
+    → {v : Bool} → v ≡ any (is_letter c) signs → (t ≡ true → Exactly (not v) (WellClassed c)) × (t ≡ false → Exactly t (WellClassed c))
+classes_tested {c} whole {t} entries {v} e = (λ f. exactly_iff join (exactly_first f entries apart), λ f. exactly_iff join (exactly_neither f entries))
+  where
+    apart : Exactly (not v) (any (is_letter c) signs ≡ false)
+    apart = rw e (exactly_no (any (is_letter c) signs))
 
-  pub classes_tested : length c ≡ different_bytes → {t : Bool} → Exactly t (((b : ℕ) → b < different_bytes → SmallAt b) × Some (is_letter c) different_bytes)
-      → Exactly (t && not (any (is_letter c) signs)) (WellClassed c)
-  classes_tested whole entries =
-      exactly_iff ((λ p. record { whole = whole; small = p.0.0; apart = p.1; letter = p.0.1 }), (λ w. ((w.small, w.letter), w.apart)))
-      (exactly_and entries (exactly_no (any (is_letter c) signs)))
+    join : (((b : ℕ) → b < different_bytes → class_of c b ≤ other) × Some (is_letter c) different_bytes) × (any (is_letter c) signs ≡ false) ↔ WellClassed c
+    join = (λ p. record { whole = whole; small = p.0.0; apart = p.1; letter = p.0.1 }, λ w. ((w.small, w.letter), w.apart))

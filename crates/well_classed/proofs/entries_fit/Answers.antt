@@ -1,34 +1,32 @@
-use mathlib.Core.Path.{◌≡◌, sym, ◌∙◌}
-use native.Mathlib.Omega.{arith}
+-- One pass says whether all entries are small, and one whether one of them is a letter's.
+use borrow.Author.Rules.{rules}
+use borrow.Author.Tests.{tests}
+use Prim.Native.Nat.{ℕ, ◌≤◌, ◌<◌}
+use Rattle.std.proofs.lemmas.Iterator.{YieldsList-from_slice, cases_from_all, cases_from_any}
 use Rattle.code.specs.Definitions.ClassSheets.{different_bytes}
 use Rattle.code.specs.Definitions.Texts.{other, class_of, is_letter}
-use Rattle.code.specs.Laws.Below.{Some, none_yet}
-use Rattle.code.specs.Laws.Exactly.{Exactly, exactly_and, exactly_le, exactly_none, exactly_more}
-use Rattle.well_classed.proofs.Laws.Tested.{SmallAt, exactly_some, some_more}
+use Rattle.code.specs.Laws.Below.{Some}
+use Rattle.code.specs.Laws.Exactly.{Exactly}
+use Rattle.well_classed.proofs.Laws.Tested.{exactly_small, exactly_letter, exactly_first, exactly_neither}
 use Rattle.well_classed.proofs.entries_fit.Goals as goal
 
-pub loop-b-init : goal.loop-b-init
-loop-b-init c = let classes = c.args.classes.now in (omega arith, exactly_none (SmallAt classes), sym (none_yet (is_letter classes)))
-
-pub loop-b-preserved : goal.loop-b-preserved
-loop-b-preserved c =
+pub returns-then-all : goal.returns-then-all
+returns-then-all c =
     let classes = c.args.classes.now in
-    let l = c.loop-b in (
-      omega arith,
-      rw c.and-small.ensures (exactly_more (SmallAt classes) l.b (exactly_le (class_of classes l.b) other) l.invariant.1),
-      c.or-letter.ensures ∙ rw l.invariant.2 (some_more (is_letter classes) l.b),
-    )
+    let small : Exactly c.all.result ((b : ℕ) → b < different_bytes → class_of classes b ≤ other) =
+    exactly_small _ classes (search rules)
+    (cases_from_all _ _ _ (λ x. x ≤ other) (λ x. other < x) c.all.ensures.ran (YieldsList-from_slice classes c.iter.ensures.rest)
+    (λ x q k. search (rules, tests)) (λ x q k. search (rules, tests))) in
+    let letter : Exactly c.any.result (Some (is_letter classes) different_bytes) =
+    exactly_letter _ classes (search rules)
+    (cases_from_any _ _ _ (λ x. x < other) (λ x. other ≤ x) c.any.ensures.ran (YieldsList-from_slice classes c.iter-then-all.ensures.rest)
+    (λ x q k. search (rules, tests)) (λ x q k. search (rules, tests))) in
+    exactly_first c.if-all.true small letter
 
-pub returns : goal.returns
-returns c =
+pub returns-else-all : goal.returns-else-all
+returns-else-all c =
     let classes = c.args.classes.now in
-    let l = c.loop-b in
-    let letter : Exactly l.letter (Some (is_letter classes) l.b) = rw l.invariant.2 (exactly_some (is_letter classes) l.b) in
-    let end : l.b ≡ different_bytes = omega arith in
-    rw c.and.ensures (rw end at (exactly_and l.invariant.1 letter))
-
-pub overflow_add-b : goal.overflow_add-b
-overflow_add-b c = omega arith
-
-pub loop-b-smaller : goal.loop-b-smaller
-loop-b-smaller c = omega arith
+    exactly_neither c.if-all.false
+    (exactly_small _ classes (search rules)
+    (cases_from_all _ _ _ (λ x. x ≤ other) (λ x. other < x) c.all.ensures.ran (YieldsList-from_slice classes c.iter.ensures.rest)
+    (λ x q k. search (rules, tests)) (λ x q k. search (rules, tests))))

@@ -1,10 +1,9 @@
 -- A table of a sheet, as the value without copies that it is, is well-enlarged; and how such a value is filled in.
-use mathlib.Core.Path.{◌≡◌, refl, ◌∙◌}
+use mathlib.Core.Path.{◌≡◌, refl}
 use mathlib.Core.Bool.{true}
-use mathlib.Core.List.{List, [], ◌++◌}
-use Prim.Native.Nat.{ℕ, ◌+◌, ◌-◌, ◌≤◌, ◌<◌}
+use mathlib.Core.List.{[]}
+use Prim.Native.Nat.{ℕ, ◌-◌, ◌<◌}
 use native.Mathlib.Omega.{arith}
-use lib.ListN.{length, drop, set, replicate, length-set, length-replicate}
 use Rattle.code.specs.declared.Code.{Code}
 use Rattle.code.specs.declared.Enlarged.{Enlarged}
 use Rattle.code.specs.declared.Limits.{Limits}
@@ -12,7 +11,6 @@ use Rattle.code.specs.Definitions.Lists.{any, tabulate}
 use Rattle.code.specs.Definitions.Tables.{table_of}
 use Rattle.code.specs.Definitions.Bans.{has_copy, origin, stands_after}
 use Rattle.code.specs.Definitions.Enlarged.{plain_of, copies_in}
-use Rattle.code.specs.Laws.Filling.{fill_next, fill_rest}
 use Rattle.code.specs.Laws.Lists.{length-tabulate, get_d_tabulate}
 use Rattle.ban_theory.specs.CopyLists.{origin_word, origin_copy, next_stands, next_itself}
 use Rattle.ban_theory.specs.Enlargements.{Fair}
@@ -70,21 +68,3 @@ module _ {l : Limits} {c : Code} (given : WellFormed l c) where
     copy = λ x h k. absurd (omega arith);
     fair = plain_fair (plain_of l c) refl;
   }
-
--- Filling in the origins of a table without copies: the first x of them stand there.
-module _ (l : Limits) (n : ℕ) where
-  abbrev pub OwnTo : List ℕ → ℕ → Type 0
-  OwnTo now x = (x ≤ l.words) × (length now ≡ l.words) × (now ≡ tabulate (origin n []) x ++ drop x (replicate l.words 0))
-
-  pub own_none : OwnTo (replicate l.words 0) 0
-  unfolding tabulate
-  own_none = (omega arith, length-replicate {A = ℕ} l.words 0, refl)
-
-  pub own_more : {now : List ℕ} {x : ℕ} → OwnTo now x → x < l.words → (v : ℕ) → v ≡ origin n [] x → OwnTo (set now x v) (x + 1)
-  own_more {now} {x} own h v e =
-      let zeros = length-replicate {A = ℕ} l.words 0 in
-      (omega arith, length-set now x v ∙ own.1, rw (own.2, e) (fill_next (origin n []) (replicate l.words 0) x (omega arith)))
-
-  pub own_all : {now : List ℕ} {x : ℕ} → OwnTo now x → l.words ≤ x → now ≡ tabulate (origin n []) l.words
-  own_all {now} {x} own h =
-      own.2 ∙ fill_rest (origin n []) (replicate l.words 0) 0 x l.words (length-replicate {A = ℕ} l.words 0) (λ k a b. absurd (omega arith)) own.0

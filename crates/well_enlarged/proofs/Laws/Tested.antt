@@ -1,5 +1,5 @@
 -- The tests of a value, joined as the code joins them, say exactly whether it is well-enlarged.
-use mathlib.Core.Path.{◌≡◌, sym, ap, ◌∙◌}
+use mathlib.Core.Path.{◌≡◌, refl, sym, ap, ◌∙◌}
 use mathlib.Core.Bool.{Bool, true, false, not, ◌&&◌, true≢false, and-eq-true_iff}
 use mathlib.Core.List.{List, [], ◌∷◌}
 use Prim.Native.Nat.{ℕ, zero, suc, ◌+◌, ◌-◌, ◌≤◌, ◌<◌}
@@ -8,11 +8,9 @@ use native.Mathlib.Omega.{arith}
 use lib.Dec.{ltb, eqb}
 use lib.ListN.{length, get_or}
 use borrow.Author.Tests.{eqb-true, eq-eqb}
-use Rattle.code.specs.declared.Word.{Word}
-use Rattle.code.specs.declared.Row.{Row}
 use Rattle.code.specs.declared.Enlarged.{Enlarged}
 use Rattle.code.specs.declared.Limits.{Limits}
-use Rattle.code.specs.Definitions.Tables.{no_word, entry_of, table_of}
+use Rattle.code.specs.Definitions.Tables.{no_word, no_row, entry_of, table_of}
 use Rattle.code.specs.Definitions.Bans.{Copy, no_copy, is_copy, has_copy, copy_index, copy_at, origin, number_after}
 use Rattle.code.specs.Definitions.Enlarged.{copies_in}
 use Rattle.code.specs.Laws.Below.{Some}
@@ -20,11 +18,10 @@ use Rattle.code.specs.Laws.Lists.{length-tabulate, get_d_tabulate, any-tabulate}
 use Rattle.ban_theory.specs.CopyLists.{CopyAt, Once, has_copy_lem, origin_known, next_copy, next_itself, next_stands, copy_index_lem, stands_next}
 use Rattle.ban_theory.specs.Enlargements.{Fair}
 use Rattle.code.specs.Laws.Exactly.{Exactly, exactly_true, exactly_false, exactly_iff, exactly_and, exactly_not, exactly_same, exactly_lt, exactly_eq}
-use Rattle.well_formed.specs.Round.{word_is}
 use Rattle.code.specs.Laws.WellFormed.{WellFormed}
 use Rattle.well_enlarged.specs.WellEnlarged.{NumberFits, Numbered, barred, CopyFits, WellEnlarged}
 use Rattle.well_enlarged.specs.Numbers.{count_copies, copy_in_lem, all_numbers, number_at, copy_number, origin_number, next_within, numbers_once}
-use Rattle.well_enlarged.specs.Tests.{number_of, copies_at, NumbersFit, Lent, AtOwnPlace, IfCopyFits, CopiesFit, EntryFits, MatrixFits}
+use Rattle.well_enlarged.specs.Tests.{NumbersFit, AtOwnPlace, CopiesFit, EntryFits, MatrixFits}
 use Rattle.well_enlarged.proofs.Laws.Plain.{plain_fair}
 
 -- A number
@@ -80,15 +77,17 @@ module _ (n count x of behind : ℕ) (most : n ≤ count) where
 
 -- All numbers
 
-module _ {n count : ℕ} {P : Type 0} where
-  pub none_original : n < 1 → Exactly false ((1 ≤ n) × ((n ≤ count) × P))
-  none_original h = exactly_false (λ p. omega (arith, p.0))
+module _ {l : Limits} {e : Enlarged} where
+  pub none_original : e.originals < 1 → Exactly false (Numbered l e)
+  none_original h = exactly_false (λ v. omega (arith, v.one))
 
-  pub few_words : count < n → Exactly false ((1 ≤ n) × ((n ≤ count) × P))
-  few_words h = exactly_false (λ p. omega (arith, p.1.0))
+  pub few_words : e.code.count < e.originals → Exactly false (Numbered l e)
+  few_words h = exactly_false (λ v. omega (arith, v.most))
 
-  pub bounded : {t : Bool} → 1 ≤ n → n ≤ count → Exactly t P → Exactly t ((1 ≤ n) × ((n ≤ count) × P))
-  bounded h k = exactly_iff ((λ f. (h, (k, f))), (λ p. p.1.1))
+  pub bounded : {t : Bool} → 1 ≤ e.originals → e.originals ≤ e.code.count → e.code.count ≤ l.words → length e.origins ≡ l.words → length e.behind ≡ l.words
+      → Exactly t (NumbersFit l e) → Exactly t (Numbered l e)
+  bounded h k room origins behind =
+      exactly_iff ((λ f. record { one = h; most = k; room = room; origins = origins; behind = behind; number = f }), (λ v. v.number))
 
 -- The number of a word after another
 
@@ -101,46 +100,56 @@ first_index y z (c ∷ cs) zero h here before = rw here
 first_index y z (c ∷ cs) (suc i) h here before =
     rw (before 0 (omega arith)) (ap suc (first_index y z cs i (omega arith) here (λ k l. before (suc k) (omega arith))))
 
-module _ (origins behind : List ℕ) (n count y x : ℕ) where
-  -- Number i is no copy of x after y.
-  abbrev pub Other : ℕ → Type 0
-  Other i = n ≤ i → is_copy y x (number_of origins behind i) ≡ false
+module _ (e : Enlarged) (y x : ℕ) where
+  -- number i, as a copy
+  abbrev number_of : ℕ → Copy
+  number_of i = record { behind = get_or e.behind i 0; of = get_or e.origins i 0 }
 
-  copy_there : (i : ℕ) → n ≤ i → i < count → get_or (copies_at origins behind n count) (i - n) no_copy ≡ number_of origins behind i
+  -- Number i is the copy of x after y.
+  abbrev pub Stands : ℕ → Type 0
+  Stands i = (get_or e.behind i 0 ≡ y) × (get_or e.origins i 0 ≡ x)
+
+  stands_copy : (i : ℕ) → Stands i → is_copy y x (number_of i) ≡ true
+  stands_copy i s = (and-eq-true_iff (eqb (get_or e.behind i 0) y) (eqb (get_or e.origins i 0) x)).1 (eq-eqb _ _ s.0, eq-eqb _ _ s.1)
+
+  other_copy : (i : ℕ) → (Stands i → ⊥) → (t : Bool) → is_copy y x (number_of i) ≡ t → t ≡ false
+  other_copy i other false is = refl
+  other_copy i other true is =
+      let a = (and-eq-true_iff (eqb (get_or e.behind i 0) y) (eqb (get_or e.origins i 0) x)).0 is in
+      absurd (other (eqb-true _ _ a.0, eqb-true _ _ a.1))
+
+  copy_there : (i : ℕ) → e.originals ≤ i → i < e.code.count → get_or (copies_in e) (i - e.originals) no_copy ≡ number_of i
   copy_there i h k =
-      let at : n + (i - n) ≡ i = omega arith in
-      get_d_tabulate (λ j. number_of origins behind (n + j)) (count - n) (i - n) no_copy (omega arith) ∙ rw at
+      let at : e.originals + (i - e.originals) ≡ i = omega arith in
+      get_d_tabulate (λ j. number_of (e.originals + j)) (e.code.count - e.originals) (i - e.originals) no_copy (omega arith) ∙ rw at
 
-  pub next_found : (i : ℕ) → n ≤ i → i < count → is_copy y x (number_of origins behind i) ≡ true → ((k : ℕ) → k < i → Other k)
-      → i ≡ number_after n (copies_at origins behind n count) y x
+  pub next_found : (i : ℕ) → e.originals ≤ i → i < e.code.count → Stands i → ((k : ℕ) → e.originals ≤ k → k < i → Stands k → ⊥)
+      → i ≡ number_after e.originals (copies_in e) y x
   next_found i h k here before =
-      let cs = copies_at origins behind n count in
-      let long = length-tabulate (λ j. number_of origins behind (n + j)) (count - n) in
-      let at : is_copy y x (get_or cs (i - n) no_copy) ≡ true = rw (copy_there i h k) here in
+      let n = e.originals in
+      let cs = copies_in e in
+      let long = length-tabulate (λ j. number_of (n + j)) (e.code.count - n) in
+      let at : is_copy y x (get_or cs (i - n) no_copy) ≡ true = rw (copy_there i h k) (stands_copy i here) in
       let index = first_index y x cs (i - n) (omega arith) at (λ j l.
       let back : n + j - n ≡ j = omega arith in
-      let there : get_or cs j no_copy ≡ number_of origins behind (n + j) = rw back at (copy_there (n + j) (omega arith) (omega arith)) in
-      rw there (before (n + j) (omega arith) (omega arith))) in
+      let there : get_or cs j no_copy ≡ number_of (n + j) = rw back at (copy_there (n + j) (omega arith) (omega arith)) in
+      rw there (other_copy (n + j) (before (n + j) (omega arith) (omega arith)) _ refl)) in
       let has = is_copy_lem cs (i - n) (omega arith) at in
       sym (next_copy n cs y x has ∙ omega arith)
     where
       is_copy_lem : (cs : List Copy) (j : ℕ) → j < length cs → is_copy y x (get_or cs j no_copy) ≡ true → has_copy cs y x ≡ true
-      is_copy_lem cs j l e =
-          let a = (and-eq-true_iff (eqb (get_or cs j no_copy).behind y) (eqb (get_or cs j no_copy).of x)).0 e in
+      is_copy_lem cs j l is =
+          let a = (and-eq-true_iff (eqb (get_or cs j no_copy).behind y) (eqb (get_or cs j no_copy).of x)).0 is in
           has_copy_lem (record { below = l; behind = eqb-true _ _ a.0; of = eqb-true _ _ a.1 })
 
-  pub next_none : ((k : ℕ) → k < count → Other k) → x ≡ number_after n (copies_at origins behind n count) y x
+  pub next_none : ((k : ℕ) → e.originals ≤ k → k < e.code.count → Stands k → ⊥) → x ≡ number_after e.originals (copies_in e) y x
   unfolding has_copy
-  next_none before =
-      let cs = copies_at origins behind n count in
-      sym (next_itself n cs y x (any-tabulate (is_copy y x) (λ j. number_of origins behind (n + j)) (count - n) (λ j l. before (n + j) (omega arith) (omega arith))))
+  next_none none =
+      let n = e.originals in
+      sym (next_itself n (copies_in e) y x
+      (any-tabulate (is_copy y x) (λ j. number_of (n + j)) (e.code.count - n) (λ j l. other_copy (n + j) (none (n + j) (omega arith) (omega arith)) _ refl)))
 
 -- A copy
-
-pub words_same : (a b : Word) {t : Bool} → Exactly t (a.symbols ≡ b.symbols) → Exactly (eqb a.len b.len && t) (a ≡ b)
-words_same a b symbols =
-    exactly_iff ((λ p. word_is b a.symbols a.len p.1 p.0), (λ e. (ap (λ (w : Word). w.len) e, ap (λ (w : Word). w.symbols) e)))
-    (exactly_and (exactly_eq a.len b.len) symbols)
 
 module _ (e : Enlarged) (x : ℕ) where
   -- A word may not come behind a copy where its number there has no 1.
@@ -158,30 +167,31 @@ module _ (e : Enlarged) (x : ℕ) where
 
   pub copy_tested : {place mark : ℕ} {t b : Bool} → place ≡ number_after e.originals (copies_in e) (get_or e.behind x 0) (get_or e.origins x 0) → mark ≡ get_or e.code.begins x 0
       → Exactly t (get_or e.code.words x no_word ≡ get_or e.code.words (get_or e.origins x 0) no_word) → Exactly b (Some (barred e x) e.originals)
-      → Exactly (eqb place x && (t && (eqb mark 0 && b))) (AtOwnPlace e x × CopyFits e x)
+      → Exactly (eqb place x && t && eqb mark 0 && b) (AtOwnPlace e x × CopyFits e x)
   copy_tested {place} {mark} p m word ban =
       exactly_iff (
-        (λ q. (sym p ∙ q.0, record { word = q.1.0; mark = sym m ∙ q.1.1.0; ban = q.1.1.1 })),
-        (λ q. (p ∙ q.0, (q.1.word, (m ∙ q.1.mark, q.1.ban)))),
+        (λ q. (sym p ∙ q.0.0.0, record { word = q.0.0.1; mark = sym m ∙ q.0.1; ban = q.1 })),
+        (λ q. (((p ∙ q.0, q.1.word), m ∙ q.1.mark), q.1.ban)),
       )
-      (exactly_and (exactly_eq place x) (exactly_and word (exactly_and (exactly_eq mark 0) ban)))
-
-  pub copy_if : {t : Bool} → e.originals ≤ x → Exactly t (AtOwnPlace e x × CopyFits e x) → Exactly t (IfCopyFits e x)
-  copy_if h = exactly_iff ((λ p i. p), (λ f. f h))
+      (exactly_and (exactly_and (exactly_and (exactly_eq place x) word) (exactly_eq mark 0)) ban)
 
 -- An entry
 
-module _ (row : Row) (origins behind : List ℕ) (n count x y : ℕ) where
-  pub entry_zero : (get_or row.entries y 0 ≡ 1 → ⊥) → Exactly true (EntryFits row origins behind n count x y)
-  entry_zero none = exactly_true (record { base = λ e. absurd (none e); only = λ e. absurd (none e) })
+module _ (e : Enlarged) (x y : ℕ) where
+  abbrev row : List ℕ
+  row = (get_or e.code.rows x no_row).entries
 
-  pub entry_new : get_or row.entries y 0 ≡ 1 → (get_or row.entries (get_or origins y 0) 0 ≡ 1 → ⊥) → Exactly false (EntryFits row origins behind n count x y)
-  entry_new one none = exactly_false (λ f. none (f.base one))
+  pub entry_zero : (get_or row y 0 ≡ 1 → ⊥) → Exactly true (EntryFits e x y)
+  entry_zero none = exactly_true (record { base = λ i. absurd (none i); only = λ i. absurd (none i) })
 
-  pub entry_one : {next : ℕ} → get_or row.entries y 0 ≡ 1 → get_or row.entries (get_or origins y 0) 0 ≡ 1
-      → next ≡ number_after n (copies_at origins behind n count) (get_or origins y 0) (get_or origins x 0) → Exactly (eqb next x) (EntryFits row origins behind n count x y)
-  entry_one {next} one base e =
-      exactly_iff ((λ q. record { base = λ i. base; only = λ i. sym e ∙ q }), (λ f. e ∙ f.only one)) (exactly_eq next x)
+  pub entry_one : {next : ℕ} {t : Bool} → get_or row y 0 ≡ 1 → Exactly t (get_or row (get_or e.origins y 0) 0 ≡ 1)
+      → next ≡ number_after e.originals (copies_in e) (get_or e.origins y 0) (get_or e.origins x 0) → Exactly (t && eqb next x) (EntryFits e x y)
+  entry_one {next} one base p =
+      exactly_iff (
+        (λ q. record { base = λ i. q.0; only = λ i. sym p ∙ q.1 }),
+        (λ f. (f.base one, p ∙ f.only one)),
+      )
+      (exactly_and base (exactly_eq next x))
 
 -- The whole value
 
@@ -191,14 +201,8 @@ module _ {l : Limits} {e : Enlarged} (v : Numbered l e) where
   known_case y (no h) (yes k) = omega (arith, (number_at v y).of_copy (omega arith) k, v.most, v.room)
   known_case y (no h) (no k) = omega (arith, (number_at v y).of_past (omega arith), v.one, v.most, v.room)
 
-  pub lent : Lent l e.origins e.behind e.originals e.code.count
-  lent = record {
-    most = v.most;
-    room = v.room;
-    all_origins = v.origins;
-    all_behind = v.behind;
-    known = λ y. known_case y (dec_lt y e.originals) (dec_lt y e.code.count);
-  }
+  pub known : (y : ℕ) → get_or e.origins y 0 < l.words
+  known y = known_case y (dec_lt y e.originals) (dec_lt y e.code.count)
 
   pub next_low : (y x : ℕ) {next : ℕ} → next ≡ number_after e.originals (copies_in e) y x → x < e.originals → next < l.words
   next_low y x p h = omega (arith, next_within v y x h, v.room)
@@ -264,11 +268,11 @@ module _ {l : Limits} {e : Enlarged} (v : Numbered l e) where
   value_tested code copies matrix =
       exactly_iff (
         (λ p.
-            let once = placed_once (λ x h k. (p.0 x h k).0) in
-            record { code = code; numbers = v; once = once; copy = λ x h k. (p.0 x k h).1; fair = fits_fair (numbers_once v once) p.1 }),
+            let once = placed_once (λ x h k. (p.0 x k h).0) in
+            record { code = code; numbers = v; once = once; copy = λ x h k. (p.0 x h k).1; fair = fits_fair (numbers_once v once) p.1 }),
         (λ w.
             let once = numbers_once v w.once in
-            ((λ x h k. (once_placed once x h k, w.copy x k h)), fair_fits once w.fair)),
+            ((λ x h k. (once_placed once x k h, w.copy x h k)), fair_fits once w.fair)),
       )
       (exactly_and copies matrix)
 
@@ -277,5 +281,5 @@ module _ {l : Limits} {e : Enlarged} where
   pub not_code : (WellFormed l e.code → ⊥) → Exactly false (WellEnlarged l e)
   not_code n = exactly_false (λ w. n w.code)
 
-  pub not_numbered : ((1 ≤ e.originals) × ((e.originals ≤ e.code.count) × NumbersFit l e.originals e.code.count e.origins e.behind) → ⊥) → Exactly false (WellEnlarged l e)
-  not_numbered n = exactly_false (λ w. n (w.numbers.one, (w.numbers.most, w.numbers.number)))
+  pub not_numbered : (Numbered l e → ⊥) → Exactly false (WellEnlarged l e)
+  not_numbered n = exactly_false (λ w. n w.numbers)

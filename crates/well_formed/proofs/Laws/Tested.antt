@@ -1,9 +1,9 @@
 -- The tests of words, rows and lengths, joined as the code joins them, say exactly whether the parts fit and the table is well-formed.
 use mathlib.Core.Path.{◌≡◌}
-use mathlib.Core.Bool.{Bool, false, ◌&&◌}
+use mathlib.Core.Bool.{Bool, ◌&&◌}
 use Prim.Native.Nat.{ℕ, ◌+◌, ◌-◌, ◌≤◌, ◌<◌}
 use native.Mathlib.Omega.{arith}
-use lib.Dec.{ltb, leb, eqb}
+use lib.Dec.{ltb, leb}
 use lib.ListN.{length}
 use Rattle.code.specs.declared.Word.{Word}
 use Rattle.code.specs.declared.Row.{Row}
@@ -11,30 +11,27 @@ use Rattle.code.specs.declared.Code.{Code}
 use Rattle.code.specs.declared.Limits.{Limits}
 use Rattle.code.specs.Definitions.Lists.{tabulate, sum}
 use Rattle.code.specs.Laws.Lists.{sum_more}
-use Rattle.code.specs.Laws.Exactly.{Exactly, exactly_false, exactly_iff, exactly_and, exactly_lt, exactly_le, exactly_eq}
+use Rattle.code.specs.Laws.Exactly.{Exactly, exactly_iff, exactly_and, exactly_lt, exactly_le}
 use Rattle.code.specs.Laws.WellFormed.{len_of, WordFits, RowFits, RecordAt, WellFormed}
 use Rattle.well_formed.specs.AtMost.{AtMost, greatest_fit, greatest_entries, greatest_symbols}
 
 module _ (l : Limits) (n : ℕ) where
   module _ (k : ℕ) (w : Word) (array : length w.symbols ≡ l.symbols) {t : Bool} where
-    pub word_used : k < n → w.len ≤ l.symbols → Exactly t (AtMost w.symbols (greatest_symbols l w.len)) → Exactly (leb 1 w.len && t) (WordFits l n k w)
-    word_used h short symbols =
+    pub word_used : k < n → 1 ≤ w.len → w.len ≤ l.symbols → Exactly t (AtMost w.symbols (greatest_symbols l w.len)) → Exactly t (WordFits l n k w)
+    word_used h some short symbols =
         exactly_iff (
-          (λ p. record { array = array; some = λ i. p.0; short = short; unused = λ i. absurd (omega arith); symbols = p.1 }),
-          (λ f. (f.some h, f.symbols)),
+          (λ p. record { array = array; some = λ i. some; short = short; unused = λ i. absurd (omega arith); symbols = p }),
+          (λ f. f.symbols),
         )
-        (exactly_and (exactly_le 1 w.len) (exactly_iff (greatest_fit 15 w.len l.symbols w.symbols array) symbols))
+        (exactly_iff (greatest_fit 15 w.len l.symbols w.symbols array) symbols)
 
-    pub word_unused : n ≤ k → Exactly t (AtMost w.symbols (greatest_symbols l 0)) → Exactly (eqb w.len 0 && t) (WordFits l n k w)
-    word_unused h symbols =
+    pub word_unused : n ≤ k → w.len ≡ 0 → Exactly t (AtMost w.symbols (greatest_symbols l 0)) → Exactly t (WordFits l n k w)
+    word_unused h none symbols =
         exactly_iff (
-          (λ p. record { array = array; some = λ i. absurd (omega arith); short = omega (arith, p.0); unused = λ i. p.0; symbols = rw p.0 p.1 }),
-          (λ f. (f.unused h, rw (f.unused h) at f.symbols)),
+          (λ p. record { array = array; some = λ i. absurd (omega arith); short = omega arith; unused = λ i. none; symbols = rw none p }),
+          (λ f. rw none at f.symbols),
         )
-        (exactly_and (exactly_eq w.len 0) (exactly_iff (greatest_fit 15 0 l.symbols w.symbols array) symbols))
-
-  pub word_long : (k : ℕ) (w : Word) → l.symbols < w.len → Exactly false (WordFits l n k w)
-  word_long k w h = exactly_false (λ f. omega (arith, f.short))
+        (exactly_iff (greatest_fit 15 0 l.symbols w.symbols array) symbols)
 
   module _ (x : ℕ) (r : Row) (array : length r.entries ≡ l.words) {t : Bool} where
     pub row_used : x < n → Exactly t (AtMost r.entries (greatest_entries l n)) → Exactly t (RowFits l n x r)
@@ -66,20 +63,21 @@ module _ (l : Limits) (c : Code) (words : length c.words ≡ l.words) (rows : le
     {m t u : Bool} where
   pub table_tested : Exactly m (AtMost c.begins (greatest_entries l c.count)) → Exactly t ((k : ℕ) → k < l.words → RecordAt l c k)
       → Exactly u (sum (tabulate (len_of c) l.words) ≤ l.total)
-      → Exactly (leb 1 c.count && leb c.count l.words && m && (t && u)) (WellFormed l c)
+      → Exactly (leb 1 c.count && leb c.count l.words && m && t && u) (WellFormed l c)
   table_tested marks records total =
       exactly_iff (
         (λ p. record {
-          one = p.0.0.0;
-          most = p.0.0.1;
+          one = p.0.0.0.0;
+          most = p.0.0.0.1;
           words = words;
           rows = rows;
           begins = begins;
-          marks = p.0.1;
-          word = λ k h. (p.1.0 k h).0;
-          row = λ x h. (p.1.0 x h).1;
-          total = p.1.1;
+          marks = p.0.0.1;
+          word = λ k h. (p.0.1 k h).0;
+          row = λ x h. (p.0.1 x h).1;
+          total = p.1;
         }),
-        (λ w. (((w.one, w.most), w.marks), ((λ k h. (w.word k h, w.row k h)), w.total))),
+        (λ w. ((((w.one, w.most), w.marks), λ k h. (w.word k h, w.row k h)), w.total)),
       )
-      (exactly_and (exactly_and (exactly_and (exactly_le 1 c.count) (exactly_le c.count l.words)) (exactly_iff (greatest_fit 1 c.count l.words c.begins begins) marks)) (exactly_and records total))
+      (exactly_and (exactly_and (exactly_and (exactly_and (exactly_le 1 c.count) (exactly_le c.count l.words))
+      (exactly_iff (greatest_fit 1 c.count l.words c.begins begins) marks)) records) total)

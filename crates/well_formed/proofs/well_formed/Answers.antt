@@ -25,7 +25,4 @@ returns c =
     let rows : length code.rows ≡ 32 = c.well_formed.0.1.1.1.0.1.0.1 in
     let begins : length code.begins ≡ 32 = search rules in
     let marks = rw c.greatest_entries-most.ensures at c.at_most.ensures in
-    let records = c.records_fit.ensures in
-    let total = c.total_fits.ensures in
-    rw (c.and-4.ensures, c.and-3.ensures, c.and-2.ensures, c.and.ensures)
-    (exactly_iff (well_formed_lem (omega arith)) (table_tested limits code words rows begins marks records total))
+    exactly_iff (well_formed_lem (omega arith)) (table_tested limits code words rows begins marks c.records_fit.ensures c.total_fits.ensures)

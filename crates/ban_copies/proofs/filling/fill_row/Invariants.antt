@@ -1,8 +1,7 @@
 -- The loop fills the entries from the front; what stays zero stands past the last copy.
 use mathlib.Core.Path.{◌≡◌}
 use mathlib.Core.List.{◌++◌}
-use Prim.Native.Nat.{◌-◌, ◌≤◌}
-use lib.ListN.{length, drop, replicate}
+use lib.ListN.{drop, replicate}
 use Rattle.code.specs.Definitions.Lists.{tabulate}
 use Rattle.code.specs.Definitions.Sheets.{limits}
 use Rattle.ban_theory.specs.Triples.{bans_from}
@@ -10,7 +9,4 @@ use Rattle.ban_copies.specs.Coming.{entry_by}
 use Rattle.ban_copies.proofs.filling.fill_row.Given as goal
 
 abbrev pub invariant-loop-y : goal.invariant-loop-y
-invariant-loop-y l = (l.y ≤ l.count) × (length l.filled.entries ≡ limits.words) × (l.filled.entries ≡ tabulate (entry_by l.row.entries l.copies.originals (bans_from l.numbers l.bans) l.x) l.y ++ drop l.y (replicate limits.words 0))
-
-abbrev pub decreases-loop-y : goal.decreases-loop-y
-decreases-loop-y l = l.count - l.y
+invariant-loop-y l = l.filled.entries ≡ tabulate (entry_by l.row.entries l.copies.originals (bans_from l.numbers l.bans) l.x) l.y ++ drop l.y (replicate limits.words 0)

@@ -1,26 +1,31 @@
 -- Each way out is one of those that the fields of a record can go.
-use Rattle.ban_list.specs.BanRecords.{field_next, ends_first, ends_second, goes_past, no_ban, one_ban}
-use Rattle.ban_list.specs.Ensured.{malformed, found}
-use borrow.Author.Rules.{rules}
+use Rattle.ban_list.specs.BanRecords.{ends_first, ends_second, goes_past, no_first, no_second, no_third, one_twice, one_ban}
 use Rattle.ban_list.proofs.fields.read_record.Goals as goal
 
-pub returns-then-x : goal.returns-then-x
-returns-then-x c = search (malformed, ends_first)
+pub returns-then-first : goal.returns-then-first
+returns-then-first c = search ends_first
 
-pub read_field-y-requires : goal.read_field-y-requires
-read_field-y-requires c = (search field_next, search rules)
+pub returns-then-second : goal.returns-then-second
+returns-then-second c = search ends_second
 
-pub returns-then-y : goal.returns-then-y
-returns-then-y c = search (malformed, ends_second)
+pub returns-then-not-third : goal.returns-then-not-third
+returns-then-not-third c = search goes_past
 
-pub read_field-z-requires : goal.read_field-z-requires
-read_field-z-requires c = (search (field_next c.read_field-y.ensures), search rules)
+pub returns-in_err-x : goal.returns-in_err-x
+returns-in_err-x c = rw c.from_residual.ensures (search (no_first, c.in_err-x.was))
 
-pub returns-then-not-z : goal.returns-then-not-z
-returns-then-not-z c = search (malformed, goes_past)
+pub returns-in_err-y : goal.returns-in_err-y
+returns-in_err-y c = rw c.from_residual-in_err-y.ensures (search (no_second, c.in_err-y.was))
 
-pub returns-then-wrong_numbers : goal.returns-then-wrong_numbers
-returns-then-wrong_numbers c = search (malformed, no_ban)
+pub returns-in_err-z : goal.returns-in_err-z
+returns-in_err-z c = rw c.from_residual-in_err-z.ensures (search (no_third, c.in_err-z.was))
+
+pub returns-then-y-z : goal.returns-then-y-z
+returns-then-y-z c =
+    one_twice c.args.words c.args.s.now c.args.at c.requires.0 _ c.read_field-first.ensures c.if-first.false _ c.read_field-second.ensures c.if-second.false
+    _ c.read_field-third.ensures c.if-not-third.false c.in_ok-x.was c.in_ok-y.was c.in_ok-z.was c.if-y-z.true
 
 pub returns : goal.returns
-returns c = search (found, one_ban)
+returns c =
+    one_ban c.args.words c.args.s.now c.args.at c.requires.0 _ c.read_field-first.ensures c.if-first.false _ c.read_field-second.ensures c.if-second.false
+    _ c.read_field-third.ensures c.if-not-third.false c.in_ok-x.was c.in_ok-y.was c.in_ok-z.was c.if-y-z.false

@@ -1,21 +1,19 @@
-use borrow.Author.Rules.{rules}
-use Rattle.ban_list.specs.Numbers.{sum_starts, sum_digit, sum_letter, sum_large, sum_on, sum_ends}
+use Rattle.std.proofs.Common.{sym, ◌∙◌}
+use Rattle.ban_list.specs.Numbers.{sum_letter, sum_large, sum_on, sum_ends}
 use Rattle.ban_list.proofs.fields.value.Goals as goal
 
-pub loop-i-init : goal.loop-i-init
-loop-i-init c = search sum_starts
-
-pub returns-then-b-gt57 : goal.returns-then-b-gt57
-returns-then-b-gt57 c = search sum_letter
-
-pub digit-requires : goal.digit-requires
-digit-requires c = (search sum_digit, search rules)
+pub returns-then-not-is_ascii_digit : goal.returns-then-not-is_ascii_digit
+returns-then-not-is_ascii_digit c = sum_letter c.loop-b.invariant c.loop-b-test.true (sym c.is_ascii_digit.ensures.value ∙ c.if-not-is_ascii_digit.true)
 
 pub returns-then-words-sum : goal.returns-then-words-sum
-returns-then-words-sum c = search sum_large
+returns-then-words-sum c =
+    let digit = rw c.if-not-is_ascii_digit.false at c.is_ascii_digit.ensures.cases in
+    sum_large c.loop-b.invariant c.loop-b-test.true digit.0 digit.1 (rw c.from.ensures at c.if-words-sum.true)
 
-pub loop-i-preserved : goal.loop-i-preserved
-loop-i-preserved c = search sum_on
+pub loop-b-preserved : goal.loop-b-preserved
+loop-b-preserved c =
+    let digit = rw c.if-not-is_ascii_digit.false at c.is_ascii_digit.ensures.cases in
+    rw c.from.ensures (sum_on c.loop-b.invariant c.loop-b-test.true digit.0 digit.1 (rw c.from.ensures at c.if-words-sum.false))
 
 pub returns : goal.returns
-returns c = search sum_ends
+returns c = sum_ends c.loop-b.invariant c.requires.0 c.loop-b-test.false

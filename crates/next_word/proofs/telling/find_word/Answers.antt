@@ -9,4 +9,4 @@ seek-requires c =
 
 pub returns : goal.returns
 returns c =
-    sought_picked c.args.cut c.args.prefix.now c.requires.0 c.mark_all.ensures c.requires.2 c.seek.ensures
+    sought_picked c.args.cut c.args.prefix.now c.requires.0 c.mark_all.ensures c.seek.result c.requires.2 c.seek.ensures

@@ -3,11 +3,11 @@ use borrow.Author.Rules.{rules}
 use Rattle.pair_groups.specs.Carrying.{member_high, member_number, member_turns, member_straight}
 use Rattle.pair_groups.proofs.members.expand_member.Goals as goal
 
-pub turning-y-requires : goal.turning-y-requires
-turning-y-requires c = (search rules, search member_high)
+pub turning-requires : goal.turning-requires
+turning-requires c = (search rules, search member_high)
 
 pub expand_words-requires : goal.expand_words-requires
-expand_words-requires c = (search rules, search member_turns)
+expand_words-requires c = (search rules, search (member_turns, c.in-Some.ensures))
 
 pub expand_slots-requires : goal.expand_slots-requires
-expand_slots-requires c = (search rules, search member_number, search member_straight)
+expand_slots-requires c = (search rules, search member_number, search (member_straight, c.in-None.ensures))

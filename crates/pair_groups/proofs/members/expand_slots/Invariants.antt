@@ -1,8 +1,5 @@
--- `expand_slots` goes through the slots of a member. The invariant: the slots before `slot` are done and the member is still the pair. The measure is what is
--- left of the slots.
+-- `expand_slots` goes through the slots of a member. The invariant: the slots before `slot` are done and the member is still the pair.
 use mathlib.Core.Path.{◌≡◌}
-use Prim.Native.Nat.{◌-◌}
-use lib.ListN.{length}
 use Rattle.pair_places.specs.Flat.{cell}
 use Rattle.pair_storage.specs.Entries.{node_at, entries_in}
 use Rattle.pair_storage.specs.Marks.{marks}
@@ -11,9 +8,5 @@ use Rattle.pair_groups.proofs.members.expand_slots.Given as goal
 
 abbrev pub invariant-loop-slot : goal.invariant-loop-slot
 invariant-loop-slot l =
-    Expanding l.places (marks l.places l.work) l.work l.tail l.group.start l.group.end l.symbol l.member l.slot
-    × (node_at (entries_in l.places l.work) l.member ≡ cell l.places l.pair.low l.pair.high)
-    × (length l.work ≡ length l.initial.work)
-
-abbrev pub decreases-loop-slot : goal.decreases-loop-slot
-decreases-loop-slot l = l.end - l.slot
+    Expanding l.places (marks l.places l.work) l.work l.tail l.fn.member.group.start l.fn.member.group.end l.fn.member.symbol l.fn.member.index l.slot
+    × (node_at (entries_in l.places l.work) l.fn.member.index ≡ cell l.places l.pair.low l.pair.high)

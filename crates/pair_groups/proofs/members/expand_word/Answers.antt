@@ -8,22 +8,16 @@ pub returns-then-not-leads : goal.returns-then-not-leads
 returns-then-not-leads c = (search word_over, search rules)
 
 pub loop-z-init : goal.loop-z-init
-loop-z-init c = (search word_begun, search rules, search rules, search rules, search rules)
+loop-z-init c = (search word_begun, search rules, search rules, search rules)
 
 pub meet_words-requires : goal.meet_words-requires
 meet_words-requires c = (search rules, search space, search rules, search leads_comes, search words_ordered, search rules)
 
-pub returns-in-Goal : goal.returns-in-Goal
-returns-in-Goal c = (search word_goal, search still_turned)
+pub returns-in_err-tail : goal.returns-in_err-tail
+returns-in_err-tail c = rw c.from_residual.ensures (search (word_goal, c.in_err-tail.was), search still_turned)
 
 pub loop-z-preserved : goal.loop-z-preserved
-loop-z-preserved c = (search word_next, search still_turned, search rules, search rules, cc)
+loop-z-preserved c = (search (word_next, c.in_ok-tail.was), search still_turned, search rules, search rules)
 
 pub returns : goal.returns
 returns c = (search word_ended, search rules)
-
-pub shape_of-work-in-Goal : goal.shape_of-work-in-Goal
-shape_of-work-in-Goal c = cc
-
-pub shape_of-work : goal.shape_of-work
-shape_of-work c = cc

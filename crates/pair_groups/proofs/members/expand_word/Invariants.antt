@@ -1,8 +1,6 @@
 -- `expand_word` passes over the slots of a word that does not lead by the symbol. Else it goes through the words in order behind it. The invariant: the slots
--- before that of the words `x` and `z` are done. The measure is what is left of the words.
-use mathlib.Core.Path.{◌≡◌}
-use Prim.Native.Nat.{◌+◌, ◌*◌, ◌-◌, ◌≤◌}
-use lib.ListN.{length}
+-- before that of the words `x` and `z` are done.
+use Prim.Native.Nat.{◌+◌, ◌*◌, ◌≤◌}
 use Rattle.code.specs.Definitions.Sheets.{limits}
 use Rattle.pair_storage.specs.Entries.{node_at, entries_in}
 use Rattle.pair_storage.specs.Marks.{marks}
@@ -13,11 +11,7 @@ use Rattle.pair_groups.proofs.members.expand_word.Given as goal
 
 abbrev pub invariant-loop-z : goal.invariant-loop-z
 invariant-loop-z l =
-    Expanding l.places (marks l.places l.work) l.work l.tail l.group.start l.group.end l.symbol l.member (l.x * limits.words + l.z)
-    × Turned l.places (node_at (entries_in l.places l.work) l.member) l.y
+    Expanding l.places (marks l.places l.work) l.work l.tail l.fn.member.group.start l.fn.member.group.end l.fn.member.symbol l.fn.member.index (l.x * limits.words + l.z)
+    × Turned l.places (node_at (entries_in l.places l.work) l.fn.member.index) l.y
     × (least_behind l.places l.x ≤ l.z)
     × (l.z ≤ limits.words)
-    × (length l.work ≡ length l.initial.work)
-
-abbrev pub decreases-loop-z : goal.decreases-loop-z
-decreases-loop-z l = l.n - l.z

@@ -9,8 +9,8 @@ loop-index-init c = (search fill_begin, search rules)
 pub overflow_sub-at : goal.overflow_sub-at
 overflow_sub-at c = search fill_some
 
-pub bounds-places-high : goal.bounds-places-high
-bounds-places-high c = search fill_place
+pub bounds-places-pair_at : goal.bounds-places-pair_at
+bounds-places-pair_at c = search fill_place
 
 pub bounds-message-at : goal.bounds-message-at
 bounds-message-at c = search fill_within

@@ -2,7 +2,6 @@
 use borrow.Author.Rules.{rules}
 use Rattle.pair_shortest.specs.Writing.{met_depth, met_spelled, met_message}
 use native.Mathlib.Omega.{arith}
-use mathlib.Core.Path.{◌∙◌}
 use lib.ListN.{length-set}
 use Rattle.pair_shortest.proofs.message.write.Goals as goal
 
@@ -15,12 +14,8 @@ fill-requires c = (
   search met_spelled,
   search rules,
   search rules,
-  omega (arith, length-set c.args.message.now c.depth-count.result c.args.symbol),
+  omega (arith, length-set c.args.message.now c.depth-count.result c.args.step.symbol),
 )
-
-pub shape_of-message : goal.shape_of-message
-shape_of-message c =
-    c.fill.auto.message ∙ length-set c.args.message.now c.depth-count.result c.args.symbol
 
 pub returns : goal.returns
 returns c = search met_message

@@ -3,11 +3,8 @@
 use native.Mathlib.Omega.{arith}
 use Rattle.code.specs.Definitions.Sheets.{limits}
 use Rattle.read_core.specs.Counts.{first_words, second_words}
-use Rattle.reading.specs.Named.{value_origins, ordered_well, ordered_few, renamed_found}
+use Rattle.reading.specs.Named.{ordered_well, ordered_few, renamed_found}
 use Rattle.reading.proofs.named.find_by_origin.Goals as goal
-
-pub by_origin-old-requires : goal.by_origin-old-requires
-by_origin-old-requires c = value_origins c.requires.0
 
 pub find_readings-r-requires : goal.find_readings-r-requires
 find_readings-r-requires c =
@@ -34,5 +31,5 @@ pub returns : goal.returns
 returns c =
     let p = c.requires in
     renamed_found p.0 c.by_origin-old.ensures c.renumber-ordered.ensures
-    c.reorder_entries-names.ensures c.find_readings-r.ensures
+    (c.reorder_entries-names.ensures 0) c.find_readings-r.ensures
     (rw c.first_count-n.ensures at c.rename.ensures) (rw c.second_count-k.ensures at c.rename-2.ensures)

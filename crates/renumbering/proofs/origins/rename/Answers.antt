@@ -1,23 +1,14 @@
-use borrow.Author.Rules.{rules}
+-- The next word is still there, and is replaced.
 use native.Mathlib.Omega.{arith}
-use Rattle.renumbering.specs.Reordering.{filled_none}
-use Rattle.renumbering.proofs.Laws.Naming.{unnamed, named_more, named_all}
+use Prim.Native.Nat.{ℕ}
+use lib.ListN.{get_or}
+use Rattle.std.proofs.lemmas.List.Edits.{map_over_more}
+use Rattle.code.specs.Laws.Lists.{get_or_within}
 use Rattle.renumbering.proofs.origins.rename.Goals as goal
 
-pub loop-i-init : goal.loop-i-init
-loop-i-init c = filled_none _ _ _
-
-pub overflow_cast-x : goal.overflow_cast-x
-overflow_cast-x c = omega (arith, c.slice_known-1.given c.loop-i.i)
-
-pub bounds-names-x : goal.bounds-names-x
-bounds-names-x c =
-    let l = c.loop-i in
-    let p = c.requires in
-    omega (arith, unnamed c.args.names.now _ _ p.0 l.invariant (search rules), p.1 l.i (search rules))
-
-pub loop-i-preserved : goal.loop-i-preserved
-loop-i-preserved c = named_more c.args.names.now _ _ c.requires.0 c.loop-i.invariant (search rules)
-
-pub returns : goal.returns
-returns c = named_all c.args.names.now _ _ c.requires.0 c.loop-i.invariant (search rules)
+pub loop-word-preserved : goal.loop-word-preserved
+loop-word-preserved c =
+    let l = c.loop-word in
+    let word = get_or l.word-items l.word-index 0 in
+    map_over_more (λ (x : ℕ). get_or c.args.names.now x 0) _ l.word-items l.word-index word (omega arith) l.invariant
+    (get_or_within l.word-items l.word-index 0 word (omega arith))

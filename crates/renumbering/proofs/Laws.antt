@@ -1,2 +1,0 @@
--- What the proofs rest on, and no contract cites.
-pub mod Naming

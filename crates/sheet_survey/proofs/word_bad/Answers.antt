@@ -1,9 +1,0 @@
--- Refusal 4 at one word, by its length.
-use borrow.Author.Tests.{eq-eqb, ne_eqb}
-use Rattle.sheet_survey.proofs.word_bad.Goals as goal
-
-pub returns-then-n-eq0 : goal.returns-then-n-eq0
-returns-then-n-eq0 c = rw (eq-eqb _ 0 c.if-n-eq0.true)
-
-pub returns : goal.returns
-returns c = rw (ne_eqb _ 0 c.if-n-eq0.false)
