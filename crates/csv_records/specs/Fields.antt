@@ -23,7 +23,7 @@ abbrev pub bad_byte : Bool → ℕ → Bool
 bad_byte true a = not (eqb a 10)
 bad_byte false a = not (is_digit a || eqb a 44 || eqb a 13)
 
-abbrev after_cr : Bool → ℕ → Bool
+abbrev pub after_cr : Bool → ℕ → Bool
 after_cr true a = false
 after_cr false a = eqb a 13
 
@@ -99,11 +99,11 @@ leading_count (a ∷ s) = by_digit (is_digit a) refl (leading_count s)
     by_digit false e rest = rw e
 
 -- no digit stands in front of another byte, or at the end
-leading_stop : (s : List ℕ) (i : ℕ) → i < length s → is_digit (get_or s i 0) ≡ false → length (leading (drop i s)) ≡ 0
+pub leading_stop : (s : List ℕ) (i : ℕ) → i < length s → is_digit (get_or s i 0) ≡ false → length (leading (drop i s)) ≡ 0
 unfolding leading
 leading_stop s i h d = rw (drop-cons s i 0 h, d)
 
-leading_end : (s : List ℕ) (i : ℕ) → length s ≤ i → length (leading (drop i s)) ≡ 0
+pub leading_end : (s : List ℕ) (i : ℕ) → length s ≤ i → length (leading (drop i s)) ≡ 0
 unfolding leading
 leading_end s i h = rw (drop_of_length-le s h)
 

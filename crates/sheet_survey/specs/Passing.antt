@@ -96,7 +96,7 @@ module _ (s : List ℕ) (c : Cursor) (e : ℕ) (v : Survey) (clean : Clean (drop
         within = omega arith;
       }
 
-  step_line : e < length s → (get_or s e 0 ≡ 44 → ⊥) → Step s c (record { survey = end_record v; at = e + 2 })
+  pub step_line : e < length s → (get_or s e 0 ≡ 44 → ⊥) → Step s c (record { survey = end_record v; at = e + 2 })
   step_line h b =
       let n = field_line s c.at e clean ends h b in
       let g : List (List (List ℕ)) = record_fields (drop (e + 2) s) in
@@ -110,7 +110,7 @@ module _ (s : List ℕ) (c : Cursor) (e : ℕ) (v : Survey) (clean : Clean (drop
         within = omega arith;
       }
 
-  step_last : length s ≤ e → Step s c (record { survey = end_record v; at = e + 2 })
+  pub step_last : length s ≤ e → Step s c (record { survey = end_record v; at = e + 2 })
   step_last h =
       record {
         rest = ap (survey_records (end_record v)) (rest_past s (e + 2) (omega arith))

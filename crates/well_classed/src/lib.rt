@@ -18,8 +18,14 @@ use text_runs::is_letter;
 fn entries_fit(classes: &[u8; Classes::BYTES]) -> bool
     ensures { Exactly result (((b : ℕ) → b < different_bytes → class_of classes.now b ≤ other) × Some (is_letter classes.now) different_bytes) }
 {
-    classes.iter().all(|class| *class <= Classes::OTHER)
-        && classes.iter().any(|class| *class < Classes::OTHER)
+    let mut small = true;
+    let mut letter = false;
+    // No `all` and no `any`: a loop that nothing ends early lets the compiler test many entries at once.
+    for class in classes {
+        small &= *class <= Classes::OTHER;
+        letter |= *class < Classes::OTHER;
+    }
+    small && letter
 }
 
 // Whether B7 or a bracket is a letter.

@@ -1,14 +1,13 @@
 -- An array is held to an array of greatest values, with one number in all cells in use and zero in the others: how such an array is filled, and that no cell is
 -- above the same cell there exactly where the array fits.
-use Rattle.std.specs.Prelude.{◌≡◌, refl, List, ◌++◌, ◌↔◌, ℕ, ◌+◌, ◌-◌, ◌≤◌, ◌<◌, min, max, ltb, length, drop, get_or, replicate, if◌then◌else◌}
-use Rattle.std.proofs.Common.{sym, ◌∙◌, arith, below_none, below_more, lt-ltb, le-ltb}
+use Rattle.std.specs.Prelude.{◌≡◌, refl, List, ◌↔◌, ℕ, ◌+◌, ◌-◌, ◌≤◌, ◌<◌, max, ltb, length, get_or, replicate, if◌then◌else◌}
+use Rattle.std.proofs.Common.{sym, ap, ◌∙◌, arith, below_none, below_more, lt-ltb, le-ltb}
 use Rattle.std.proofs.Math.Decide.{dec_lt}
 use Rattle.std.proofs.lemmas.List.{length-replicate, get_or-replicate}
 use Rattle.std.proofs.Math.ListN.{get_or-eq_default}
 use Rattle.code.specs.declared.Limits.{Limits}
 use Rattle.code.specs.Definitions.Lists.{tabulate}
-use Rattle.code.specs.Laws.Lists.{get_d_tabulate, tabulate_list}
-use Rattle.code.specs.Laws.Filling.{fill_rest}
+use Rattle.code.specs.Laws.Lists.{get_d_tabulate, tabulate_same}
 use Rattle.code.specs.Laws.WellFormed.{CellsFit}
 
 module _ (a m : List ℕ) where
@@ -45,19 +44,15 @@ module _ (v n : ℕ) (d : List ℕ) where
   unused : (p : ℕ) → n ≤ p → filled_at p ≡ get_or d p 0
   unused p h = rw (le-ltb p n h)
 
-  front : (m : ℕ) → m ≤ n → replicate m v ≡ tabulate filled_at m
-  front m h = sym (tabulate_list filled_at m (replicate m v) v (length-replicate m v) (λ k i. used k (omega arith) ∙ sym (get_or-replicate m k v v i)))
-
-  -- v up to n or to the end, and behind it what stood there
-  pub filled_front : (m : ℕ) → m ≡ min n (length d) → replicate m v ++ drop m d ≡ filled
-  filled_front m e = rw (front m (omega arith)) (fill_rest filled_at d 0 m (length d) refl (λ i j k. unused i (omega arith)) (omega arith))
-
 -- Greatest values: v in the first n cells, and zeros.
 abbrev pub greatest : ℕ → ℕ → ℕ → List ℕ
 greatest v n size = filled v n (replicate size 0)
 
-pub greatest_front : (v n size m : ℕ) → m ≡ min n size → replicate m v ++ drop m (replicate size 0) ≡ greatest v n size
-greatest_front v n size m e = filled_front v n (replicate size 0) m (omega (arith, length-replicate {A = ℕ} size 0))
+-- They are made cell by cell.
+pub greatest_cells : (v n size : ℕ) → tabulate (λ p. if ltb p n then v else 0) size ≡ greatest v n size
+greatest_cells v n size =
+    rw (length-replicate {A = ℕ} size 0)
+    (tabulate_same _ (filled_at v n (replicate size 0)) size (λ p h. ap (λ (w : ℕ). if ltb p n then v else w) (sym (get_or-replicate size p 0 0 h))))
 
 module _ (v n size : ℕ) (a : List ℕ) (array : length a ≡ size) where
   cell : (p : ℕ) → p < length a → get_or (greatest v n size) p 0 ≡ filled_at v n (replicate size 0) p

@@ -11,6 +11,7 @@ ghost use Rattle.well_formed.specs.AtMost.{AtMost, greatest, greatest_entries, g
 ghost use Rattle.code.specs.Laws.WellFormed.{len_of, WordFits, RowFits, RecordAt};
 
 use code::{Code, Row, Word};
+use std::array;
 
 // Whether no cell of an array is above the same cell of `most`. The loop keeps the greatest excess and no bool: so the compiler tests many cells at once,
 // which it doesn't for `all`.
@@ -29,9 +30,8 @@ fn at_most(a: &[u8], most: &[u8]) -> bool
 fn greatest<const N: usize>(n: usize, v: u8) -> [u8; N]
     ensures { result ≡ greatest v n N }
 {
-    let mut most = [0u8; N];
-    most[..n.min(N)].fill(v);
-    most
+    // Each cell by itself, and no `fill` of the first ones: so the compiler makes many cells at once, and calls nothing.
+    array::from_fn(|p| if p < n { v } else { 0 })
 }
 
 // The greatest entries of a row in use, and the greatest start marks, in a code of n words.

@@ -78,6 +78,11 @@ module _ {t s m a : List ℕ} where
       → (n ≡ answer_number e) × (a' ≡ written (answer_entries symbols_entries e) a) → EncodeCall t s m a m' a' n
   encode_answered h l u r w = EncodeCall.answered h l (rw u at r) w.0 w.1
 
+  -- What is told is the answer of the operation.
+  pub encode_told : {m' a' : List ℕ} {n : ℕ} {e d : Result SymbolCount Refusal} {v : Enlarged} → d ≡ e → image_length ≤ length t → answer_length ≤ length a → v ≡ enlarged_in t
+      → Encodes limits v s m m' e → (n ≡ answer_number d) × (a' ≡ written (answer_entries symbols_entries d) a) → EncodeCall t s m a m' a' n
+  encode_told q h l u r w = encode_answered h l u r (rw q at w)
+
 module _ {t m f g w a : List ℕ} where
   pub read_unread : {n : ℕ} → length t < image_length → n ≡ short_number → ReadCall t m f g w a f g w a n
   read_unread h e = ReadCall.unread h e refl refl refl refl
@@ -127,3 +132,9 @@ module _ {t k s b m f g w a : List ℕ} where
     pub split_answered : {b' m' f' g' w' a' : List ℕ} {n : ℕ} {e : Result ByteCount Refusal} → answer_length ≤ length a → SplitsText limits v c s b m f g w b' m' f' g' w' e
         → (n ≡ answer_number e) × (a' ≡ written (answer_entries bytes_entries e) a) → SplitCall t k s b m f g w a b' m' f' g' w' a' n
     split_answered l r e = SplitCall.answered long whole l (rw (table, classes) at r) e.0 e.1
+
+    -- What is told is the answer of the operation.
+    pub split_told : {b' m' f' g' w' a' : List ℕ} {n : ℕ} {e d : Result ByteCount Refusal} → d ≡ e → answer_length ≤ length a
+        → SplitsText limits v c s b m f g w b' m' f' g' w' e → (n ≡ answer_number d) × (a' ≡ written (answer_entries bytes_entries d) a)
+        → SplitCall t k s b m f g w a b' m' f' g' w' a' n
+    split_told q l r w = split_answered l r (rw q at w)

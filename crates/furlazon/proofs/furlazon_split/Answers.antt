@@ -1,5 +1,6 @@
 -- An image or classes too short to be read are found first, then an answer too short to be told; then the operation answers, and its answer is written as numbers.
-use Rattle.furlazon.proofs.Laws.Ways.{answer_short, answer_room, split_unread, split_unclassed, split_untold, split_answered}
+use Rattle.std.proofs.Common.{arith}
+use Rattle.furlazon.proofs.Laws.Ways.{answer_short, answer_room, split_unread, split_unclassed, split_untold, split_told}
 use Rattle.furlazon.proofs.furlazon_split.Goals as goal
 
 pub returns-then-table-lt-LENGTH : goal.returns-then-table-lt-LENGTH
@@ -19,5 +20,5 @@ put_answer-requires c =
 
 pub returns : goal.returns
 returns c =
-    split_answered c.if-table-lt-LENGTH.false c.if-classes-lt-BYTES.false c.unpack-value.ensures c.classes_in-letters.ensures
-    (answer_room _ c.is_short.ensures c.if-is_short.false) c.split-e.ensures c.put_answer.ensures
+    split_told c.if-table-lt-LENGTH.false c.if-classes-lt-BYTES.false c.unpack-value.ensures c.classes_in-letters.ensures
+    (grind arith) (answer_room _ c.is_short.ensures c.if-is_short.false) c.split-e.ensures c.put_answer.ensures

@@ -1,5 +1,6 @@
 -- `read_core` meets its contract: full marks can be walked (`marked_walkable`), and what a walk over them finds is what the table has (`answer_finds`).
-use lib.ListN.{length}
+use lib.ListN.{length, drop_of_length-le}
+use mathlib.Core.List.{append-nil}
 use mathlib.Core.Path.{◌≡◌}
 use native.Mathlib.Omega.{arith}
 use Rattle.read_core.specs.Core.{marked_walkable, answer_finds}
@@ -16,5 +17,7 @@ returns c =
     let e : length c.mark_all.new.work ≡ length c.args.work.now = omega arith in
     record {
       finds = λ t l. answer_finds c.args.message.now l (c.mark_all.ensures.each _ _ p.0) c.first_readings-r.ensures;
-      work = rw e at (c.fill.ensures.after (λ y z. z));
+      work =
+          let clear = c.fill.ensures.after (λ y z. z) in
+          grind (arith, drop_of_length-le, append-nil);
     }

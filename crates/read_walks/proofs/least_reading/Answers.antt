@@ -1,7 +1,8 @@
-use borrow.Author.Rules.{rules}
-use native.Mathlib.Omega.{arith}
+use Rattle.std.proofs.Common.{◌≡◌, ℕ, List, arith, rules}
+use Rattle.read_marks.specs.Text.{Text}
+use Rattle.read_walks.specs.declared.Walk.{Walk}
 use Rattle.read_choices.specs.Choices.{LeastUsable}
-use Rattle.read_walks.specs.Steps.{walking_end, some_sought, sought_taken, walking_on}
+use Rattle.read_walks.specs.Steps.{Walking, walking_end, some_sought, sought_taken, walking_on}
 use Rattle.read_walks.proofs.least_reading.Goals as goal
 use Rattle.read_walks.proofs.least_reading.Goals.{After-unwrap-x}
 
@@ -33,10 +34,14 @@ loop-w-smaller c =
     let t = sought_taken c.requires.0 (found (goal.at.loop-w-smaller c).After-unwrap-x) in
     rw c.advance-w.ensures (omega (arith, t.some))
 
+-- A step keeps the walk where what it writes is the word that it takes.
+as_taken : {K : Text} {n p y k : ℕ} {old new new' : List ℕ} {w : Walk} → new' ≡ new → Walking K n p y k old new w → Walking K n p y k old new' w
+as_taken e h = rw e h
+
 pub loop-w-preserved : goal.loop-w-preserved
 loop-w-preserved c =
     let f = found (goal.at.loop-w-preserved c).After-unwrap-x in
-    rw c.advance-w.ensures (walking_on c.requires.0 c.loop-w.invariant c.requires.5 f c.seek-z.result c.seek-z.ensures)
+    rw c.advance-w.ensures (as_taken (cc) (walking_on c.requires.0 c.loop-w.invariant c.requires.5 f c.seek-z.result c.seek-z.ensures))
 
 pub returns : goal.returns
 returns c = walking_end c.requires.0.sure.bounded c.loop-w.invariant c.loop-w-test.false

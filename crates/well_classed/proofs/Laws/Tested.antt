@@ -5,31 +5,13 @@ use mathlib.Core.List.{List}
 use Prim.Native.Nat.{ℕ, ◌≤◌, ◌<◌}
 use lib.ListN.{length}
 use Rattle.std.specs.Prelude.{◌↔◌}
-use Rattle.std.specs.Bool.{MatchBool}
-use Rattle.std.specs.List.{AllWithin, HoldsAt}
-use native.Mathlib.Omega.{arith}
-use borrow.Author.Tests.{not-true, not-false, lt-ltb, ltb-true}
+use borrow.Author.Tests.{not-true, not-false}
 use Rattle.code.specs.Definitions.Lists.{any}
 use Rattle.code.specs.Definitions.ClassSheets.{different_bytes}
 use Rattle.code.specs.Definitions.Texts.{other, class_of, is_letter, signs}
 use Rattle.code.specs.Laws.Below.{Some}
-use Rattle.code.specs.Laws.Exactly.{Exactly, exactly_true, exactly_false, exactly_iff}
+use Rattle.code.specs.Laws.Exactly.{Exactly, exactly_iff}
 use Rattle.well_classed.specs.WellClassed.{WellClassed}
-
--- Whether all entries are small, and whether one is a letter's, by what a pass over them says.
-pub exactly_small : (r : Bool) (c : List ℕ) → length c ≡ different_bytes
-    → MatchBool r (AllWithin (λ x. x ≤ other) c 0 (length c)) ((k : ℕ) × (k < length c) × HoldsAt (λ x. other < x) c k)
-    → Exactly r ((b : ℕ) → b < different_bytes → class_of c b ≤ other)
-exactly_small true c long all = exactly_true (λ b h. all b 0 (omega arith) (omega arith))
-exactly_small false c long one = exactly_false (λ small. omega (arith, small one.0 (omega (arith, one.1)), one.2 0))
-
-pub exactly_letter : (r : Bool) (c : List ℕ) → length c ≡ different_bytes
-    → MatchBool r ((k : ℕ) × (k < length c) × HoldsAt (λ x. x < other) c k) (AllWithin (λ x. other ≤ x) c 0 (length c))
-    → Exactly r (Some (is_letter c) different_bytes)
-exactly_letter true c long one =
-    exactly_true (record { x = one.0; below = omega (arith, one.1); passes = lt-ltb (class_of c one.0) other (one.2 0) })
-exactly_letter false c long all =
-    exactly_false (λ s. omega (arith, all s.x 0 (omega arith) (omega (arith, s.below)), ltb-true (class_of c s.x) other s.passes))
 
 -- Two tests, of which the second is made where the first holds.
 pub exactly_first : {a b : Bool} {P Q : Type 0} → a ≡ true → Exactly a P → Exactly b Q → Exactly b (P × Q)
